@@ -5,6 +5,7 @@ pub mod Names
 pub mod Opening
 pub mod Operations
 pub mod PageRuns
+pub mod Queues
 pub mod Script
 pub mod Valid
 pub mod Words

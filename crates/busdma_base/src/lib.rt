@@ -16,7 +16,7 @@ pub use busdma_machine::{
 pub use journals::{Actor, Answer, Did, End, Journal, JournalEntry, Side};
 pub use scenarios::{
     Buffer, Bytes, Driver, FrameRun, Item, ItemAbout, ItemWord, MadeName, NameKind, NameUse,
-    Object, Op, OpAbout, OpWord, PageRun, Place, Scenario, UsedName, scenario_opens,
+    Object, Op, OpAbout, OpWord, PageRun, Place, QueuedItem, Scenario, UsedName, scenario_opens,
 };
 pub use text::Text;
 

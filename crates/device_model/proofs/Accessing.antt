@@ -16,7 +16,7 @@ use Rattle.phys_memory.proofs.PageBytes.{no_page, no_page_at, none_apart, page_a
 use Rattle.phys_memory.proofs.PageBytes.{page_written, put_under}
 use Rattle.phys_memory.proofs.RunParts.{all_imply, run_in_frame, same_reads, take_append}
 use Rattle.phys_memory.proofs.Writing.{written_run}
-use Rattle.segment_build.proofs.Places.{run_length}
+use Rattle.busdma_rules.proofs.Segments.Places.{run_length}
 use Rattle.device_model.specs.Access.{IsThere}
 use Rattle.device_model.specs.Walking.{BeginsLow}
 

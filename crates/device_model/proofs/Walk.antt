@@ -8,9 +8,9 @@ use Rattle.std.proofs.lemmas.List.Concat.{flat_map-cons, length-flat_map}
 use Rattle.busdma_machine.specs.declared.machine.address.Segment.{Segment}
 use Rattle.busdma_machine.specs.Runs.{run_of}
 use Rattle.phys_memory.proofs.RunParts.{drop_append, drop_run, run_append}
-use Rattle.segment_build.specs.Obeying.{segments_bytes}
-use Rattle.segment_build.specs.Segmentation.{segment_bytes}
-use Rattle.segment_build.proofs.Places.{run_length}
+use Rattle.busdma_rules.specs.Segments.Obeying.{segments_bytes}
+use Rattle.busdma_rules.specs.Segments.Segmentation.{segment_bytes}
+use Rattle.busdma_rules.proofs.Segments.Places.{run_length}
 use Rattle.device_model.specs.Walking.{BeginsLow, rest_from}
 
 -- what stands at a place that a list of segments does not have

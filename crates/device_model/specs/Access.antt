@@ -3,7 +3,7 @@ use Rattle.std.specs.Prelude.{◌≡◌, ℕ, ◌/◌, ◌^◌, ◌<◌, ◌==�
 use Rattle.std.specs.List.{list_any}
 use Rattle.busdma_machine.specs.declared.machine.address.Segment.{Segment}
 use Rattle.phys_memory.specs.Memory.{Memory, has_frame}
-use Rattle.segment_build.specs.Segmentation.{segment_bytes}
+use Rattle.busdma_rules.specs.Segments.Segmentation.{segment_bytes}
 
 -- the bus addresses at the places of a load from off to off + len - 1
 abbrev pub bus_range : ℕ → ℕ → List Segment → List ℕ

@@ -1,7 +1,7 @@
 -- What the private steps of an access do; no public clause cites them.
 use Rattle.std.specs.Prelude.{ℕ, ◌^◌, ◌<◌, List, [], ◌∷◌, drop}
 use Rattle.busdma_machine.specs.declared.machine.address.Segment.{Segment}
-use Rattle.segment_build.specs.Segmentation.{segment_bytes}
+use Rattle.busdma_rules.specs.Segments.Segmentation.{segment_bytes}
 use Rattle.device_model.specs.declared.cursor.Cursor.{Cursor}
 
 -- the bus addresses from a place in segments on

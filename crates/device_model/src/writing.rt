@@ -7,7 +7,7 @@ ghost use Rattle.busdma_machine.specs.Machine.Wire.{put, with_bytes_of};
 ghost use Rattle.busdma_machine.specs.Runs.{run_of};
 ghost use Rattle.phys_memory.specs.Frames.{AreApart, SamePages};
 ghost use Rattle.phys_memory.specs.Memory.{wire};
-ghost use Rattle.segment_build.specs.Obeying.{segments_bytes};
+ghost use Rattle.busdma_rules.specs.Segments.Obeying.{segments_bytes};
 ghost use Rattle.device_model.specs.Access.{IsThere, bus_range};
 
 use crate::cursor::Cursor;

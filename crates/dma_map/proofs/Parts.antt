@@ -10,7 +10,7 @@ use Rattle.std.specs.List.{All, AllByRecursion}
 use Rattle.std.specs.Option.{option_map}
 use Rattle.busdma_machine.specs.declared.machine.address.Segment.{Segment}
 use Rattle.ring_device.specs.Ends.{EndsLow}
-use Rattle.ring_device.specs.Ranges.{address_of, byte_count, holds, place_of}
+use Rattle.busdma_rules.specs.Rings.Ranges.{address_of, byte_count, holds, place_of}
 use Rattle.dma_map.specs.declared.part.Part.{Part}
 use Rattle.dma_map.specs.Pages.{HasPages, page_bit}
 use Rattle.dma_map.specs.Parts.{ArePartsOf, IsBetween, IsPart}

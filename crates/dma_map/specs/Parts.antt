@@ -2,7 +2,7 @@
 use Rattle.std.specs.Prelude.{◌≡◌, ℕ, ◌+◌, ◌-◌, ◌/◌, ◌^◌, ◌<◌, ◌≤◌, List, [], ◌∷◌, length, take, drop, min}
 use Rattle.std.specs.List.{All}
 use Rattle.busdma_machine.specs.declared.machine.address.Segment.{Segment}
-use Rattle.ring_device.specs.Ranges.{byte_count}
+use Rattle.busdma_rules.specs.Rings.Ranges.{byte_count}
 use Rattle.dma_map.specs.declared.index.Index.{Index}
 use Rattle.dma_map.specs.declared.part.Part.{Part}
 use Rattle.dma_map.specs.Pages.{HasPages}

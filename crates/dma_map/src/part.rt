@@ -1,7 +1,7 @@
 //! A part of the segments of a load, and what is known of it without a look at them.
 
 ghost use Rattle.std.specs.Prelude.{◌≡◌, List, false, None};
-ghost use Rattle.ring_device.specs.Ranges.{place_of};
+ghost use Rattle.busdma_rules.specs.Rings.Ranges.{place_of};
 ghost use Rattle.dma_map.specs.Pages.{HasPages, page_bit};
 
 use busdma_base::Segment;

@@ -4,7 +4,7 @@ ghost use Rattle.std.specs.Prelude.{◌≡◌, ◌^◌, ◌<◌};
 ghost use Rattle.std.specs.List.{AllByRecursion};
 ghost use Rattle.std.specs.Option.{option_map};
 ghost use Rattle.ring_device.specs.Ends.{EndsLow};
-ghost use Rattle.ring_device.specs.Ranges.{address_of, byte_count, place_of};
+ghost use Rattle.busdma_rules.specs.Rings.Ranges.{address_of, byte_count, place_of};
 
 use crate::index::{Index, PARTS};
 use busdma_base::{Pa, Segment, SegmentList};

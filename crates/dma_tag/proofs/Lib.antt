@@ -1,4 +1,1 @@
 pub mod Chain
-pub mod Choices
-pub mod Effective
-pub mod Powers

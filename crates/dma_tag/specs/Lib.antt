@@ -1,4 +1,1 @@
 pub mod Chain
-pub mod LoadFlags
-pub mod MemFlags
-pub mod SyncOps

@@ -1,7 +1,7 @@
 //! The flags of a load.
 
 ghost use Rattle.std.specs.Prelude.{⊤};
-ghost use Rattle.dma_tag.specs.LoadFlags.{load_table};
+ghost use Rattle.busdma_rules.specs.Tags.LoadFlags.{load_table};
 
 use bitflags::{Flag, Flags, bitflag_items};
 

@@ -1,7 +1,7 @@
 //! The flags of a dmamem memory.
 
 ghost use Rattle.std.specs.Prelude.{⊤};
-ghost use Rattle.dma_tag.specs.MemFlags.{mem_table};
+ghost use Rattle.busdma_rules.specs.Tags.MemFlags.{mem_table};
 
 use bitflags::{Flag, Flags, bitflag_items};
 

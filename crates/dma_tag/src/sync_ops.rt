@@ -1,7 +1,7 @@
 //! The operations of a sync.
 
 ghost use Rattle.std.specs.Prelude.{⊤, ◌≡◌};
-ghost use Rattle.dma_tag.specs.SyncOps.{sync_table, has_pre, has_post, is_mixed};
+ghost use Rattle.busdma_rules.specs.Tags.SyncOps.{sync_table, has_pre, has_post, is_mixed};
 
 use bitflags::{Flag, Flags, bitflag_items};
 

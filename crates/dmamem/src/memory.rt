@@ -2,7 +2,7 @@
 
 ghost use Rattle.std.specs.Prelude.{◌≡◌, ◌+◌, ◌^◌, ◌<◌, ◌↔◌, IsTrue};
 ghost use Rattle.busdma_machine.specs.Bounce.MemoryRuns.{frames_for};
-ghost use Rattle.dmamem.specs.Memory.{virtual_of};
+ghost use Rattle.busdma_rules.specs.Memory.Memories.{virtual_of};
 
 use busdma_machine::{MapId, Pa, TagLimits, Va};
 

@@ -9,7 +9,7 @@ use Rattle.busdma_machine.specs.declared.bounce.hold.HubReply.{HubReply}
 use Rattle.busdma_machine.specs.declared.bounce.hold.HubReply.TheVariants as reply
 use Rattle.busdma_base.specs.declared.journals.journal.Side.{Side}
 use Rattle.lane_agreement.specs.View as view
-use Rattle.lane_tables.specs.declared.queued.QueuedItem.{QueuedItem}
+use Rattle.busdma_base.specs.declared.scenarios.queued.QueuedItem.{QueuedItem}
 use Rattle.ideal_lane.specs.State.{LaneState, LaneMap, Stage, Idle, Waiting, Loaded, Returning}
 use Rattle.ideal_lane.specs.Asking.{Asking, Gives, Asks, by_reply}
 use Rattle.ideal_lane.specs.Callbacks.{ends, is_load, awaits, awaited, called_by, Made, IsRun, times_called}

@@ -9,8 +9,9 @@ use Rattle.busdma_machine.specs.declared.tags.tag.TagLimits.{TagLimits}
 use Rattle.busdma_machine.specs.Machine.Entry.{entry_addresses}
 use Rattle.busdma_machine.specs.Runs.{byte_count}
 use Rattle.busdma_machine.specs.Tags.Tag.{could_bounce}
-use Rattle.segment_build.specs.Chunks.{chunk_limit, chunk_of, chunks_within, chunks_of_bytes, chunks_from, bounced_of}
-use Rattle.segment_build.specs.Chunks.{need_of}
+use Rattle.busdma_rules.specs.Segments.Chunks.{chunk_limit, chunk_of, chunks_within, chunks_of_bytes, chunks_from}
+use Rattle.busdma_rules.specs.Segments.Chunks.{bounced_of}
+use Rattle.busdma_rules.specs.Segments.Chunks.{need_of}
 use Rattle.ideal_lane.specs.State.{LaneState, LaneTag, LaneMap}
 use Rattle.ideal_lane.specs.Standing.{StandsAt}
 use Rattle.ideal_lane.specs.Loads.{limits_of, chunks_for, is_device, one_entry}

@@ -30,8 +30,8 @@ use Rattle.busdma_base.specs.declared.journals.journal.Side.TheVariants as side
 use Rattle.busdma_base.specs.declared.journals.answer.Answer.{Answer}
 use Rattle.busdma_base.specs.declared.scenarios.scenario.Driver.{Driver}
 use Rattle.busdma_machine.specs.Machine.Spans.{bio_spans, span_addresses, span_bytes}
-use Rattle.loan_table.specs.Access.{cpu_read_answer, cpu_read_refusal, cpu_write_answer, cpu_write_refusal}
-use Rattle.loan_table.specs.Loans.{Loans, in_any_way, lent, to_write}
+use Rattle.busdma_rules.specs.Lending.Access.{cpu_read_answer, cpu_read_refusal, cpu_write_answer, cpu_write_refusal}
+use Rattle.busdma_rules.specs.Lending.Loans.{Loans, in_any_way, lent, to_write}
 use Rattle.lane_agreement.specs.View.{Return, queued_back, returning}
 use Rattle.ideal_lane.specs.Asking.{Asking, Gives, Asks, by_reply, goes_on}
 use Rattle.ideal_lane.specs.Due.{DueStands, IsBare, IsDue, is_of_map, is_unfit, is_unfit_turn}

@@ -44,20 +44,21 @@ use Rattle.busdma_base.specs.Journals.Reports.{is_report}
 use Rattle.busdma_base.specs.Scenarios.Operations.{bytes_of}
 use Rattle.busdma_machine.specs.Tags.Tag.{effective, could_bounce, space_limits}
 use Rattle.busdma_machine.specs.Tags.TagFlags.{allocnow}
-use Rattle.dma_tag.specs.LoadFlags.{nowait_bit}
-use Rattle.dma_tag.specs.SyncOps.{is_mixed}
+use Rattle.busdma_rules.specs.Tags.LoadFlags.{nowait_bit}
+use Rattle.busdma_rules.specs.Tags.SyncOps.{is_mixed}
 use Rattle.lane_agreement.specs.After.{addresses}
 use Rattle.lane_agreement.specs.View.{Return}
-use Rattle.lane_tables.specs.declared.queued.QueuedItem.{QueuedItem}
-use Rattle.lane_tables.specs.Queues.{queued}
-use Rattle.loan_table.specs.Access.{cpu_read_answer, cpu_write_answer, dev_read_answer, dev_write_answer, dev_write_refusal}
-use Rattle.loan_table.specs.Lending.{sync_answer, synced, lost}
-use Rattle.loan_table.specs.Loans.{loan_of, load_bytes}
-use Rattle.ring_device.specs.declared.descriptor.Descriptor.{Descriptor}
-use Rattle.ring_device.specs.Descriptors.{descriptor_bytes}
-use Rattle.iommu_load.specs.Device.{device_chunks, load_frames}
-use Rattle.iommu_map.specs.Space.{Space, first_free}
-use Rattle.segment_build.specs.Chunks.{need_of}
+use Rattle.busdma_base.specs.declared.scenarios.queued.QueuedItem.{QueuedItem}
+use Rattle.busdma_base.specs.Scenarios.Queues.{queued}
+use Rattle.busdma_rules.specs.Lending.Access.{cpu_read_answer, cpu_write_answer, dev_read_answer, dev_write_answer}
+use Rattle.busdma_rules.specs.Lending.Access.{dev_write_refusal}
+use Rattle.busdma_rules.specs.Lending.Syncing.{sync_answer, synced, lost}
+use Rattle.busdma_rules.specs.Lending.Loans.{loan_of, load_bytes}
+use Rattle.busdma_rules.specs.declared.descriptor.Descriptor.{Descriptor}
+use Rattle.busdma_rules.specs.Rings.Descriptors.{descriptor_bytes}
+use Rattle.busdma_rules.specs.Iommu.Device.{device_chunks, load_frames}
+use Rattle.busdma_rules.specs.Iommu.Space.{Space, first_free}
+use Rattle.busdma_rules.specs.Segments.Chunks.{need_of}
 use Rattle.ideal_lane.specs.State.{LaneState, LaneTag, LaneMap, LaneMemory, LaneRing, Stage, Waiting, WaitingLoad, named}
 use Rattle.ideal_lane.specs.State.{no_space}
 use Rattle.ideal_lane.specs.Accesses.{raw_bytes, raw_refusal}

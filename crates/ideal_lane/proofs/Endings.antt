@@ -5,9 +5,9 @@ use Rattle.busdma_machine.specs.declared.report.Errno.TheVariants.{EFBIG}
 use Rattle.busdma_machine.specs.declared.machine.address.Segment.{Segment}
 use Rattle.busdma_machine.specs.declared.machine.chunk.Chunk.{Chunk}
 use Rattle.busdma_machine.specs.Bounce.AccountStep.{as_pages}
-use Rattle.segment_build.specs.Building.{tag_placed, placed_pieces}
-use Rattle.segment_build.specs.Chunks.{bounced_of}
-use Rattle.segment_build.specs.Segmentation.{segmentation}
+use Rattle.busdma_rules.specs.Segments.Building.{tag_placed, placed_pieces}
+use Rattle.busdma_rules.specs.Segments.Chunks.{bounced_of}
+use Rattle.busdma_rules.specs.Segments.Segmentation.{segmentation}
 use Rattle.ideal_lane.specs.State.{LaneState, LaneMap}
 use Rattle.ideal_lane.specs.Loads.{Asked, limits_of, loaded, unpaged}
 use Rattle.ideal_lane.specs.Outcomes.{Outcome}

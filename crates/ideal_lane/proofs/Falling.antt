@@ -25,9 +25,9 @@ use Rattle.lane_agreement.specs.After.{addresses}
 use Rattle.lane_agreement.specs.Agreement.{Agrees, IsFit}
 use Rattle.lane_agreement.proofs.Left.{addresses-length, queued-length}
 use Rattle.lane_agreement.proofs.Whole.{granted-length, called-length}
-use Rattle.lane_tables.specs.declared.queued.QueuedItem.{QueuedItem}
-use Rattle.lane_tables.specs.Queues.{queued, queued_from}
-use Rattle.segment_build.specs.Chunks.{need_of}
+use Rattle.busdma_base.specs.declared.scenarios.queued.QueuedItem.{QueuedItem}
+use Rattle.busdma_base.specs.Scenarios.Queues.{queued, queued_from}
+use Rattle.busdma_rules.specs.Segments.Chunks.{need_of}
 use Rattle.ideal_lane.specs.State.{LaneState, LaneMap, Stage, Idle, Waiting, Loaded, Returning, WaitingLoad, named}
 use Rattle.ideal_lane.specs.Asking.{Asking, Gives, Asks, call_of, by_reply}
 use Rattle.ideal_lane.specs.Outcomes.{Outcome}

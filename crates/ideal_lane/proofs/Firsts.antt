@@ -12,8 +12,8 @@ use Rattle.std.specs.List.{AllByRecursion, Contains, filter}
 use Rattle.std.specs.Ordering.{nat_cmp, is_lt, MatchOrdering}
 use Rattle.busdma_machine.specs.declared.report.Judged.{Judged}
 use Rattle.busdma_machine.specs.declared.report.Judged.TheVariants.{Fine, Refused}
-use Rattle.ring_device.specs.declared.descriptor.Descriptor.{Descriptor}
-use Rattle.ring_device.specs.Ranges.{place_of}
+use Rattle.busdma_rules.specs.declared.descriptor.Descriptor.{Descriptor}
+use Rattle.busdma_rules.specs.Rings.Ranges.{place_of}
 use Rattle.ideal_lane.specs.State.{LaneState, LaneMap, LaneRing}
 use Rattle.ideal_lane.specs.Rings.{Candidate, allowed, before_others, candidates, candidates_in, head_of, is_fine, is_left_out}
 use Rattle.ideal_lane.specs.Rings.{judged_at}

@@ -12,7 +12,7 @@ use Rattle.busdma_machine.specs.declared.machine.chunk.Chunk.{Chunk}
 use Rattle.busdma_machine.specs.Bounce.Account.{Account}
 use Rattle.busdma_machine.specs.Tags.Tag.{could_bounce}
 use Rattle.busdma_machine.specs.Tags.TagFlags.{allocnow}
-use Rattle.segment_build.specs.Chunks.{need_of}
+use Rattle.busdma_rules.specs.Segments.Chunks.{need_of}
 use Rattle.lane_agreement.specs.View as view
 use Rattle.lane_agreement.specs.After.{IsLike, after, addresses}
 use Rattle.lane_agreement.specs.After as calls
@@ -29,7 +29,7 @@ use Rattle.ideal_lane.specs.Maps.{with_map, without_map}
 use Rattle.ideal_lane.specs.Loads.{Asked, zone_of, staged, unpaged, emptied}
 use Rattle.ideal_lane.specs.Unloads.{pages_of}
 use Rattle.std.proofs.Common.{not}
-use Rattle.iommu_load.specs.Device.{device_chunks}
+use Rattle.busdma_rules.specs.Iommu.Device.{device_chunks}
 use Rattle.ideal_lane.specs.Loads.{is_device}
 use Rattle.ideal_lane.proofs.Effects.{Device, NoRun}
 use Rattle.ideal_lane.proofs.Effects.{AtOnce, Attaches, Begins, Creates, Frees, Granted, IsUngranted, IsUnmade}

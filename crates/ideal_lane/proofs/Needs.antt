@@ -16,12 +16,13 @@ use Rattle.busdma_machine.specs.Machine.Entry.{entry_addresses, entries_addresse
 use Rattle.busdma_machine.specs.Machine.Spans.{bio_spans, span_bytes}
 use Rattle.busdma_machine.specs.Runs.{addresses, byte_count, run_of}
 use Rattle.busdma_base.specs.Scenarios.Buffers.{buffer_bytes, counted_bytes}
-use Rattle.load_bio.specs.Bio.{is_rounded}
-use Rattle.phys_memory.specs.Extents.{extents_of, with_byte, reached, then_reached}
-use Rattle.phys_memory.specs.Translation.{Translation}
-use Rattle.phys_memory.specs.Vector.{entries_of, with_entry}
-use Rattle.segment_build.specs.Chunks.{chunk_limit, chunks_within, chunks_of_bytes, chunks_from, chunks_of, bounced_of}
-use Rattle.segment_build.specs.Chunks.{need_of}
+use Rattle.busdma_rules.specs.Memory.Bios.{is_rounded}
+use Rattle.busdma_rules.specs.Memory.Extents.{extents_of, with_byte, reached, then_reached}
+use Rattle.busdma_rules.specs.Memory.Translation.{Translation}
+use Rattle.busdma_rules.specs.Memory.Vectors.{entries_of, with_entry}
+use Rattle.busdma_rules.specs.Segments.Chunks.{chunk_limit, chunks_within, chunks_of_bytes, chunks_from, chunks_of}
+use Rattle.busdma_rules.specs.Segments.Chunks.{bounced_of}
+use Rattle.busdma_rules.specs.Segments.Chunks.{need_of}
 use Rattle.ideal_lane.specs.State.{LaneState, LaneMap}
 use Rattle.ideal_lane.specs.Loads.{limits_of, chunks_for, load_entries, load_translation, one_entry}
 use Rattle.ideal_lane.specs.Places.{virtual_at}

@@ -12,10 +12,10 @@ use Rattle.busdma_base.specs.declared.journals.journal.Side.{Side}
 use Rattle.busdma_base.specs.declared.journals.journal.Side.TheVariants as side
 use Rattle.busdma_base.specs.Journals.Reports.{is_report}
 use Rattle.busdma_base.specs.Scenarios.Operations.{items_of}
-use Rattle.lane_tables.specs.declared.queued.QueuedItem.{QueuedItem}
-use Rattle.lane_tables.specs.Queues.{queued}
-use Rattle.loan_table.specs.Loans.{load_bytes}
-use Rattle.ring_device.specs.declared.descriptor.Descriptor.{Descriptor}
+use Rattle.busdma_base.specs.declared.scenarios.queued.QueuedItem.{QueuedItem}
+use Rattle.busdma_base.specs.Scenarios.Queues.{queued}
+use Rattle.busdma_rules.specs.Lending.Loans.{load_bytes}
+use Rattle.busdma_rules.specs.declared.descriptor.Descriptor.{Descriptor}
 use Rattle.ideal_lane.specs.Asking.{by_reply, call_of}
 use Rattle.ideal_lane.specs.Outcomes.{Outcome}
 use Rattle.ideal_lane.specs.Reported.{behind, gone_on, if_ready, is_reported, items_at, items_in}

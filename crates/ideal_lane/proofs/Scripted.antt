@@ -31,15 +31,15 @@ use Rattle.busdma_machine.specs.Machine.Spans.{bio_spans, span_addresses}
 use Rattle.busdma_machine.specs.Runs.{run_of}
 use Rattle.busdma_machine.specs.Tags.Tag.{could_bounce, effective}
 use Rattle.busdma_machine.specs.Tags.TagFlags.{allocnow}
-use Rattle.dma_tag.specs.SyncOps.{is_mixed}
-use Rattle.iommu_load.specs.Device.{device_chunks, load_frames}
-use Rattle.iommu_map.specs.Space.{first_free, translated}
+use Rattle.busdma_rules.specs.Tags.SyncOps.{is_mixed}
+use Rattle.busdma_rules.specs.Iommu.Device.{device_chunks, load_frames}
+use Rattle.busdma_rules.specs.Iommu.Space.{first_free, translated}
 use Rattle.lane_agreement.specs.After.{addresses}
-use Rattle.loan_table.specs.declared.position.Position.{Position}
-use Rattle.load_bio.specs.Bio.{bio_translation, is_rounded}
-use Rattle.phys_memory.specs.Translation.{physical_or_0, unreached}
-use Rattle.phys_memory.specs.Vector.{entries_of}
-use Rattle.segment_build.specs.Chunks.{need_of}
+use Rattle.busdma_rules.specs.declared.position.Position.{Position}
+use Rattle.busdma_rules.specs.Memory.Bios.{bio_translation, is_rounded}
+use Rattle.busdma_rules.specs.Memory.Translation.{physical_or_0, unreached}
+use Rattle.busdma_rules.specs.Memory.Vectors.{entries_of}
+use Rattle.busdma_rules.specs.Segments.Chunks.{need_of}
 use Rattle.ideal_lane.specs.State.{LaneState, LaneMap, LaneMemory, LaneRing, LaneTag, named}
 use Rattle.ideal_lane.specs.Accesses as accesses
 use Rattle.ideal_lane.specs.Accesses.{position_in, place_in, raw_refusal, unless_unlent}
@@ -65,17 +65,17 @@ use Rattle.busdma_base.specs.Scenarios.Operations.{bytes_of}
 use Rattle.busdma_machine.specs.declared.machine.address.Pa.{Pa}
 use Rattle.busdma_machine.specs.Tags.Tag.{space_limits}
 use Rattle.lane_agreement.specs.View.{Return}
-use Rattle.lane_tables.specs.declared.queued.QueuedItem.{QueuedItem}
+use Rattle.busdma_base.specs.declared.scenarios.queued.QueuedItem.{QueuedItem}
 use Rattle.busdma_base.specs.declared.journals.answer.Answer.{Answer}
 use Rattle.busdma_base.specs.declared.journals.answer.Answer.TheVariants as answer
 use Rattle.std.specs.Prelude.{replicate}
-use Rattle.loan_table.specs.Access.{cpu_read_answer, cpu_write_answer, dev_read_refusal, dev_write_refusal}
-use Rattle.loan_table.specs.Lending.{sync_answer}
-use Rattle.loan_table.specs.Loans.{loan_of, load_bytes}
-use Rattle.phys_memory.specs.Translation.{Translation}
-use Rattle.ring_device.specs.declared.descriptor.Descriptor.{Descriptor}
-use Rattle.ring_device.specs.Descriptors.{descriptor_bytes}
-use Rattle.ring_device.specs.Ranges.{place_of}
+use Rattle.busdma_rules.specs.Lending.Access.{cpu_read_answer, cpu_write_answer, dev_read_refusal, dev_write_refusal}
+use Rattle.busdma_rules.specs.Lending.Syncing.{sync_answer}
+use Rattle.busdma_rules.specs.Lending.Loans.{loan_of, load_bytes}
+use Rattle.busdma_rules.specs.Memory.Translation.{Translation}
+use Rattle.busdma_rules.specs.declared.descriptor.Descriptor.{Descriptor}
+use Rattle.busdma_rules.specs.Rings.Descriptors.{descriptor_bytes}
+use Rattle.busdma_rules.specs.Rings.Ranges.{place_of}
 use Rattle.ideal_lane.specs.IdealMemory.{is_known, written}
 use Rattle.ideal_lane.specs.Maps as maps
 use Rattle.ideal_lane.specs.Memories as memories

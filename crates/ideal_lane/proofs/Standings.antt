@@ -14,9 +14,9 @@ use Rattle.busdma_machine.specs.declared.bounce.hold.HubReply.TheVariants as rep
 use Rattle.busdma_base.specs.declared.journals.journal.Side.{Side}
 use Rattle.busdma_machine.specs.declared.tags.tag.TagLimits.{TagLimits}
 use Rattle.busdma_machine.specs.Tags.Tag.{could_bounce}
-use Rattle.dma_tag.specs.MemFlags.{coherent}
+use Rattle.busdma_rules.specs.Tags.MemFlags.{coherent}
 use Rattle.lane_agreement.specs.View as view
-use Rattle.segment_build.specs.Chunks.{need_of}
+use Rattle.busdma_rules.specs.Segments.Chunks.{need_of}
 use Rattle.ideal_lane.specs.State.{LaneState, LaneTag, LaneMap, LaneMemory, LaneRing, Stage, Idle, Waiting, Loaded}
 use Rattle.ideal_lane.specs.State.{Returning}
 use Rattle.ideal_lane.specs.Asking.{Asking, Gives, Asks, call_of, by_reply}

@@ -19,13 +19,13 @@ use Rattle.busdma_machine.specs.Judging.{judged}
 use Rattle.busdma_machine.specs.Machine.Spans.{bio_spans, span_addresses}
 use Rattle.busdma_base.specs.declared.scenarios.script.Item.{Item}
 use Rattle.busdma_base.specs.Scenarios.PageRuns.{physical_in}
-use Rattle.iommu_load.specs.Device.{device_chunks, load_frames}
-use Rattle.iommu_map.specs.Space.{first_free}
+use Rattle.busdma_rules.specs.Iommu.Device.{device_chunks, load_frames}
+use Rattle.busdma_rules.specs.Iommu.Space.{first_free}
 use Rattle.lane_agreement.specs.After.{addresses}
-use Rattle.load_bio.specs.Bio.{bio_translation, is_rounded}
-use Rattle.phys_memory.specs.Translation.{physical_or_0}
-use Rattle.phys_memory.specs.Vector.{entries_of}
-use Rattle.segment_build.specs.Chunks.{need_of}
+use Rattle.busdma_rules.specs.Memory.Bios.{bio_translation, is_rounded}
+use Rattle.busdma_rules.specs.Memory.Translation.{physical_or_0}
+use Rattle.busdma_rules.specs.Memory.Vectors.{entries_of}
+use Rattle.busdma_rules.specs.Segments.Chunks.{need_of}
 use Rattle.ideal_lane.specs.State.{LaneState, LaneMap, LaneMemory, named}
 use Rattle.ideal_lane.specs.Asking.{Asking, Gives, Asks, goes_on}
 use Rattle.ideal_lane.specs.IdealMemory.{IdealMemory}

@@ -9,11 +9,11 @@ use Rattle.busdma_machine.specs.declared.machine.address.Segment.{Segment}
 use Rattle.busdma_base.specs.declared.scenarios.script.Place.{Place}
 use Rattle.busdma_machine.specs.Judging.{judged}
 use Rattle.busdma_machine.specs.Runs.{run_of}
-use Rattle.iommu_map.specs.Space.{translated}
-use Rattle.loan_table.specs.declared.position.Position.{Position}
-use Rattle.loan_table.specs.Access.{cpu_read_answer, cpu_write_answer, dev_read_answer, dev_write_answer}
-use Rattle.loan_table.specs.Access.{dev_read_refusal, dev_write_refusal}
-use Rattle.loan_table.specs.Loans.{loan_of, load_bytes}
+use Rattle.busdma_rules.specs.Iommu.Space.{translated}
+use Rattle.busdma_rules.specs.declared.position.Position.{Position}
+use Rattle.busdma_rules.specs.Lending.Access.{cpu_read_answer, cpu_write_answer, dev_read_answer, dev_write_answer}
+use Rattle.busdma_rules.specs.Lending.Access.{dev_read_refusal, dev_write_refusal}
+use Rattle.busdma_rules.specs.Lending.Loans.{loan_of, load_bytes}
 use Rattle.ideal_lane.specs.IdealMemory.{is_known, value, written}
 use Rattle.ideal_lane.specs.State.{LaneState, LaneMap}
 use Rattle.ideal_lane.specs.Unloads.{segments_in}

@@ -25,18 +25,18 @@ use Rattle.busdma_machine.specs.Bounce.AccountStep.{as_pages}
 use Rattle.busdma_machine.specs.Judging.{judged}
 use Rattle.busdma_machine.specs.Machine.Entry.{entries_addresses}
 use Rattle.busdma_machine.specs.Machine.Spans.{bio_spans, span_addresses, span_bytes}
-use Rattle.iommu_load.specs.Device.{device_chunks, load_frames}
-use Rattle.iommu_map.specs.Space.{Space, entered, first_free}
+use Rattle.busdma_rules.specs.Iommu.Device.{device_chunks, load_frames}
+use Rattle.busdma_rules.specs.Iommu.Space.{Space, entered, first_free}
 use Rattle.lane_agreement.specs.View.{queued_back}
 use Rattle.lane_agreement.specs.After.{addresses}
-use Rattle.lane_tables.specs.Queues.{queued}
-use Rattle.load_bio.specs.Bio.{bio_translation, is_rounded}
-use Rattle.loan_table.specs.Loans.{new_loan}
-use Rattle.phys_memory.specs.Translation.{Translation, physical_or_0}
-use Rattle.phys_memory.specs.Vector.{entries_of, with_entry}
-use Rattle.segment_build.specs.Building.{tag_placed, placed_pieces}
-use Rattle.segment_build.specs.Chunks.{chunks_of, bounced_of, need_of}
-use Rattle.segment_build.specs.Segmentation.{segmentation}
+use Rattle.busdma_base.specs.Scenarios.Queues.{queued}
+use Rattle.busdma_rules.specs.Memory.Bios.{bio_translation, is_rounded}
+use Rattle.busdma_rules.specs.Lending.Loans.{new_loan}
+use Rattle.busdma_rules.specs.Memory.Translation.{Translation, physical_or_0}
+use Rattle.busdma_rules.specs.Memory.Vectors.{entries_of, with_entry}
+use Rattle.busdma_rules.specs.Segments.Building.{tag_placed, placed_pieces}
+use Rattle.busdma_rules.specs.Segments.Chunks.{chunks_of, bounced_of, need_of}
+use Rattle.busdma_rules.specs.Segments.Segmentation.{segmentation}
 use Rattle.ideal_lane.specs.State.{LaneState, LaneTag, LaneMap, LaneMemory, Stage, Idle, Waiting, Loaded, Returning}
 use Rattle.ideal_lane.specs.State.{WaitingLoad, named}
 use Rattle.ideal_lane.specs.Asking.{Asking, Gives, Asks}

@@ -8,7 +8,7 @@ use Rattle.busdma_base.specs.declared.journals.answer.Answer.TheVariants.{Done, 
 use Rattle.busdma_machine.specs.declared.report.Errno.TheVariants.{EBUSY, ENOMEM}
 use Rattle.busdma_machine.specs.declared.tags.tag.TagLimits.{TagLimits}
 use Rattle.busdma_machine.specs.Bounce.MemoryRuns.{in_run}
-use Rattle.dma_tag.specs.MemFlags.{zero_filled, coherent}
+use Rattle.busdma_rules.specs.Tags.MemFlags.{zero_filled, coherent}
 use Rattle.ideal_lane.specs.IdealMemory.{Known, Unknown, joined, parted}
 use Rattle.ideal_lane.specs.State.{LaneState, LaneMemory, Idle, named}
 use Rattle.ideal_lane.specs.Asking.{Asking, Asks}

@@ -7,7 +7,7 @@ use Rattle.busdma_machine.specs.declared.report.Judged.{Judged}
 use Rattle.busdma_machine.specs.declared.report.Judged.TheVariants.{Fine, Refused}
 use Rattle.busdma_machine.specs.declared.report.ReportName.{ReportName}
 use Rattle.busdma_machine.specs.declared.report.ReportName.TheVariants.{Absent, MapBusy, NotLoaded, PastEnd}
-use Rattle.loan_table.specs.Loans.{loan_of}
+use Rattle.busdma_rules.specs.Lending.Loans.{loan_of}
 use Rattle.ideal_lane.specs.State.{LaneState, LaneMap, Stage, Idle, Waiting, Loaded, Returning}
 use Rattle.ideal_lane.specs.Asking.{Asking, Gives}
 

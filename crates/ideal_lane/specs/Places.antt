@@ -10,8 +10,8 @@ use Rattle.busdma_machine.specs.Judging.{judged}
 use Rattle.busdma_machine.specs.Machine.VirtualPages.{pages_end}
 use Rattle.busdma_base.specs.Scenarios.PageRuns.{physical_in}
 use Rattle.busdma_machine.specs.Runs.{run_of}
-use Rattle.dmamem.specs.Memory.{virtual_of}
-use Rattle.phys_memory.specs.Translation.{Translation, unreached, physical_or_0}
+use Rattle.busdma_rules.specs.Memory.Memories.{virtual_of}
+use Rattle.busdma_rules.specs.Memory.Translation.{Translation, unreached, physical_or_0}
 use Rattle.ideal_lane.specs.State.{LaneState, LaneMemory}
 
 -- the virtual address of a memory's first byte

@@ -15,12 +15,12 @@ use Rattle.busdma_machine.specs.declared.report.Judged.{Judged}
 use Rattle.busdma_machine.specs.declared.report.Judged.TheVariants.{Fine, Refused}
 use Rattle.busdma_machine.specs.declared.report.Report.{Report}
 use Rattle.busdma_machine.specs.declared.report.ReportName.TheVariants.{Untranslated}
-use Rattle.lane_tables.specs.Queues.{queued}
-use Rattle.loan_table.specs.Access.{dev_read_answer, dev_write_answer}
-use Rattle.loan_table.specs.Loans.{loan_of, load_bytes}
-use Rattle.ring_device.specs.declared.descriptor.Descriptor.{Descriptor}
-use Rattle.ring_device.specs.Descriptors.{descriptor_of, descriptor_bytes}
-use Rattle.ring_device.specs.Ranges.{address_of, place_of}
+use Rattle.busdma_base.specs.Scenarios.Queues.{queued}
+use Rattle.busdma_rules.specs.Lending.Access.{dev_read_answer, dev_write_answer}
+use Rattle.busdma_rules.specs.Lending.Loans.{loan_of, load_bytes}
+use Rattle.busdma_rules.specs.declared.descriptor.Descriptor.{Descriptor}
+use Rattle.busdma_rules.specs.Rings.Descriptors.{descriptor_of, descriptor_bytes}
+use Rattle.busdma_rules.specs.Rings.Ranges.{address_of, place_of}
 use Rattle.ideal_lane.specs.IdealMemory.{is_known, written}
 use Rattle.ideal_lane.specs.State.{LaneState, LaneMap, LaneMemory, LaneRing}
 use Rattle.ideal_lane.specs.Accesses.{cpu_write, unless_unread, values}

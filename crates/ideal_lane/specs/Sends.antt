@@ -16,7 +16,7 @@ use Rattle.busdma_machine.specs.declared.machine.address.Span.{Span}
 use Rattle.busdma_machine.specs.declared.machine.bio.Bio.TheVariants.{Vector}
 use Rattle.busdma_machine.specs.declared.report.Errno.{Errno}
 use Rattle.busdma_machine.specs.declared.report.Errno.TheVariants as errno
-use Rattle.loan_table.specs.Access.{cpu_read_answer, cpu_write_answer}
+use Rattle.busdma_rules.specs.Lending.Access.{cpu_read_answer, cpu_write_answer}
 use Rattle.ideal_lane.specs.Accesses.{values}
 use Rattle.ideal_lane.specs.Asking.{Asking}
 use Rattle.ideal_lane.specs.IdealMemory.{IdealMemory, is_known, written}

@@ -11,10 +11,10 @@ use Rattle.busdma_base.specs.declared.scenarios.scenario.PageRun.{PageRun}
 use Rattle.busdma_base.specs.declared.scenarios.script.Item.{Item}
 use Rattle.busdma_base.specs.declared.scenarios.script.Op.{Op}
 use Rattle.busdma_machine.specs.declared.tags.tag.TagLimits.{TagLimits}
-use Rattle.iommu_map.specs.Space.{Space}
+use Rattle.busdma_rules.specs.Iommu.Space.{Space}
 use Rattle.lane_agreement.specs.View.{Return}
-use Rattle.lane_tables.specs.declared.queued.QueuedItem.{QueuedItem}
-use Rattle.loan_table.specs.Loans.{Loans}
+use Rattle.busdma_base.specs.declared.scenarios.queued.QueuedItem.{QueuedItem}
+use Rattle.busdma_rules.specs.Lending.Loans.{Loans}
 use Rattle.ideal_lane.specs.IdealMemory.{IdealMemory}
 
 -- a tag: its effective limits, whether its first allocation is done, and whether its device is behind an IOMMU

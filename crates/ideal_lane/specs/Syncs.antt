@@ -5,9 +5,9 @@ use Rattle.std.specs.List.{list_any}
 use Rattle.busdma_base.specs.declared.journals.answer.Answer.TheVariants.{Done}
 use Rattle.busdma_machine.specs.declared.report.ReportName.TheVariants.{MixedSync}
 use Rattle.busdma_machine.specs.declared.machine.chunk.Chunk.{Chunk}
-use Rattle.dma_tag.specs.SyncOps.{is_mixed, prewrite, postread}
-use Rattle.loan_table.specs.Lending.{sync_answer, synced, lost}
-use Rattle.segment_build.specs.Trace.{chunk_len}
+use Rattle.busdma_rules.specs.Tags.SyncOps.{is_mixed, prewrite, postread}
+use Rattle.busdma_rules.specs.Lending.Syncing.{sync_answer, synced, lost}
+use Rattle.busdma_rules.specs.Segments.Trace.{chunk_len}
 use Rattle.ideal_lane.specs.IdealMemory.{forgotten}
 use Rattle.ideal_lane.specs.State.{LaneState, LaneMap, Stage, Idle, Waiting, Loaded, Returning}
 use Rattle.ideal_lane.specs.Asking.{Asking}

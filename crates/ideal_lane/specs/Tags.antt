@@ -11,7 +11,7 @@ use Rattle.busdma_machine.specs.declared.tags.tag.SpaceLimits.{SpaceLimits}
 use Rattle.busdma_machine.specs.declared.tags.tag.TagLimits.{TagLimits}
 use Rattle.busdma_machine.specs.Tags.Tag.{effective, could_bounce, space_limits}
 use Rattle.busdma_machine.specs.Tags.TagFlags.{allocnow}
-use Rattle.iommu_map.specs.Space.{Space}
+use Rattle.busdma_rules.specs.Iommu.Space.{Space}
 use Rattle.ideal_lane.specs.State.{LaneState, no_space}
 use Rattle.ideal_lane.specs.Asking.{Asking, Asks}
 use Rattle.ideal_lane.specs.Outcomes.{Outcome, gives, unless_absent}

@@ -23,11 +23,11 @@ use Rattle.busdma_base.specs.declared.scenarios.script.Item.TheVariants as item
 use Rattle.busdma_base.specs.declared.scenarios.script.Op.{Op}
 use Rattle.busdma_base.specs.declared.scenarios.script.Op.TheVariants as op
 use Rattle.busdma_base.specs.Scenarios.Operations.{bytes_of}
-use Rattle.dma_tag.specs.LoadFlags.{nowait}
+use Rattle.busdma_rules.specs.Tags.LoadFlags.{nowait}
 use Rattle.lane_agreement.specs.After.{addresses}
 use Rattle.lane_agreement.specs.View.{Return}
-use Rattle.lane_tables.specs.declared.queued.QueuedItem.{QueuedItem}
-use Rattle.lane_tables.specs.Queues.{queue_names}
+use Rattle.busdma_base.specs.declared.scenarios.queued.QueuedItem.{QueuedItem}
+use Rattle.busdma_base.specs.Scenarios.Queues.{queue_names}
 use Rattle.ideal_lane.specs.State.{LaneState, LaneMap, Stage, Idle, Waiting, Loaded, Returning, WaitingLoad}
 use Rattle.ideal_lane.specs.State.{named}
 use Rattle.ideal_lane.specs.Asking.{Asking, Gives, Asks, goes_on}

@@ -3,9 +3,9 @@ use Rattle.std.specs.Prelude.{ℕ, ◌==◌, ◌/◌, List, [], ◌∷◌, Optio
 use Rattle.std.specs.FinMap.{get, insert, remove}
 use Rattle.busdma_base.specs.declared.journals.answer.Answer.TheVariants.{Done}
 use Rattle.busdma_machine.specs.declared.machine.address.Segment.{Segment}
-use Rattle.iommu_map.specs.Space.{left}
+use Rattle.busdma_rules.specs.Iommu.Space.{left}
 use Rattle.lane_agreement.specs.View.{Return, returning}
-use Rattle.loan_table.specs.Lending.{lost_by_forgetting}
+use Rattle.busdma_rules.specs.Lending.Syncing.{lost_by_forgetting}
 use Rattle.ideal_lane.specs.IdealMemory.{forgotten}
 use Rattle.ideal_lane.specs.State.{LaneState, LaneMap, Stage, Idle, Waiting, Loaded, Returning}
 use Rattle.ideal_lane.specs.Asking.{Asking}

@@ -22,7 +22,7 @@ ghost use Rattle.busdma_machine.specs.Bounce.AccountStep.{account_step};
 ghost use Rattle.busdma_base.specs.Scenarios.Opening.{maxmem_of, opening};
 ghost use Rattle.busdma_base.specs.Scenarios.Valid.{IsValid};
 ghost use Rattle.lane_agreement.specs.Agreement.{IsFit};
-ghost use Rattle.lane_tables.specs.Queues.{script_items};
+ghost use Rattle.busdma_base.specs.Scenarios.Queues.{script_items};
 ghost use Rattle.ideal_lane.specs.Agreement.{AgreesWith, IsAllowed, KeepsAgreement};
 ghost use Rattle.ideal_lane.specs.Ahead.{items_ahead};
 ghost use Rattle.ideal_lane.specs.Asking.{by_reply, call_of, goes_on};

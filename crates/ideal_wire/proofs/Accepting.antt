@@ -24,20 +24,20 @@ use Rattle.busdma_base.specs.Scenarios.Buffers.{IsBioOf}
 use Rattle.busdma_machine.specs.Tags.Tag.{IsEffective}
 use Rattle.busdma_machine.specs.Tags.TagFlags.{keep_pg_offset}
 use Rattle.lane_agreement.specs.After as after
-use Rattle.loan_table.specs.Loans.{Loan, loan_of, no_loan, addresses_of, unlent, new_loan}
-use Rattle.load_bio.specs.Bio.{is_rounded}
-use Rattle.phys_memory.specs.Translation.{physical_or_0}
-use Rattle.phys_memory.proofs.Vectors.{entries_are}
-use Rattle.segment_build.specs.Building.{tag_placed, placed_pieces}
-use Rattle.segment_build.specs.Chunks.{bounced_of, chunks_of}
-use Rattle.segment_build.specs.Obeying.{IsReachable}
-use Rattle.segment_build.specs.Segmentation.{segment_bytes, segmentation}
-use Rattle.segment_build.specs.Trace.{IsPage, IsPlaced}
-use Rattle.segment_build.proofs.Bytes.{all_rise, pieces_bytes, segmentation_bytes}
-use Rattle.segment_build.proofs.Covering.{chunks_at, chunks_cover}
-use Rattle.segment_build.proofs.Cuts.{cut_is}
-use Rattle.segment_build.proofs.Obeys as obeying
-use Rattle.segment_build.proofs.Sound.{chunks_sound, placed_are}
+use Rattle.busdma_rules.specs.Lending.Loans.{Loan, loan_of, no_loan, addresses_of, unlent, new_loan}
+use Rattle.busdma_rules.specs.Memory.Bios.{is_rounded}
+use Rattle.busdma_rules.specs.Memory.Translation.{physical_or_0}
+use Rattle.busdma_rules.proofs.Memory.Vectors.{entries_are}
+use Rattle.busdma_rules.specs.Segments.Building.{tag_placed, placed_pieces}
+use Rattle.busdma_rules.specs.Segments.Chunks.{bounced_of, chunks_of}
+use Rattle.busdma_rules.specs.Segments.Obeying.{IsReachable}
+use Rattle.busdma_rules.specs.Segments.Segmentation.{segment_bytes, segmentation}
+use Rattle.busdma_rules.specs.Segments.Trace.{IsPage, IsPlaced}
+use Rattle.busdma_rules.proofs.Segments.Bytes.{all_rise, pieces_bytes, segmentation_bytes}
+use Rattle.busdma_rules.proofs.Segments.Covering.{chunks_at, chunks_cover}
+use Rattle.busdma_rules.proofs.Segments.Cuts.{cut_is}
+use Rattle.busdma_rules.proofs.Segments.Obeys as obeying
+use Rattle.busdma_rules.proofs.Segments.Sound.{chunks_sound, placed_are}
 use Rattle.ideal_lane.specs.Loads.{Asked, asked, limits_of, no_limits, finished, loaded, unpaged, is_coherent}
 use Rattle.ideal_lane.specs.Loads.{load_addresses, load_judged, load_translation}
 use Rattle.ideal_lane.specs.Outcomes.{Outcome}

@@ -10,12 +10,12 @@ use Rattle.busdma_machine.specs.Machine.Spans.{bio_spans}
 use Rattle.busdma_machine.specs.Machine.Wire.{buses}
 use Rattle.busdma_base.specs.Scenarios.Buffers.{IsBioOf}
 use Rattle.busdma_machine.specs.Tags.Tag.{excluded}
-use Rattle.load_bio.specs.Bio.{is_rounded}
-use Rattle.loan_table.specs.declared.position.Position.{Position}
-use Rattle.loan_table.specs.Loans.{loan_of, addresses_of}
-use Rattle.map_sync.specs.Traces.{HasChunks}
-use Rattle.phys_memory.specs.Vector.{entries_of}
-use Rattle.segment_build.specs.Chunks.{chunks_of, need_of}
+use Rattle.busdma_rules.specs.Memory.Bios.{is_rounded}
+use Rattle.busdma_rules.specs.declared.position.Position.{Position}
+use Rattle.busdma_rules.specs.Lending.Loans.{loan_of, addresses_of}
+use Rattle.busdma_rules.specs.Syncs.Traces.{HasChunks}
+use Rattle.busdma_rules.specs.Memory.Vectors.{entries_of}
+use Rattle.busdma_rules.specs.Segments.Chunks.{chunks_of, need_of}
 use Rattle.ideal_lane.specs.Loads.{is_coherent, limits_of}
 use Rattle.ideal_lane.specs.Outcomes.{is_loaded}
 use Rattle.ideal_lane.specs.State.{LaneState, LaneMap, LaneMemory, Stage, Idle, Waiting, Loaded, Returning}

@@ -31,12 +31,12 @@ use Rattle.busdma_machine.specs.Runs.{run_of}
 use Rattle.busdma_base.specs.Scenarios.Buffers.{IsBioOf}
 use Rattle.lane_agreement.specs.View as view
 use Rattle.lane_agreement.proofs.Places.{head-waits, waits-tells}
-use Rattle.segment_build.specs.Obeying.{IsReachable}
+use Rattle.busdma_rules.specs.Segments.Obeying.{IsReachable}
 use Rattle.std.proofs.Common.{map as mapped, Option}
 use Rattle.std.specs.Option.{option_map_or}
 use Rattle.busdma_machine.specs.declared.machine.chunk.Entry.{Entry}
-use Rattle.iommu_load.specs.Device.{device_chunks}
-use Rattle.iommu_map.specs.Space.{translated}
+use Rattle.busdma_rules.specs.Iommu.Device.{device_chunks}
+use Rattle.busdma_rules.specs.Iommu.Space.{translated}
 use Rattle.ideal_lane.specs.Loads.{is_device}
 use Rattle.ideal_lane.specs.State.{LaneTag}
 use Rattle.ideal_wire.specs.Answered.{chunks_of_load, first_page, found_at}

@@ -27,8 +27,8 @@ use Rattle.lane_agreement.specs.After.{addresses}
 use Rattle.lane_agreement.specs.Agreement.{IsFit}
 use Rattle.lane_agreement.specs.View as view
 use Rattle.lane_agreement.proofs.Whole.{called-length, granted-length}
-use Rattle.segment_build.specs.Chunks.{need_of}
-use Rattle.segment_build.specs.Obeying.{IsReachable}
+use Rattle.busdma_rules.specs.Segments.Chunks.{need_of}
+use Rattle.busdma_rules.specs.Segments.Obeying.{IsReachable}
 use Rattle.ideal_lane.specs.Agreement.{AgreesWith}
 use Rattle.ideal_lane.specs.Asking.{Asking, Gives, Asks, call_of, by_reply}
 use Rattle.ideal_lane.specs.Loads.{Asked, asked, chunks_for, finished, limits_of, zone_of}
@@ -52,16 +52,16 @@ use Rattle.std.proofs.Common.{◌∷◌, ◌≤◌, ◌&&◌, map, slice_get, ze
 use Rattle.std.proofs.lemmas.Bool.{eq-eqb}
 use Rattle.std.specs.Option.{option_map_or}
 use Rattle.busdma_machine.specs.declared.machine.chunk.Entry.{Entry}
-use Rattle.iommu_load.specs.Device.{device_chunks, load_frames}
-use Rattle.iommu_load.proofs.Carrying.{Carries}
-use Rattle.iommu_load.proofs.Spaces.{entered-carries}
-use Rattle.iommu_map.proofs.Runs.{taken-fits}
-use Rattle.iommu_map.specs.Space.{Space, entered, first_free, translated}
+use Rattle.busdma_rules.specs.Iommu.Device.{device_chunks, load_frames}
+use Rattle.busdma_rules.proofs.Iommu.Carrying.{Carries}
+use Rattle.busdma_rules.proofs.Iommu.Spaces.{entered-carries}
+use Rattle.busdma_rules.proofs.Iommu.Runs.{taken-fits}
+use Rattle.busdma_rules.specs.Iommu.Space.{Space, entered, first_free, translated}
 use Rattle.ideal_lane.specs.Loads.{are_few, is_device, load_addresses, load_entries, no_limits, taken, with_run}
 use Rattle.ideal_lane.specs.Loads.{with_spaces}
 use Rattle.ideal_lane.specs.Rings.{head_of}
 use Rattle.ideal_lane.specs.Accesses.{values}
-use Rattle.loan_table.specs.Loans.{load_bytes}
+use Rattle.busdma_rules.specs.Lending.Loans.{load_bytes}
 use Rattle.ideal_lane.specs.State.{LaneTag}
 use Rattle.ideal_lane.proofs.Effects.{Device, IsTaken, NoFrame, Run}
 use Rattle.ideal_wire.specs.Answered.{chunks_of_load, first_page, found_at}

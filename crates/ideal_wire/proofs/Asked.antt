@@ -20,14 +20,14 @@ use Rattle.busdma_machine.specs.Machine.Spans.{bio_spans, span_addresses}
 use Rattle.busdma_machine.specs.Runs.{run_of}
 use Rattle.busdma_base.specs.Scenarios.Buffers.{IsBioOf}
 use Rattle.busdma_machine.specs.Tags.Tag.{IsEffective}
-use Rattle.load_bio.specs.Bio.{is_rounded}
-use Rattle.phys_memory.specs.Extents.{reached, then_reached}
-use Rattle.phys_memory.specs.Translation.{Translation, physical_or_0}
-use Rattle.phys_memory.specs.Vector.{entries_of, with_entry}
-use Rattle.phys_memory.proofs.Paged.{IsPaged}
-use Rattle.phys_memory.proofs.Vectors.{entries_are}
-use Rattle.segment_build.specs.Chunks.{chunks_of, need_of}
-use Rattle.segment_build.specs.Trace.{IsPage}
+use Rattle.busdma_rules.specs.Memory.Bios.{is_rounded}
+use Rattle.busdma_rules.specs.Memory.Extents.{reached, then_reached}
+use Rattle.busdma_rules.specs.Memory.Translation.{Translation, physical_or_0}
+use Rattle.busdma_rules.specs.Memory.Vectors.{entries_of, with_entry}
+use Rattle.busdma_rules.proofs.Memory.Paged.{IsPaged}
+use Rattle.busdma_rules.proofs.Memory.Vectors.{entries_are}
+use Rattle.busdma_rules.specs.Segments.Chunks.{chunks_of, need_of}
+use Rattle.busdma_rules.specs.Segments.Trace.{IsPage}
 use Rattle.ideal_lane.specs.Loads.{is_foreign_in, is_foreign_to, limits_of, load_entries, load_judged, load_refusal}
 use Rattle.ideal_lane.specs.Loads.{load_translation}
 use Rattle.ideal_lane.specs.Places.{is_memory_byte, or_in_memory, physical}

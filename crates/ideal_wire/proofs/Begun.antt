@@ -13,7 +13,7 @@ use Rattle.busdma_machine.specs.declared.bounce.hold.HubReply.TheVariants.{Queue
 use Rattle.busdma_machine.specs.Bounce.Account.{Account}
 use Rattle.busdma_machine.specs.Bounce.AccountStep.{account_step}
 use Rattle.busdma_base.specs.declared.scenarios.script.Op.TheVariants as op
-use Rattle.segment_build.specs.Chunks.{need_of}
+use Rattle.busdma_rules.specs.Segments.Chunks.{need_of}
 use Rattle.ideal_lane.proofs.Effects.{Begins, Callback, IsNext, Operation, Transfer, Work, again, chunks, grab}
 use Rattle.ideal_lane.proofs.Sent.{unqueued}
 use Rattle.busdma_base.specs.declared.scenarios.scenario.PageRun.{PageRun}

@@ -9,11 +9,11 @@ use Rattle.busdma_base.specs.declared.scenarios.scenario.PageRun.{PageRun}
 use Rattle.busdma_base.specs.Scenarios.PageRuns.{has_frame, is_own, physical_in}
 use Rattle.busdma_machine.specs.Machine.Spans.{bio_spans, span_addresses}
 use Rattle.busdma_base.specs.Scenarios.Buffers.{IsBioOf}
-use Rattle.load_bio.specs.Bio.{bio_translation}
-use Rattle.load_bio.specs.Frames.{AreFrames, byte_of, in_frames}
-use Rattle.load_bio.proofs.InFrames.{frames_paged}
-use Rattle.phys_memory.specs.Translation.{Translation}
-use Rattle.phys_memory.proofs.Paged.{IsPaged}
+use Rattle.busdma_rules.specs.Memory.Bios.{bio_translation}
+use Rattle.busdma_rules.specs.Memory.BioFrames.{AreFrames, byte_of, in_frames}
+use Rattle.busdma_rules.proofs.Memory.InFrames.{frames_paged}
+use Rattle.busdma_rules.specs.Memory.Translation.{Translation}
+use Rattle.busdma_rules.proofs.Memory.Paged.{IsPaged}
 use Rattle.ideal_lane.specs.Loads.{load_translation}
 use Rattle.ideal_lane.specs.Places.{or_in_memory}
 use Rattle.ideal_lane.specs.State.{LaneState}

@@ -5,7 +5,7 @@ use Rattle.std.proofs.lemmas.Bool.{and_parts, leb-true, ltb-true}
 use Rattle.std.specs.List.{AllZip}
 use Rattle.busdma_machine.specs.declared.machine.chunk.Chunk.{Chunk}
 use Rattle.busdma_machine.specs.Machine.Wire.{Placed}
-use Rattle.segment_build.specs.Trace.{chunk_len, bus_extent}
+use Rattle.busdma_rules.specs.Segments.Trace.{chunk_len, bus_extent}
 use Rattle.ideal_wire.specs.Laid.{IsInPage}
 use Rattle.ideal_wire.specs.Traces.{has_place, bus_at, placed_from}
 use Rattle.ideal_wire.proofs.Positions.{found_one}

@@ -8,9 +8,10 @@ use Rattle.std.specs.Option.{option_map}
 use Rattle.std.specs.FinMap.{get, insert, remove}
 use Rattle.busdma_machine.specs.Bounce.MemoryRuns.{in_run}
 use Rattle.busdma_machine.specs.Machine.Wire.{Wire, Placed}
-use Rattle.loan_table.specs.declared.position.Position.{Position}
-use Rattle.loan_table.specs.Loans.{Loan, loan_of, no_loan, addresses_of, to_write, in_any_way, lent, unlent, new_loan}
-use Rattle.loan_table.specs.Lending.{lost_by_forgetting}
+use Rattle.busdma_rules.specs.declared.position.Position.{Position}
+use Rattle.busdma_rules.specs.Lending.Loans.{Loan, loan_of, no_loan, addresses_of, to_write, in_any_way, lent, unlent}
+use Rattle.busdma_rules.specs.Lending.Loans.{new_loan}
+use Rattle.busdma_rules.specs.Lending.Syncing.{lost_by_forgetting}
 use Rattle.ideal_lane.specs.IdealMemory.{Known, forgotten}
 use Rattle.ideal_lane.specs.State.{LaneState, LaneMap}
 use Rattle.ideal_lane.specs.Syncs.{bounced_in}

@@ -14,12 +14,13 @@ use Rattle.busdma_machine.specs.declared.tags.tag.TagLimits.{TagLimits}
 use Rattle.busdma_machine.specs.Machine.Entry.{AreJoined, IsEntry, entry_addresses}
 use Rattle.busdma_machine.specs.Runs.{IsExtent, addresses, byte_count, run_of}
 use Rattle.busdma_machine.specs.Tags.Tag.{IsEffective}
-use Rattle.segment_build.specs.Building.{IsPlaceable}
-use Rattle.segment_build.specs.Chunks.{bounced_of, chunk_limit, chunk_of, chunks_from, chunks_of, chunks_of_bytes}
-use Rattle.segment_build.specs.Chunks.{chunks_within, extent_from, to_frame_end}
-use Rattle.segment_build.specs.Trace.{chunk_len, first_page, in_page, placed}
-use Rattle.segment_build.proofs.Chunking.{limit_reaches}
-use Rattle.segment_build.proofs.Sound.{all_append, chunks_sound}
+use Rattle.busdma_rules.specs.Segments.Building.{IsPlaceable}
+use Rattle.busdma_rules.specs.Segments.Chunks.{bounced_of, chunk_limit, chunk_of, chunks_from, chunks_of}
+use Rattle.busdma_rules.specs.Segments.Chunks.{chunks_of_bytes}
+use Rattle.busdma_rules.specs.Segments.Chunks.{chunks_within, extent_from, to_frame_end}
+use Rattle.busdma_rules.specs.Segments.Trace.{chunk_len, first_page, in_page, placed}
+use Rattle.busdma_rules.proofs.Segments.Chunking.{limit_reaches}
+use Rattle.busdma_rules.proofs.Segments.Sound.{all_append, chunks_sound}
 use Rattle.ideal_wire.specs.Laid.{IsOfExtents}
 use Rattle.ideal_wire.proofs.Positions.{found_one}
 

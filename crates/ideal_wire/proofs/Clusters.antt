@@ -9,7 +9,7 @@ use Rattle.busdma_machine.specs.declared.machine.bio.Bio.TheVariants.{Vector}
 use Rattle.busdma_machine.specs.declared.report.Judged.TheVariants.{Fine}
 use Rattle.busdma_machine.specs.Machine.Spans.{span_addresses}
 use Rattle.busdma_base.specs.Scenarios.Buffers.{AreClustersFor}
-use Rattle.phys_memory.specs.Translation.{physical_or_0}
+use Rattle.busdma_rules.specs.Memory.Translation.{physical_or_0}
 use Rattle.ideal_lane.specs.Accesses.{values}
 use Rattle.ideal_lane.specs.Loads.{load_addresses, load_judged}
 use Rattle.ideal_lane.specs.Places.{physical}

@@ -6,7 +6,7 @@ use Rattle.busdma_machine.specs.declared.bounce.hold.HubReply.TheVariants as rep
 use Rattle.busdma_machine.specs.declared.machine.bio.Bio.TheVariants.{Vector}
 use Rattle.busdma_machine.specs.declared.report.Judged.TheVariants.{Fine}
 use Rattle.busdma_machine.specs.Machine.Wire.{Wire, put}
-use Rattle.loan_table.specs.Access.{cpu_read_answer, cpu_write_answer}
+use Rattle.busdma_rules.specs.Lending.Access.{cpu_read_answer, cpu_write_answer}
 use Rattle.ideal_lane.specs.Accesses.{values}
 use Rattle.ideal_lane.specs.IdealMemory.{Content, is_known}
 use Rattle.ideal_lane.specs.Loads.{load_judged}

@@ -19,13 +19,13 @@ use Rattle.busdma_machine.specs.Machine.Wire.{buffers, buses}
 use Rattle.busdma_base.specs.Scenarios.Buffers.{IsBioOf}
 use Rattle.busdma_machine.specs.Tags.Tag.{IsEffective}
 use Rattle.busdma_machine.specs.Tags.TagFlags.{keep_pg_offset}
-use Rattle.load_bio.specs.Bio.{is_rounded}
-use Rattle.phys_memory.proofs.Vectors.{entries_are}
-use Rattle.segment_build.specs.Building.{tag_placed, placed_pieces}
-use Rattle.segment_build.specs.Chunks.{bounced_of}
-use Rattle.segment_build.specs.Segmentation.{segment_bytes, segmentation}
-use Rattle.segment_build.proofs.Bytes.{pieces_bytes, segmentation_bytes}
-use Rattle.segment_build.proofs.Cuts.{cut_is}
+use Rattle.busdma_rules.specs.Memory.Bios.{is_rounded}
+use Rattle.busdma_rules.proofs.Memory.Vectors.{entries_are}
+use Rattle.busdma_rules.specs.Segments.Building.{tag_placed, placed_pieces}
+use Rattle.busdma_rules.specs.Segments.Chunks.{bounced_of}
+use Rattle.busdma_rules.specs.Segments.Segmentation.{segment_bytes, segmentation}
+use Rattle.busdma_rules.proofs.Segments.Bytes.{pieces_bytes, segmentation_bytes}
+use Rattle.busdma_rules.proofs.Segments.Cuts.{cut_is}
 use Rattle.ideal_lane.specs.Loads.{Asked, asked, limits_of}
 use Rattle.ideal_lane.specs.Loads.{load_addresses, load_judged, load_translation}
 use Rattle.ideal_lane.specs.Standing.{Stands}
@@ -39,18 +39,18 @@ use Rattle.ideal_wire.proofs.Buses.{placed-buffers}
 use Rattle.ideal_wire.proofs.Reaching.{all-reached, entries-bytes}
 use Rattle.std.proofs.Common.{◌+◌, ◌*◌, ◌≤◌, false, List, [], ◌∷◌, length, Option, Some}
 use Rattle.std.proofs.lemmas.Bool.{leb-true}
-use Rattle.iommu_load.specs.Device.{device_chunk, device_chunks, load_frames}
-use Rattle.iommu_load.proofs.Carrying.{Carries, device-rises, entries-carried}
-use Rattle.iommu_load.proofs.Obeying.{device-obeys}
-use Rattle.segment_build.specs.Built.{IsFew}
-use Rattle.segment_build.specs.Obeying.{Obeys}
+use Rattle.busdma_rules.specs.Iommu.Device.{device_chunk, device_chunks, load_frames}
+use Rattle.busdma_rules.proofs.Iommu.Carrying.{Carries, device-rises, entries-carried}
+use Rattle.busdma_rules.proofs.Iommu.DeviceObeying.{device-obeys}
+use Rattle.busdma_rules.specs.Segments.Built.{IsFew}
+use Rattle.busdma_rules.specs.Segments.Obeying.{Obeys}
 use Rattle.busdma_machine.specs.Runs.{byte_count}
 use Rattle.ideal_lane.specs.Loads.{load_entries}
-use Rattle.segment_build.specs.Pieces.{chunk_pieces}
-use Rattle.segment_build.proofs.Bytes.{pieces_bytes, segmentation_bytes}
+use Rattle.busdma_rules.specs.Segments.Pieces.{chunk_pieces}
+use Rattle.busdma_rules.proofs.Segments.Bytes.{pieces_bytes, segmentation_bytes}
 use Rattle.ideal_wire.proofs.Accepting.{fits, limits-effective, segments, traces-are}
 use Rattle.ideal_wire.proofs.LoadLaid.{device-direct, none-placed}
-use Rattle.segment_build.specs.Trace.{bus_trace, placed}
+use Rattle.busdma_rules.specs.Segments.Trace.{bus_trace, placed}
 
 same-placed : (keep : Bool) (page at : ℕ) (es : List Entry) (pages : List Pa) →
     placed keep (device_chunks page at es) pages ≡ device_chunks page at es

@@ -9,8 +9,8 @@ use Rattle.busdma_machine.specs.declared.tags.tag.TagLimits.{TagLimits}
 use Rattle.busdma_machine.specs.Tags.Tag.{IsAccepted, IsEffective, is_accepted, is_alignment, is_boundary}
 use Rattle.busdma_machine.specs.Tags.Tag.{is_power_of_two}
 use Rattle.busdma_machine.specs.Tags.Tag.{segment_limit, rounded, inherit, effective}
-use Rattle.dma_tag.proofs.Effective.{IsEffective-rounded, IsEffective-inherit}
-use Rattle.dma_tag.proofs.Powers.{power_of_divisor}
+use Rattle.busdma_rules.proofs.Tags.Effective.{IsEffective-rounded, IsEffective-inherit}
+use Rattle.busdma_rules.proofs.Tags.Powers.{power_of_divisor}
 use Rattle.ideal_wire.proofs.Positions.{found_one}
 
 -- a number that passes the test is a power of two

@@ -1,8 +1,8 @@
 -- What is known of the positions of loads where the wire is faithful.
 use Rattle.std.proofs.Common.{◌≡◌, ℕ, Bool, true, false, ◌||◌, slice_get, refl, sym, ap, ◌∙◌}
 use Rattle.std.proofs.lemmas.Bool.{false≢true}
-use Rattle.loan_table.specs.declared.position.Position.{Position}
-use Rattle.loan_table.specs.Loans.{loan_of, in_any_way}
+use Rattle.busdma_rules.specs.declared.position.Position.{Position}
+use Rattle.busdma_rules.specs.Lending.Loans.{loan_of, in_any_way}
 use Rattle.ideal_lane.specs.State.{LaneState}
 use Rattle.ideal_wire.specs.Centre.{IsAt, IsPlacedAt, IsExclusive}
 use Rattle.busdma_machine.specs.Machine.Wire.{Traces, Placed}

@@ -11,11 +11,11 @@ use Rattle.busdma_machine.specs.declared.report.ReportName.TheVariants.{DeviceRe
 use Rattle.busdma_machine.specs.declared.report.ReportName.TheVariants.{StaleByte}
 use Rattle.busdma_machine.specs.Judging.{judged}
 use Rattle.busdma_machine.specs.Machine.Wire.{Wire, Traces, Placed, buffers, buses, stretch, put}
-use Rattle.phys_memory.specs.Translation.{missing, unreached, physical_or_0}
-use Rattle.loan_table.specs.declared.position.Position.{Position}
-use Rattle.loan_table.specs.Loans.{loan_of, to_write, in_any_way, lent, addresses_of, load_bytes}
-use Rattle.loan_table.specs.Access.{cpu_read_answer, cpu_write_answer, dev_read_answer, dev_write_answer}
-use Rattle.loan_table.specs.Access.{cpu_read_refusal, cpu_write_refusal, dev_read_refusal, dev_write_refusal}
+use Rattle.busdma_rules.specs.Memory.Translation.{missing, unreached, physical_or_0}
+use Rattle.busdma_rules.specs.declared.position.Position.{Position}
+use Rattle.busdma_rules.specs.Lending.Loans.{loan_of, to_write, in_any_way, lent, addresses_of, load_bytes}
+use Rattle.busdma_rules.specs.Lending.Access.{cpu_read_answer, cpu_write_answer, dev_read_answer, dev_write_answer}
+use Rattle.busdma_rules.specs.Lending.Access.{cpu_read_refusal, cpu_write_refusal, dev_read_refusal, dev_write_refusal}
 use Rattle.ideal_lane.specs.Accesses.{values}
 use Rattle.ideal_lane.specs.IdealMemory.{Known, is_known, value, written}
 use Rattle.ideal_lane.specs.Places.{physical, bytes_at}

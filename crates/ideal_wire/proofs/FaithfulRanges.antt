@@ -4,9 +4,9 @@ use Rattle.std.proofs.lemmas.Bool.{false≢true}
 use Rattle.std.specs.List.{filter}
 use Rattle.busdma_machine.specs.declared.report.Judged.TheVariants.{Fine}
 use Rattle.busdma_machine.specs.Judging.{judged}
-use Rattle.dma_tag.specs.SyncOps.{preread, prewrite, postread, postwrite, has_pre, has_post, is_mixed}
-use Rattle.loan_table.specs.Loans.{loan_of, addresses_of}
-use Rattle.loan_table.specs.Lending.{loses, sync_refusal, sync_answer}
+use Rattle.busdma_rules.specs.Tags.SyncOps.{preread, prewrite, postread, postwrite, has_pre, has_post, is_mixed}
+use Rattle.busdma_rules.specs.Lending.Loans.{loan_of, addresses_of}
+use Rattle.busdma_rules.specs.Lending.Syncing.{loses, sync_refusal, sync_answer}
 use Rattle.ideal_wire.proofs.Placed.{Faithful}
 use Rattle.ideal_lane.specs.IdealMemory.{forgotten}
 use Rattle.busdma_machine.specs.Machine.Wire.{Wire, Traces, stretch}

@@ -6,9 +6,9 @@ use Rattle.busdma_machine.specs.declared.report.ReportName.TheVariants.{DeviceRe
 use Rattle.busdma_machine.specs.Judging.{judged}
 use Rattle.busdma_machine.specs.Machine.Wire.{Wire, put}
 use Rattle.busdma_machine.specs.Runs.{run_of}
-use Rattle.iommu_map.specs.Space.{translated}
-use Rattle.loan_table.specs.Access.{dev_read_refusal, dev_write_refusal}
-use Rattle.loan_table.specs.Loans.{to_read, to_write}
+use Rattle.busdma_rules.specs.Iommu.Space.{translated}
+use Rattle.busdma_rules.specs.Lending.Access.{dev_read_refusal, dev_write_refusal}
+use Rattle.busdma_rules.specs.Lending.Loans.{to_read, to_write}
 use Rattle.ideal_lane.specs.Accesses.{raw_bytes, raw_refusal, values}
 use Rattle.ideal_lane.specs.IdealMemory.{is_known, value, written}
 use Rattle.ideal_lane.specs.State.{LaneState}

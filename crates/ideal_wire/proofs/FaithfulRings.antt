@@ -8,11 +8,11 @@ use Rattle.busdma_base.specs.declared.journals.answer.Answer.TheVariants as answ
 use Rattle.busdma_machine.specs.declared.report.Judged.TheVariants.{Fine}
 use Rattle.busdma_machine.specs.Judging.{judged}
 use Rattle.busdma_machine.specs.Machine.Wire.{Wire, put, stretch}
-use Rattle.loan_table.specs.declared.position.Position.{Position}
-use Rattle.loan_table.specs.Access.{dev_read_answer, dev_write_answer, dev_write_refusal}
-use Rattle.loan_table.specs.Loans.{Loan, loan_of, load_bytes}
-use Rattle.ring_device.specs.declared.descriptor.Descriptor.{Descriptor}
-use Rattle.ring_device.specs.Descriptors.{descriptor_of}
+use Rattle.busdma_rules.specs.declared.position.Position.{Position}
+use Rattle.busdma_rules.specs.Lending.Access.{dev_read_answer, dev_write_answer, dev_write_refusal}
+use Rattle.busdma_rules.specs.Lending.Loans.{Loan, loan_of, load_bytes}
+use Rattle.busdma_rules.specs.declared.descriptor.Descriptor.{Descriptor}
+use Rattle.busdma_rules.specs.Rings.Descriptors.{descriptor_of}
 use Rattle.ideal_lane.specs.Accesses.{values}
 use Rattle.ideal_lane.specs.Asking.{Asking, Gives, Asks}
 use Rattle.ideal_lane.specs.IdealMemory.{is_known}

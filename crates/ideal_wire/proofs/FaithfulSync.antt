@@ -7,12 +7,13 @@ use Rattle.std.proofs.lemmas.Map.Views.{exact_unsigned_eq}
 use Rattle.busdma_machine.specs.declared.report.ReportName.TheVariants.{SyncOrder, Overlap}
 use Rattle.busdma_machine.specs.declared.report.Judged.TheVariants.{Fine}
 use Rattle.busdma_machine.specs.Judging.{judged}
-use Rattle.dma_tag.specs.SyncOps.{preread, prewrite, postread, postwrite}
-use Rattle.loan_table.specs.declared.position.Position.{Position}
-use Rattle.loan_table.specs.Loans.{Loans, loan_of, to_write, to_read, in_any_way, lent, lent_elsewhere, stands_twice}
-use Rattle.loan_table.specs.Loans.{addresses_of}
-use Rattle.loan_table.specs.Lending.{marked, marked_range, loses, sync_refusal}
-use Rattle.loan_table.proofs.Marking.{same_bytes, addresses_of-marked_range}
+use Rattle.busdma_rules.specs.Tags.SyncOps.{preread, prewrite, postread, postwrite}
+use Rattle.busdma_rules.specs.declared.position.Position.{Position}
+use Rattle.busdma_rules.specs.Lending.Loans.{Loans, loan_of, to_write, to_read, in_any_way, lent, lent_elsewhere}
+use Rattle.busdma_rules.specs.Lending.Loans.{stands_twice}
+use Rattle.busdma_rules.specs.Lending.Loans.{addresses_of}
+use Rattle.busdma_rules.specs.Lending.Syncing.{marked, marked_range, loses, sync_refusal}
+use Rattle.busdma_rules.proofs.Lending.Marking.{same_bytes, addresses_of-marked_range}
 use Rattle.ideal_wire.specs.Centre.{IsAt, IsPlacedAt, Agrees, IsExclusive}
 use Rattle.ideal_wire.proofs.Placed.{ArePlaced, Faithful}
 use Rattle.ideal_lane.specs.IdealMemory.{IdealMemory, Known, forgotten}

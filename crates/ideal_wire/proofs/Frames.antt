@@ -21,7 +21,7 @@ use Rattle.busdma_machine.specs.Bounce.Serving.{is_holding}
 use Rattle.busdma_base.specs.Scenarios.PageRuns.{is_own}
 use Rattle.busdma_machine.proofs.Accounts.Counting.{count_by-append}
 use Rattle.busdma_machine.proofs.Accounts.Names.{same_map-same}
-use Rattle.segment_build.specs.Trace.{bus_extent}
+use Rattle.busdma_rules.specs.Segments.Trace.{bus_extent}
 use Rattle.lane_agreement.specs.OwnShare.{one_if, loaded_page}
 use Rattle.lane_agreement.specs.View as view
 use Rattle.lane_agreement.proofs.Own.{count-one, count-like}

@@ -9,12 +9,12 @@ use Rattle.busdma_machine.specs.declared.machine.address.Pa.{Pa}
 use Rattle.busdma_machine.specs.declared.machine.chunk.Chunk.{Chunk}
 use Rattle.busdma_machine.specs.Machine.Wire.{Placed, is_bounced}
 use Rattle.busdma_machine.specs.Runs.{run_of}
-use Rattle.map_sync.specs.Ranges.{placed_at, positions_of}
-use Rattle.map_sync.specs.Traces.{HasChunk, HasChunks}
-use Rattle.segment_build.specs.Chunks.{bounced_of}
-use Rattle.segment_build.specs.Trace.{IsPlaced, bus_extent, bus_from, chunk_extents, chunk_len}
-use Rattle.segment_build.proofs.Counting.{addresses_length}
-use Rattle.segment_build.proofs.Sound.{all_append}
+use Rattle.busdma_rules.specs.Syncs.Positions.{placed_at, positions_of}
+use Rattle.busdma_rules.specs.Syncs.Traces.{HasChunk, HasChunks}
+use Rattle.busdma_rules.specs.Segments.Chunks.{bounced_of}
+use Rattle.busdma_rules.specs.Segments.Trace.{IsPlaced, bus_extent, bus_from, chunk_extents, chunk_len}
+use Rattle.busdma_rules.proofs.Segments.Counting.{addresses_length}
+use Rattle.busdma_rules.proofs.Segments.Sound.{all_append}
 use Rattle.ideal_wire.specs.Traces.{bus_at, placed_from}
 use Rattle.ideal_wire.proofs.Loading.{Follow, before-all, chunk_bytes, chunks_bytes, past-chunk, placed-append}
 

@@ -20,7 +20,7 @@ use Rattle.busdma_machine.specs.Bounce.Places.{places, times}
 use Rattle.busdma_machine.specs.Bounce.Serving.{is_holding}
 use Rattle.busdma_base.specs.Scenarios.PageRuns.{IsPageRun, is_own, is_taken, share_frame}
 use Rattle.busdma_base.specs.Scenarios.Valid.{IsDriver}
-use Rattle.segment_build.specs.Segmentation.{segment_bytes}
+use Rattle.busdma_rules.specs.Segments.Segmentation.{segment_bytes}
 use Rattle.lane_agreement.specs.Agreement.{IsFit}
 use Rattle.lane_agreement.specs.OwnShare.{is_return, one_if}
 use Rattle.lane_agreement.specs.View.{Return}

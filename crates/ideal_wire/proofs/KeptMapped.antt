@@ -8,13 +8,13 @@ use Rattle.std.specs.List.{AllByRecursion, Contains}
 use Rattle.std.specs.Option.{option_map, option_map_or}
 use Rattle.busdma_machine.specs.declared.machine.address.Segment.{Segment}
 use Rattle.busdma_machine.specs.Machine.Wire.{buses}
-use Rattle.iommu_map.specs.Space.{AreRuns, DeviceRun, Space, entered, first_free, frame_at, has_page, left}
-use Rattle.iommu_map.specs.Space.{translated}
-use Rattle.iommu_map.proofs.Entering.{frame-left, frame-other}
-use Rattle.iommu_map.proofs.Members.{gap-new, left-others, place-in, put-others}
-use Rattle.iommu_map.proofs.Runs.{all-stay, run-apart, taken-gap}
-use Rattle.loan_table.specs.Loans.{addresses_of, loan_of}
-use Rattle.segment_build.specs.Segmentation.{segment_bytes}
+use Rattle.busdma_rules.specs.Iommu.Space.{AreRuns, DeviceRun, Space, entered, first_free, frame_at, has_page, left}
+use Rattle.busdma_rules.specs.Iommu.Space.{translated}
+use Rattle.busdma_rules.proofs.Iommu.Entering.{frame-left, frame-other}
+use Rattle.busdma_rules.proofs.Iommu.Members.{gap-new, left-others, place-in, put-others}
+use Rattle.busdma_rules.proofs.Iommu.Runs.{all-stay, run-apart, taken-gap}
+use Rattle.busdma_rules.specs.Lending.Loans.{addresses_of, loan_of}
+use Rattle.busdma_rules.specs.Segments.Segmentation.{segment_bytes}
 use Rattle.ideal_lane.specs.Loads.{is_device}
 use Rattle.ideal_lane.specs.Outcomes.{is_loaded}
 use Rattle.ideal_lane.specs.State.{LaneState, LaneMap, LaneTag, Stage, Idle, Waiting, Loaded, Returning}

@@ -22,12 +22,12 @@ use Rattle.busdma_machine.specs.Runs.{IsExtent}
 use Rattle.busdma_base.specs.Scenarios.Buffers.{IsBioOf}
 use Rattle.busdma_machine.specs.Tags.Tag.{effective, is_accepted, rounded, space_limits}
 use Rattle.busdma_machine.specs.Tags.TagFlags.{keep_pg_offset}
-use Rattle.iommu_load.specs.Device.{load_frames}
-use Rattle.iommu_map.proofs.Runs.{taken-fits, taken-gap}
-use Rattle.iommu_map.specs.Space.{Space, entered, first_free, left}
-use Rattle.iommu_map.proofs.Runs.{gap-low, runs-left, runs-put}
-use Rattle.load_bio.specs.Bio.{is_rounded}
-use Rattle.phys_memory.proofs.Vectors.{entries_are}
+use Rattle.busdma_rules.specs.Iommu.Device.{load_frames}
+use Rattle.busdma_rules.proofs.Iommu.Runs.{taken-fits, taken-gap}
+use Rattle.busdma_rules.specs.Iommu.Space.{Space, entered, first_free, left}
+use Rattle.busdma_rules.proofs.Iommu.Runs.{gap-low, runs-left, runs-put}
+use Rattle.busdma_rules.specs.Memory.Bios.{is_rounded}
+use Rattle.busdma_rules.proofs.Memory.Vectors.{entries_are}
 use Rattle.ideal_lane.specs.Asking.{by_reply}
 use Rattle.ideal_lane.specs.Loads.{is_device, load_entries, load_translation, with_run}
 use Rattle.ideal_lane.specs.Opening.{opening_lane}

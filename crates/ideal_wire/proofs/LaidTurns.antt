@@ -20,14 +20,14 @@ use Rattle.busdma_machine.specs.Bounce.History.{IsFrame}
 use Rattle.busdma_machine.specs.Bounce.MemoryRuns.{frames_for, in_run, lowest_run}
 use Rattle.busdma_base.specs.Scenarios.Buffers.{IsBioOf}
 use Rattle.busdma_machine.specs.Tags.Tag.{excluded}
-use Rattle.dma_tag.specs.MemFlags.{coherent, zero_filled}
+use Rattle.busdma_rules.specs.Tags.MemFlags.{coherent, zero_filled}
 use Rattle.lane_agreement.specs.After.{addresses}
 use Rattle.lane_agreement.specs.Agreement.{IsFit}
 use Rattle.lane_agreement.proofs.Whole.{called-length, granted-length}
-use Rattle.lane_tables.specs.declared.queued.QueuedItem.{QueuedItem}
-use Rattle.loan_table.specs.Loans.{loan_of, no_loan}
-use Rattle.segment_build.specs.Chunks.{chunks_of, need_of}
-use Rattle.segment_build.specs.Trace.{IsPage}
+use Rattle.busdma_base.specs.declared.scenarios.queued.QueuedItem.{QueuedItem}
+use Rattle.busdma_rules.specs.Lending.Loans.{loan_of, no_loan}
+use Rattle.busdma_rules.specs.Segments.Chunks.{chunks_of, need_of}
+use Rattle.busdma_rules.specs.Segments.Trace.{IsPage}
 use Rattle.ideal_lane.specs.Agreement.{AgreesWith}
 use Rattle.ideal_lane.specs.Asking.{Asking, Gives, Asks, call_of, by_reply}
 use Rattle.ideal_lane.specs.Loads.{Asked, chunks_for, finished, limits_of, staged, zone_of}

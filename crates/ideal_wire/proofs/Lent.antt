@@ -13,8 +13,9 @@ use Rattle.std.specs.Ordering.{nat_cmp, eq_by_cmp, is_lt, MatchOrdering}
 use Rattle.std.specs.Cmp.{unsigned_tied, ranks}
 use Rattle.std.specs.FinMap.{get, entries, entries_sorted, get-entries}
 use Rattle.std.specs.FinMap.Entries.{find, is_sorted, below_all}
-use Rattle.loan_table.specs.declared.position.Position.{Position}
-use Rattle.loan_table.specs.Loans.{Loan, Loans, loan_of, no_loan, is_at, lends, lent, lent_elsewhere, stands_twice}
+use Rattle.busdma_rules.specs.declared.position.Position.{Position}
+use Rattle.busdma_rules.specs.Lending.Loans.{Loan, Loans, loan_of, no_loan, is_at, lends, lent, lent_elsewhere}
+use Rattle.busdma_rules.specs.Lending.Loans.{stands_twice}
 use Rattle.ideal_wire.specs.Centre.{IsAt}
 use Rattle.ideal_wire.proofs.Positions.{found_one}
 

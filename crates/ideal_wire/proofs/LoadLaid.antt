@@ -14,15 +14,15 @@ use Rattle.busdma_machine.specs.Bounce.AccountStep.{as_pages}
 use Rattle.busdma_machine.specs.Machine.Entry.{IsEntry, entries_addresses}
 use Rattle.busdma_machine.specs.Tags.Tag.{IsEffective}
 use Rattle.busdma_machine.specs.Tags.TagFlags.{keep_pg_offset}
-use Rattle.loan_table.specs.declared.position.Position.{Position}
-use Rattle.loan_table.specs.Loans.{Loan, loan_of, no_loan, new_loan, unlent}
-use Rattle.map_sync.specs.Traces.{HasChunks}
-use Rattle.segment_build.specs.Building.{tag_placed}
-use Rattle.segment_build.specs.Chunks.{bounced_of, chunks_of, need_of}
-use Rattle.segment_build.specs.Trace.{IsPage, IsPlaced, first_page, in_page, placed}
-use Rattle.segment_build.proofs.Covering.{chunks_at, chunks_cover}
-use Rattle.segment_build.proofs.Sound.{chunks_sound, placed_are}
-use Rattle.iommu_load.specs.Device.{device_chunks}
+use Rattle.busdma_rules.specs.declared.position.Position.{Position}
+use Rattle.busdma_rules.specs.Lending.Loans.{Loan, loan_of, no_loan, new_loan, unlent}
+use Rattle.busdma_rules.specs.Syncs.Traces.{HasChunks}
+use Rattle.busdma_rules.specs.Segments.Building.{tag_placed}
+use Rattle.busdma_rules.specs.Segments.Chunks.{bounced_of, chunks_of, need_of}
+use Rattle.busdma_rules.specs.Segments.Trace.{IsPage, IsPlaced, first_page, in_page, placed}
+use Rattle.busdma_rules.proofs.Segments.Covering.{chunks_at, chunks_cover}
+use Rattle.busdma_rules.proofs.Segments.Sound.{chunks_sound, placed_are}
+use Rattle.busdma_rules.specs.Iommu.Device.{device_chunks}
 use Rattle.std.proofs.Common.{◌+◌, not}
 use Rattle.std.proofs.lemmas.Bool.{eq-eqb, false≢true}
 use Rattle.busdma_machine.specs.Machine.Wire.{is_bounced}

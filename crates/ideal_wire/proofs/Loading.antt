@@ -11,10 +11,11 @@ use Rattle.busdma_machine.specs.declared.machine.chunk.Chunk.{Chunk}
 use Rattle.busdma_machine.specs.Each.{EachAfter}
 use Rattle.busdma_machine.specs.Machine.Wire.{Placed, buses}
 use Rattle.busdma_machine.specs.Runs.{addresses, run_of}
-use Rattle.segment_build.specs.Chunks.{bounced_of, need_of}
-use Rattle.segment_build.specs.Trace.{IsPage, IsPlaced, bus_addresses, bus_extent, bus_from, bus_trace, chunk_extents}
-use Rattle.segment_build.specs.Trace.{chunk_len, first_page, in_page, page_offset, placed}
-use Rattle.segment_build.proofs.Counting.{addresses_length}
+use Rattle.busdma_rules.specs.Segments.Chunks.{bounced_of, need_of}
+use Rattle.busdma_rules.specs.Segments.Trace.{IsPage, IsPlaced, bus_addresses, bus_extent, bus_from, bus_trace}
+use Rattle.busdma_rules.specs.Segments.Trace.{chunk_extents}
+use Rattle.busdma_rules.specs.Segments.Trace.{chunk_len, first_page, in_page, page_offset, placed}
+use Rattle.busdma_rules.proofs.Segments.Counting.{addresses_length}
 use Rattle.lane_agreement.specs.After as after
 use Rattle.ideal_wire.specs.Laid.{IsInPage}
 use Rattle.ideal_wire.specs.Traces.{bus_at, placed_from}

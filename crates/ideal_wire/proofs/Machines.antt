@@ -9,7 +9,7 @@ use Rattle.busdma_base.specs.declared.journals.journal.Side.{Side}
 use Rattle.busdma_machine.specs.declared.tags.tag.TagLimits.{TagLimits}
 use Rattle.busdma_base.specs.Scenarios.Valid.{LoadsFrom}
 use Rattle.busdma_machine.specs.Tags.Tag.{IsEffective, space_limits}
-use Rattle.dma_tag.specs.MemFlags.{coherent}
+use Rattle.busdma_rules.specs.Tags.MemFlags.{coherent}
 use Rattle.ideal_lane.specs.State.{LaneState, LaneTag, LaneMemory}
 use Rattle.ideal_lane.specs.Asking.{by_reply}
 use Rattle.ideal_lane.specs.Memories.{placed, without_memory}

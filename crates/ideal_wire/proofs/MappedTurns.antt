@@ -18,17 +18,17 @@ use Rattle.busdma_machine.specs.Runs.{run_of}
 use Rattle.busdma_base.specs.declared.journals.journal.Side.{Side}
 use Rattle.busdma_base.specs.declared.scenarios.scenario.Driver.{Driver}
 use Rattle.busdma_base.specs.Scenarios.Buffers.{IsBioOf}
-use Rattle.iommu_load.specs.Device.{device_chunks, load_frames}
-use Rattle.iommu_load.proofs.Carrying.{Carries, device-first, device-none, device-within}
-use Rattle.iommu_load.proofs.Spaces.{entered-carries}
-use Rattle.iommu_map.specs.Space.{DeviceRun, Space, end_of, entered, has_page, left, translated}
-use Rattle.iommu_map.proofs.Members.{gap-new, live-is, put-in}
-use Rattle.iommu_map.proofs.Runs.{taken-fits, taken-gap}
-use Rattle.loan_table.specs.Loans.{Loan, addresses_of, loan_of, new_loan, no_loan}
-use Rattle.loan_table.proofs.Marking.{addresses_of-synced}
-use Rattle.segment_build.specs.Obeying.{IsObeying}
-use Rattle.segment_build.specs.Segmentation.{segment_bytes}
-use Rattle.segment_build.specs.Trace.{bus_trace}
+use Rattle.busdma_rules.specs.Iommu.Device.{device_chunks, load_frames}
+use Rattle.busdma_rules.proofs.Iommu.Carrying.{Carries, device-first, device-none, device-within}
+use Rattle.busdma_rules.proofs.Iommu.Spaces.{entered-carries}
+use Rattle.busdma_rules.specs.Iommu.Space.{DeviceRun, Space, end_of, entered, has_page, left, translated}
+use Rattle.busdma_rules.proofs.Iommu.Members.{gap-new, live-is, put-in}
+use Rattle.busdma_rules.proofs.Iommu.Runs.{taken-fits, taken-gap}
+use Rattle.busdma_rules.specs.Lending.Loans.{Loan, addresses_of, loan_of, new_loan, no_loan}
+use Rattle.busdma_rules.proofs.Lending.Marking.{addresses_of-synced}
+use Rattle.busdma_rules.specs.Segments.Obeying.{IsObeying}
+use Rattle.busdma_rules.specs.Segments.Segmentation.{segment_bytes}
+use Rattle.busdma_rules.specs.Segments.Trace.{bus_trace}
 use Rattle.busdma_machine.specs.Machine.Wire.{buses}
 use Rattle.ideal_wire.specs.Traces.{stage_in, traces_of}
 use Rattle.ideal_lane.specs.Asking.{by_reply}
@@ -37,7 +37,7 @@ use Rattle.ideal_lane.specs.Loads.{with_run}
 use Rattle.ideal_lane.specs.Maps.{with_map}
 use Rattle.busdma_machine.specs.Machine.Entry.{entries_addresses}
 use Rattle.lane_agreement.specs.View.{returning}
-use Rattle.lane_tables.specs.declared.queued.QueuedItem.{QueuedItem}
+use Rattle.busdma_base.specs.declared.scenarios.queued.QueuedItem.{QueuedItem}
 use Rattle.ideal_wire.proofs.LaidTurns.{plain-tag}
 use Rattle.ideal_lane.specs.Opening.{opening_lane}
 use Rattle.ideal_lane.specs.Outcomes.{Outcome, is_loaded}
@@ -325,8 +325,8 @@ module _ (l : LaneState) (stands : Stands l) (laid : AreLaid l) (machine : IsInM
       with-load = record b.o {
         tried = true;
         stage = Loaded
-            (Rattle.segment_build.specs.Chunks.bounced_of
-            (Rattle.segment_build.specs.Building.tag_placed t cs (Rattle.busdma_machine.specs.Bounce.AccountStep.as_pages [])))
+            (Rattle.busdma_rules.specs.Segments.Chunks.bounced_of
+            (Rattle.busdma_rules.specs.Segments.Building.tag_placed t cs (Rattle.busdma_machine.specs.Bounce.AccountStep.as_pages [])))
             ss [];
       }
 

@@ -6,7 +6,7 @@ use Rattle.std.proofs.lemmas.Bool.{false≢true}
 use Rattle.std.specs.FinMap.{get}
 use Rattle.busdma_machine.specs.Bounce.MemoryRuns.{in_run}
 use Rattle.busdma_machine.specs.Tags.Tag.{excluded}
-use Rattle.loan_table.specs.Loans.{loan_of, no_loan}
+use Rattle.busdma_rules.specs.Lending.Loans.{loan_of, no_loan}
 use Rattle.ideal_lane.specs.IdealMemory.{Content, Known, Unknown, IdealMemory, joined}
 use Rattle.ideal_lane.specs.Loads.{limits_of, no_limits}
 use Rattle.ideal_lane.specs.Memories.{with_memory, without_memory}

@@ -9,12 +9,13 @@ use Rattle.busdma_machine.specs.Machine.Entry.{entries_addresses, entry_addresse
 use Rattle.busdma_machine.specs.Runs.{run_of}
 use Rattle.busdma_machine.specs.Tags.Tag.{IsEffective, could_bounce, excluded, needs_bounce}
 use Rattle.busdma_machine.specs.Tags.TagFlags.{keep_pg_offset}
-use Rattle.phys_memory.specs.Extents.{extents_of}
-use Rattle.phys_memory.specs.Vector.{with_entry}
-use Rattle.segment_build.specs.Chunks.{chunk_limit, chunk_of, chunks_of, chunks_of_bytes, chunks_within, extent_from}
-use Rattle.segment_build.specs.Chunks.{first_extent, rounded_up, to_frame_end}
-use Rattle.segment_build.proofs.Aligned.{multiple}
-use Rattle.segment_build.proofs.Sound.{divides_frame}
+use Rattle.busdma_rules.specs.Memory.Extents.{extents_of}
+use Rattle.busdma_rules.specs.Memory.Vectors.{with_entry}
+use Rattle.busdma_rules.specs.Segments.Chunks.{chunk_limit, chunk_of, chunks_of, chunks_of_bytes, chunks_within}
+use Rattle.busdma_rules.specs.Segments.Chunks.{extent_from}
+use Rattle.busdma_rules.specs.Segments.Chunks.{first_extent, rounded_up, to_frame_end}
+use Rattle.busdma_rules.proofs.Segments.Aligned.{multiple}
+use Rattle.busdma_rules.proofs.Segments.Sound.{divides_frame}
 
 -- the first byte of a frame that is not excluded needs no bounce page
 frame-aligned : (t : TagLimits) → IsEffective t → (a : ℕ) → a % 4096 ≡ 0 → a % t.alignment ≡ 0

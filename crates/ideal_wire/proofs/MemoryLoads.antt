@@ -19,14 +19,14 @@ use Rattle.busdma_machine.specs.Machine.VirtualPages.{pages_end}
 use Rattle.busdma_base.specs.Scenarios.PageRuns.{is_in_run, physical_in}
 use Rattle.busdma_machine.specs.Runs.{run_of}
 use Rattle.busdma_machine.specs.Tags.Tag.{IsEffective}
-use Rattle.phys_memory.specs.Extents.{reached}
-use Rattle.phys_memory.specs.Translation.{physical_or_0}
+use Rattle.busdma_rules.specs.Memory.Extents.{reached}
+use Rattle.busdma_rules.specs.Memory.Translation.{physical_or_0}
 use Rattle.busdma_machine.specs.Machine.Spans.{bio_spans, one_span, span_addresses, span_bytes}
-use Rattle.phys_memory.specs.Vector.{entries_of, with_entry}
-use Rattle.phys_memory.proofs.Extents.{reached_extents}
-use Rattle.phys_memory.proofs.Vectors.{entries_are}
-use Rattle.segment_build.specs.Chunks.{chunks_of, need_of}
-use Rattle.segment_build.proofs.Places.{run_length}
+use Rattle.busdma_rules.specs.Memory.Vectors.{entries_of, with_entry}
+use Rattle.busdma_rules.proofs.Memory.Extents.{reached_extents}
+use Rattle.busdma_rules.proofs.Memory.Vectors.{entries_are}
+use Rattle.busdma_rules.specs.Segments.Chunks.{chunks_of, need_of}
+use Rattle.busdma_rules.proofs.Segments.Places.{run_length}
 use Rattle.ideal_lane.specs.Loads.{chunks_for, is_foreign_to, limits_of, load_addresses, load_entries, load_judged}
 use Rattle.ideal_lane.specs.Loads.{one_entry}
 use Rattle.ideal_lane.specs.Places.{begin_of, or_in_memory, physical}

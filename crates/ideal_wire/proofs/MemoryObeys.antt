@@ -19,12 +19,12 @@ use Rattle.busdma_machine.specs.Machine.Entry.{entries_addresses, entry_addresse
 use Rattle.busdma_machine.specs.Machine.Wire.{buffers}
 use Rattle.busdma_machine.specs.Runs.{run_of}
 use Rattle.busdma_machine.specs.Tags.Tag.{IsEffective, excluded}
-use Rattle.segment_build.specs.Building.{tag_placed, placed_pieces}
-use Rattle.segment_build.specs.Chunks.{bounced_of, chunks_of}
-use Rattle.segment_build.specs.Obeying.{Obeys}
-use Rattle.segment_build.specs.Segmentation.{segmentation}
-use Rattle.segment_build.proofs.Cuts.{cut_is}
-use Rattle.segment_build.proofs.Obeys as obeying
+use Rattle.busdma_rules.specs.Segments.Building.{tag_placed, placed_pieces}
+use Rattle.busdma_rules.specs.Segments.Chunks.{bounced_of, chunks_of}
+use Rattle.busdma_rules.specs.Segments.Obeying.{Obeys}
+use Rattle.busdma_rules.specs.Segments.Segmentation.{segmentation}
+use Rattle.busdma_rules.proofs.Segments.Cuts.{cut_is}
+use Rattle.busdma_rules.proofs.Segments.Obeys as obeying
 use Rattle.ideal_lane.specs.Loads.{Asked, asked, chunks_for, finished, limits_of, load_judged, one_entry, unpaged}
 use Rattle.ideal_lane.specs.Outcomes.{Outcome}
 use Rattle.ideal_lane.specs.Standing.{Stands}

@@ -8,8 +8,8 @@ use Rattle.std.specs.FinMap.{empty, get, get-empty}
 use Rattle.busdma_base.specs.declared.scenarios.scenario.Driver.{Driver}
 use Rattle.busdma_base.specs.Scenarios.PageRuns.{is_own}
 use Rattle.busdma_machine.specs.Machine.Wire.{Wire}
-use Rattle.loan_table.specs.declared.position.Position.{Position}
-use Rattle.loan_table.specs.Loans.{Loan, loan_of, no_loan}
+use Rattle.busdma_rules.specs.declared.position.Position.{Position}
+use Rattle.busdma_rules.specs.Lending.Loans.{Loan, loan_of, no_loan}
 use Rattle.ideal_lane.specs.IdealMemory.{Known, value}
 use Rattle.ideal_lane.specs.Opening.{opening_lane, zeros}
 use Rattle.ideal_lane.specs.State.{LaneMap, LaneMemory}

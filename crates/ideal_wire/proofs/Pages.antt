@@ -17,8 +17,8 @@ use Rattle.busdma_machine.specs.Bounce.Growth.{serves_tag}
 use Rattle.busdma_machine.specs.Bounce.History.{IsFrame}
 use Rattle.busdma_machine.specs.Bounce.LowPages.{EndsWithin, PagesLieLow}
 use Rattle.busdma_machine.specs.Bounce.Serving.{handed, queued}
-use Rattle.segment_build.specs.Obeying.{IsReachable}
-use Rattle.segment_build.specs.Trace.{IsPage}
+use Rattle.busdma_rules.specs.Segments.Obeying.{IsReachable}
+use Rattle.busdma_rules.specs.Segments.Trace.{IsPage}
 
 -- frames that end at or below an address that is at or below lowaddr
 reach : (t : TagLimits) (limit : ℕ) (xs : List ℕ) → limit ≤ t.lowaddr.0 → All IsFrame xs →

@@ -7,7 +7,7 @@ use Rattle.busdma_base.specs.declared.scenarios.buffer.Buffer.{Buffer}
 use Rattle.busdma_machine.specs.declared.tags.tag.TagLimits.{TagLimits}
 use Rattle.busdma_machine.specs.Machine.VirtualPages.{pages_end}
 use Rattle.busdma_base.specs.Scenarios.PageRuns.{physical_in}
-use Rattle.segment_build.specs.Chunks.{chunks_of, need_of}
+use Rattle.busdma_rules.specs.Segments.Chunks.{chunks_of, need_of}
 use Rattle.ideal_lane.specs.Loads.{load_entries}
 use Rattle.ideal_lane.specs.Places.{begin_of}
 use Rattle.ideal_lane.specs.State.{LaneState, LaneMemory}

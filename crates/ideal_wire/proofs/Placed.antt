@@ -1,8 +1,8 @@
 -- A faithful wire, with what the frames of pages and buffers say of it.
 use Rattle.std.proofs.Common.{◌≡◌, ℕ, Bool, true, false, Some}
 use Rattle.busdma_machine.specs.Machine.Wire.{Wire, Traces, Placed, buffers}
-use Rattle.loan_table.specs.declared.position.Position.{Position}
-use Rattle.loan_table.specs.Loans.{loan_of, addresses_of}
+use Rattle.busdma_rules.specs.declared.position.Position.{Position}
+use Rattle.busdma_rules.specs.Lending.Loans.{loan_of, addresses_of}
 use Rattle.ideal_lane.specs.IdealMemory.{Known}
 use Rattle.ideal_lane.specs.Places.{physical}
 use Rattle.ideal_lane.specs.State.{LaneState}

@@ -11,8 +11,8 @@ use Rattle.busdma_machine.specs.Bounce.MemoryRuns.{in_run}
 use Rattle.busdma_machine.specs.Machine.VirtualPages.{pages_end}
 use Rattle.busdma_base.specs.Scenarios.PageRuns.{is_own, is_in_run, physical_in}
 use Rattle.busdma_machine.specs.Machine.Wire.{Placed}
-use Rattle.loan_table.specs.declared.position.Position.{Position}
-use Rattle.loan_table.specs.Loans.{Loan, loan_of, no_loan, addresses_of}
+use Rattle.busdma_rules.specs.declared.position.Position.{Position}
+use Rattle.busdma_rules.specs.Lending.Loans.{Loan, loan_of, no_loan, addresses_of}
 use Rattle.ideal_lane.specs.Loads.{is_coherent}
 use Rattle.ideal_lane.specs.Places.{physical, or_in_memory, is_memory_byte, is_in_memory}
 use Rattle.ideal_lane.specs.State.{LaneState, LaneMemory, Stage, Idle, Waiting, Loaded, Returning}
@@ -188,7 +188,7 @@ module _ (l : LaneState) (laid : AreLaid l) where
             ∙ ap (λ cs. slice_get cs g.index) chunks ∙ g.has_chunk in
             let chunk : e.chunk ≡ g.chunk = found_one (slice_get x.bounced e.index) e.chunk g.chunk e.has_chunk
             there in
-            let base = ap (λ (c : Chunk). (Rattle.segment_build.specs.Trace.bus_extent c).pa.0) chunk in
+            let base = ap (λ (c : Chunk). (Rattle.busdma_rules.specs.Segments.Trace.bus_extent c).pa.0) chunk in
             let at = ap (λ (c : Chunk). c.at) chunk in
             omega (arith, e.bus_is, g.bus_is, e.behind, g.behind, base, at, same)
 

@@ -9,10 +9,10 @@ use Rattle.busdma_machine.specs.declared.machine.chunk.Chunk.{Chunk}
 use Rattle.busdma_machine.specs.declared.report.ReportName.{ReportName}
 use Rattle.busdma_machine.specs.declared.report.ReportName.TheVariants.{Untranslated}
 use Rattle.busdma_machine.specs.Machine.Wire.{Placed, buses}
-use Rattle.iommu_map.specs.Space.{translated}
-use Rattle.loan_table.specs.declared.position.Position.{Position}
-use Rattle.loan_table.specs.Loans.{loan_of, addresses_of}
-use Rattle.segment_build.specs.Segmentation.{segment_bytes}
+use Rattle.busdma_rules.specs.Iommu.Space.{translated}
+use Rattle.busdma_rules.specs.declared.position.Position.{Position}
+use Rattle.busdma_rules.specs.Lending.Loans.{loan_of, addresses_of}
+use Rattle.busdma_rules.specs.Segments.Segmentation.{segment_bytes}
 use Rattle.ideal_lane.specs.Accesses.{position_in, raw_refusal, unless_unlent}
 use Rattle.ideal_lane.specs.Loads.{is_device}
 use Rattle.ideal_lane.specs.Outcomes.{is_loaded}

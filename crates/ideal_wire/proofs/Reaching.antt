@@ -16,11 +16,11 @@ use Rattle.busdma_machine.specs.Machine.VirtualPages.{pages_end}
 use Rattle.busdma_base.specs.Scenarios.PageRuns.{is_own, is_in_run, physical_in}
 use Rattle.busdma_machine.specs.Machine.Spans.{bio_spans, span_addresses}
 use Rattle.busdma_machine.specs.Runs.{addresses, run_of}
-use Rattle.phys_memory.specs.Extents.{extents_of, reached, then_reached}
-use Rattle.phys_memory.specs.Translation.{Translation, physical_or_0}
-use Rattle.phys_memory.specs.Vector.{entries_of, with_entry}
-use Rattle.phys_memory.proofs.Extents.{reached_extents}
-use Rattle.phys_memory.proofs.Paged.{KeepsPlaces, IsPaged}
+use Rattle.busdma_rules.specs.Memory.Extents.{extents_of, reached, then_reached}
+use Rattle.busdma_rules.specs.Memory.Translation.{Translation, physical_or_0}
+use Rattle.busdma_rules.specs.Memory.Vectors.{entries_of, with_entry}
+use Rattle.busdma_rules.proofs.Memory.Extents.{reached_extents}
+use Rattle.busdma_rules.proofs.Memory.Paged.{KeepsPlaces, IsPaged}
 use Rattle.ideal_lane.specs.Loads.{is_foreign_in, load_refusal, load_judged, load_translation}
 use Rattle.ideal_lane.specs.Places.{physical, or_in_memory, is_memory_byte, is_in_memory}
 use Rattle.ideal_lane.specs.State.{LaneState}

@@ -8,8 +8,8 @@ use Rattle.busdma_machine.specs.declared.report.Errno.TheVariants.{EINVAL}
 use Rattle.busdma_machine.specs.declared.report.Judged.TheVariants.{Fine}
 use Rattle.busdma_machine.specs.declared.report.Report.{Report}
 use Rattle.busdma_machine.specs.Machine.Wire.{Wire}
-use Rattle.loan_table.specs.Access.{dev_read_answer}
-use Rattle.loan_table.specs.Loans.{loan_of, load_bytes}
+use Rattle.busdma_rules.specs.Lending.Access.{dev_read_answer}
+use Rattle.busdma_rules.specs.Lending.Loans.{loan_of, load_bytes}
 use Rattle.ideal_lane.specs.Accesses.{values}
 use Rattle.ideal_lane.specs.Asking.{Asking}
 use Rattle.ideal_lane.specs.IdealMemory.{is_known}

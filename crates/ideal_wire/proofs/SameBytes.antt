@@ -7,9 +7,9 @@ use Rattle.busdma_machine.specs.Machine.Spans.{bio_spans, span_addresses}
 use Rattle.busdma_machine.specs.declared.machine.bio.Bio.{Bio}
 use Rattle.busdma_machine.specs.declared.machine.bio.Bio.TheVariants.{Mapped, Vector, Unmapped}
 use Rattle.busdma_base.specs.Scenarios.PageRuns.{physical_in}
-use Rattle.load_bio.specs.Bio.{bio_translation, is_rounded}
-use Rattle.phys_memory.specs.Translation.{physical_or_0}
-use Rattle.phys_memory.specs.Vector.{entries_of}
+use Rattle.busdma_rules.specs.Memory.Bios.{bio_translation, is_rounded}
+use Rattle.busdma_rules.specs.Memory.Translation.{physical_or_0}
+use Rattle.busdma_rules.specs.Memory.Vectors.{entries_of}
 use Rattle.ideal_lane.specs.Loads.{is_foreign_in, is_foreign_to, load_addresses, load_entries, load_judged, load_refusal}
 use Rattle.ideal_lane.specs.Loads.{load_translation}
 use Rattle.ideal_lane.specs.Places.{is_in_memory, or_in_memory, physical, physical_of}

@@ -7,10 +7,10 @@ use Rattle.std.specs.Option.{option_map_or}
 use Rattle.busdma_machine.specs.declared.tags.tag.TagLimits.{TagLimits}
 use Rattle.busdma_machine.specs.Runs.{run_of}
 use Rattle.lane_agreement.specs.View.{Return, returning}
-use Rattle.loan_table.specs.Lending.{lost, lost_by_forgetting, marked_range}
-use Rattle.loan_table.specs.Lending as lending
-use Rattle.loan_table.specs.Loans.{Loan, Loans, addresses_of, loan_of, no_loan, load_bytes}
-use Rattle.loan_table.proofs.Marking.{addresses_of-synced}
+use Rattle.busdma_rules.specs.Lending.Syncing.{lost, lost_by_forgetting, marked_range}
+use Rattle.busdma_rules.specs.Lending.Syncing as lending
+use Rattle.busdma_rules.specs.Lending.Loans.{Loan, Loans, addresses_of, loan_of, no_loan, load_bytes}
+use Rattle.busdma_rules.proofs.Lending.Marking.{addresses_of-synced}
 use Rattle.ideal_lane.specs.Accesses.{raw_bytes}
 use Rattle.ideal_lane.specs.Loads.{emptied, is_device, limits_of, no_limits, staged, unpaged}
 use Rattle.ideal_lane.specs.Maps.{with_map, without_map}
@@ -19,12 +19,12 @@ use Rattle.ideal_lane.specs.Places.{bytes_at}
 use Rattle.ideal_lane.specs.Standing.{Stands}
 use Rattle.ideal_lane.specs.State.{LaneState, LaneTag, LaneMap, LaneMemory, Stage, Idle, Waiting, Loaded, Returning}
 use Rattle.ideal_lane.specs.Tags.{with_tag, has_maps, with_device_tag}
-use Rattle.iommu_map.specs.Space.{Space}
+use Rattle.busdma_rules.specs.Iommu.Space.{Space}
 use Rattle.ideal_lane.specs.State.{no_space}
 use Rattle.ideal_lane.specs.Tags.{with_space}
 use Rattle.ideal_lane.specs.Rings.{head_of, posted}
 use Rattle.ideal_lane.specs.Unloads.{unlent, unmapped, pages_of, restaged, segments_in, after_return}
-use Rattle.ring_device.specs.Descriptors.{descriptor_bytes}
+use Rattle.busdma_rules.specs.Rings.Descriptors.{descriptor_bytes}
 use Rattle.ideal_lane.proofs.Effects.{DeviceWrites, Fetches, Posts, RawWrites, Same, Syncs, Touches, Work, Writes}
 use Rattle.ideal_lane.proofs.Effects.{after_fetch, after_sync, after_write}
 use Rattle.ideal_lane.proofs.Lookups.{get_put}

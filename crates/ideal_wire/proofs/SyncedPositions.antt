@@ -9,12 +9,12 @@ use Rattle.std.proofs.lemmas.Map.Views.{exact_unsigned_eq}
 use Rattle.std.specs.Option.{option_or}
 use Rattle.std.specs.Cmp.{unsigned_tied}
 use Rattle.busdma_machine.specs.declared.report.ReportName.{ReportName}
-use Rattle.dma_tag.specs.SyncOps.{preread, prewrite, postread}
-use Rattle.loan_table.specs.declared.position.Position.{Position}
-use Rattle.loan_table.specs.Loans.{Loan, Loans, loan_of, addresses_of}
-use Rattle.loan_table.specs.Lending.{marked, marked_range, sync_refusal, prewrite_refusal, preread_refusal}
-use Rattle.loan_table.specs.Lending.{postread_refusal}
-use Rattle.loan_table.proofs.Marking.{loan_of-insert}
+use Rattle.busdma_rules.specs.Tags.SyncOps.{preread, prewrite, postread}
+use Rattle.busdma_rules.specs.declared.position.Position.{Position}
+use Rattle.busdma_rules.specs.Lending.Loans.{Loan, Loans, loan_of, addresses_of}
+use Rattle.busdma_rules.specs.Lending.Syncing.{marked, marked_range, sync_refusal, prewrite_refusal, preread_refusal}
+use Rattle.busdma_rules.specs.Lending.Syncing.{postread_refusal}
+use Rattle.busdma_rules.proofs.Lending.Marking.{loan_of-insert}
 use Rattle.ideal_wire.specs.Centre.{IsAt}
 use Rattle.ideal_lane.specs.IdealMemory.{IdealMemory, Content, Known, Unknown, forgotten}
 use Rattle.ideal_wire.proofs.Positions.{changed_in, changed_out, changed_from, Changed, found_one}

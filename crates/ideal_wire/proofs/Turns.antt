@@ -18,11 +18,11 @@ use Rattle.busdma_machine.specs.Bounce.Account.{Account}
 use Rattle.busdma_machine.specs.Bounce.MemoryRuns.{in_run}
 use Rattle.busdma_machine.specs.Machine.Entry.{entries_addresses}
 use Rattle.busdma_machine.specs.Machine.Wire.{Wire}
-use Rattle.dma_tag.specs.MemFlags.{zero_filled}
+use Rattle.busdma_rules.specs.Tags.MemFlags.{zero_filled}
 use Rattle.lane_agreement.specs.View.{Return}
-use Rattle.lane_tables.specs.declared.queued.QueuedItem.{QueuedItem}
-use Rattle.loan_table.specs.declared.position.Position.{Position}
-use Rattle.loan_table.specs.Loans.{loan_of, no_loan}
+use Rattle.busdma_base.specs.declared.scenarios.queued.QueuedItem.{QueuedItem}
+use Rattle.busdma_rules.specs.declared.position.Position.{Position}
+use Rattle.busdma_rules.specs.Lending.Loans.{loan_of, no_loan}
 use Rattle.ideal_lane.specs.State.{LaneState, LaneMap, LaneMemory, Stage, Idle, Waiting, Loaded, Returning}
 use Rattle.ideal_lane.specs.IdealMemory.{Content, Known, Unknown, is_known}
 use Rattle.ideal_lane.specs.Agreement.{AgreesWith}
@@ -66,7 +66,7 @@ use Rattle.busdma_machine.specs.declared.report.Judged.{Judged}
 use Rattle.busdma_machine.specs.declared.report.Judged.TheVariants.{Fine, Refused}
 use Rattle.busdma_machine.specs.declared.report.Report.{Report}
 use Rattle.busdma_machine.specs.declared.report.ReportName.TheVariants.{Absent, MapBusy}
-use Rattle.loan_table.specs.Access.{cpu_read_answer, cpu_write_answer}
+use Rattle.busdma_rules.specs.Lending.Access.{cpu_read_answer, cpu_write_answer}
 use Rattle.ideal_wire.proofs.Copied.{copied-faithful, copied-follows, copied-laid, copied-mapped, copied-new, copied-spaced}
 use Rattle.ideal_wire.proofs.Wiring.{Needs, now, touches-stay, undone}
 

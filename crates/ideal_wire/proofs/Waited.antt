@@ -2,7 +2,7 @@
 use Rattle.std.proofs.Common.{◌≡◌, ℕ, false, Option, Some, None, is_some, ap, sym}
 use Rattle.std.proofs.Common.{◌∙◌, refl, subst}
 use Rattle.std.specs.FinMap.{get}
-use Rattle.segment_build.specs.Chunks.{chunks_of, need_of}
+use Rattle.busdma_rules.specs.Segments.Chunks.{chunks_of, need_of}
 use Rattle.ideal_lane.specs.Loads.{Asked, asked, limits_of}
 use Rattle.ideal_lane.specs.Standing.{Stands}
 use Rattle.ideal_lane.specs.State.{LaneState, LaneMemory}

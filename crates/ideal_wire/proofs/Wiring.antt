@@ -11,25 +11,16 @@ use Rattle.busdma_machine.specs.Machine.Wire.{Wire, put}
 use Rattle.busdma_machine.specs.declared.report.ReportName.TheVariants.{DeviceReadUnlent}
 use Rattle.busdma_machine.specs.Judging.{judged as judged_by}
 use Rattle.busdma_machine.specs.Runs.{run_of}
-use Rattle.dma_tag.specs.SyncOps.{is_mixed}
-use Rattle.ring_device.specs.declared.descriptor.Descriptor.{Descriptor}
-use Rattle.ring_device.specs.Descriptors.{descriptor_bytes}
-use Rattle.loan_table.specs.Access.{cpu_read_answer, dev_read_answer, dev_read_refusal}
-use Rattle.loan_table.specs.Lending.{sync_answer, marked_range, lost}
-use Rattle.loan_table.specs.Loans.{loan_of, addresses_of, load_bytes}
-use Rattle.loan_table.proofs.Marking.{same_bytes, addresses_of-marked_range}
+use Rattle.busdma_rules.specs.Tags.SyncOps.{is_mixed}
+use Rattle.busdma_rules.specs.declared.descriptor.Descriptor.{Descriptor}
+use Rattle.busdma_rules.specs.Rings.Descriptors.{descriptor_bytes}
+use Rattle.busdma_rules.specs.Lending.Access.{cpu_read_answer, dev_read_answer, dev_read_refusal}
+use Rattle.busdma_rules.specs.Lending.Syncing.{sync_answer, marked_range, lost}
+use Rattle.busdma_rules.specs.Lending.Loans.{loan_of, addresses_of, load_bytes}
+use Rattle.busdma_rules.proofs.Lending.Marking.{same_bytes, addresses_of-marked_range}
 use Rattle.ideal_lane.specs.Accesses.{cpu_read, dev_read, dev_read_at, raw_bytes, raw_refusal, values}
 use Rattle.ideal_lane.specs.Asking.{Asking}
-use Rattle.ideal_lane.specs.IdealMemory.{
-  IdealMemory,
-  Content,
-  Known,
-  Unknown,
-  is_known,
-  has_address,
-  forgotten,
-  written,
-}
+use Rattle.ideal_lane.specs.IdealMemory.{IdealMemory, Content, Known, Unknown, is_known, has_address, forgotten, written}
 use Rattle.ideal_lane.specs.IdealMemory.{written_at}
 use Rattle.ideal_lane.specs.Outcomes.{Outcome, gives, unless_refused, unless_past, load_length}
 use Rattle.ideal_lane.specs.Places.{virtual_at, reached, bytes_at}

@@ -8,10 +8,10 @@ use Rattle.busdma_machine.specs.declared.machine.chunk.Chunk.{Chunk}
 use Rattle.busdma_machine.specs.declared.tags.tag.TagLimits.{TagLimits}
 use Rattle.busdma_machine.specs.Bounce.AccountStep.{as_pages}
 use Rattle.busdma_machine.specs.Machine.Wire.{buffers, buses}
-use Rattle.segment_build.specs.Building.{tag_placed}
-use Rattle.segment_build.specs.Chunks.{need_of}
-use Rattle.segment_build.specs.Obeying.{IsReachable, Obeys}
-use Rattle.segment_build.specs.Segmentation.{segment_bytes}
+use Rattle.busdma_rules.specs.Segments.Building.{tag_placed}
+use Rattle.busdma_rules.specs.Segments.Chunks.{need_of}
+use Rattle.busdma_rules.specs.Segments.Obeying.{IsReachable, Obeys}
+use Rattle.busdma_rules.specs.Segments.Segmentation.{segment_bytes}
 use Rattle.ideal_lane.specs.State.{LaneState}
 use Rattle.ideal_wire.specs.Traces.{traces_of}
 

@@ -3,8 +3,8 @@ use Rattle.std.specs.Prelude.{◌≡◌, ◌==◌, ℕ, Bool, if◌then◌else�
 use Rattle.std.specs.Prelude.{unwrap_or}
 use Rattle.busdma_machine.specs.declared.machine.chunk.Chunk.{Chunk}
 use Rattle.busdma_machine.specs.declared.machine.chunk.Entry.{Entry}
-use Rattle.iommu_load.specs.Device.{device_chunks, load_frames}
-use Rattle.iommu_map.specs.Space.{first_free, translated}
+use Rattle.busdma_rules.specs.Iommu.Device.{device_chunks, load_frames}
+use Rattle.busdma_rules.specs.Iommu.Space.{first_free, translated}
 use Rattle.std.specs.FinMap.{get, contains_key}
 use Rattle.std.specs.Option.{option_and_then, option_map}
 use Rattle.busdma_base.specs.declared.journals.journal.Did.{Did}

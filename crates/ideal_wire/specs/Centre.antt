@@ -1,7 +1,7 @@
 -- When the ideal memory and the wire agree, whatever the traces of the loads are.
 use Rattle.std.specs.Prelude.{◌≡◌, ℕ, true, false, Some, slice_get}
-use Rattle.loan_table.specs.declared.position.Position.{Position}
-use Rattle.loan_table.specs.Loans.{Loans, loan_of, to_write, in_any_way, lent}
+use Rattle.busdma_rules.specs.declared.position.Position.{Position}
+use Rattle.busdma_rules.specs.Lending.Loans.{Loans, loan_of, to_write, in_any_way, lent}
 use Rattle.busdma_machine.specs.Machine.Wire.{Wire, Traces, Placed}
 use Rattle.ideal_lane.specs.IdealMemory.{IdealMemory, Known}
 use Rattle.ideal_lane.specs.State.{LaneState}

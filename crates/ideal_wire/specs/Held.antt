@@ -5,7 +5,7 @@ use Rattle.std.specs.List.{filter}
 use Rattle.std.specs.Option.{option_map_or}
 use Rattle.busdma_machine.specs.Bounce.MemoryRuns.{in_run}
 use Rattle.busdma_base.specs.Scenarios.PageRuns.{is_own}
-use Rattle.segment_build.specs.Segmentation.{segment_bytes}
+use Rattle.busdma_rules.specs.Segments.Segmentation.{segment_bytes}
 use Rattle.ideal_lane.specs.State.{LaneState, LaneMap, LaneMemory}
 use Rattle.ideal_lane.specs.Unloads.{pages_of, segments_in}
 use Rattle.ideal_wire.specs.Answered.{found_at}

@@ -17,15 +17,15 @@ use Rattle.busdma_machine.specs.Machine.Wire.{buses}
 use Rattle.busdma_machine.specs.Runs.{IsExtent, run_of}
 use Rattle.busdma_base.specs.Scenarios.Buffers.{IsBioOf}
 use Rattle.busdma_machine.specs.Tags.Tag.{excluded}
-use Rattle.load_bio.specs.Bio.{bio_translation, is_rounded}
-use Rattle.loan_table.specs.declared.position.Position.{Position}
-use Rattle.loan_table.specs.Loans.{addresses_of, loan_of, no_loan}
-use Rattle.map_sync.specs.Traces.{HasChunks}
-use Rattle.phys_memory.specs.Translation.{Translation}
-use Rattle.phys_memory.specs.Vector.{entries_of}
-use Rattle.segment_build.specs.Chunks.{need_of}
-use Rattle.segment_build.specs.Segmentation.{segment_bytes}
-use Rattle.segment_build.specs.Trace.{bus_extent, chunk_extents}
+use Rattle.busdma_rules.specs.Memory.Bios.{bio_translation, is_rounded}
+use Rattle.busdma_rules.specs.declared.position.Position.{Position}
+use Rattle.busdma_rules.specs.Lending.Loans.{addresses_of, loan_of, no_loan}
+use Rattle.busdma_rules.specs.Syncs.Traces.{HasChunks}
+use Rattle.busdma_rules.specs.Memory.Translation.{Translation}
+use Rattle.busdma_rules.specs.Memory.Vectors.{entries_of}
+use Rattle.busdma_rules.specs.Segments.Chunks.{need_of}
+use Rattle.busdma_rules.specs.Segments.Segmentation.{segment_bytes}
+use Rattle.busdma_rules.specs.Segments.Trace.{bus_extent, chunk_extents}
 use Rattle.ideal_lane.specs.State.{LaneState, LaneMap, LaneMemory, Stage, Idle, Waiting, Loaded, Returning}
 use Rattle.ideal_lane.specs.State.{WaitingLoad}
 use Rattle.ideal_lane.specs.Asking.{Asking, Gives, Asks}

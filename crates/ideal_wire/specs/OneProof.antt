@@ -29,10 +29,10 @@ use Rattle.busdma_machine.specs.Machine.Wire.{Placed, Wire}
 use Rattle.busdma_base.specs.Scenarios.Buffers.{AreClustersFor, HasClusters, IsBioOf, IsBufferOf}
 use Rattle.busdma_base.specs.Scenarios.Operations.{about}
 use Rattle.busdma_base.specs.Scenarios.Valid.{LoadsFrom}
-use Rattle.loan_table.specs.contracts.position.Position as position
-use Rattle.loan_table.specs.Loans.{Loan}
-use Rattle.map_sync.specs.Traces.{HasChunk, HasChunks}
-use Rattle.segment_build.specs.Trace.{chunk_len}
+use Rattle.busdma_rules.specs.contracts.position.Position as position
+use Rattle.busdma_rules.specs.Lending.Loans.{Loan}
+use Rattle.busdma_rules.specs.Syncs.Traces.{HasChunk, HasChunks}
+use Rattle.busdma_rules.specs.Segments.Trace.{chunk_len}
 use Rattle.ideal_lane.specs.State.{LaneState, Stage, Idle, Waiting, Loaded, Returning}
 use Rattle.ideal_wire.specs.Answered.{Load}
 use Rattle.ideal_wire.specs.Apart.{IsApart}

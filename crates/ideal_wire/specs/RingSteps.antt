@@ -4,9 +4,9 @@ use Rattle.busdma_base.specs.declared.journals.answer.Answer.{Answer}
 use Rattle.busdma_base.specs.declared.journals.answer.Answer.TheVariants as answer
 use Rattle.busdma_machine.specs.declared.report.Judged.TheVariants.{Fine}
 use Rattle.busdma_machine.specs.Machine.Wire.{Wire}
-use Rattle.loan_table.specs.Access.{dev_read_answer}
-use Rattle.loan_table.specs.Loans.{load_bytes, loan_of}
-use Rattle.ring_device.specs.Descriptors.{descriptor_of}
+use Rattle.busdma_rules.specs.Lending.Access.{dev_read_answer}
+use Rattle.busdma_rules.specs.Lending.Loans.{load_bytes, loan_of}
+use Rattle.busdma_rules.specs.Rings.Descriptors.{descriptor_of}
 use Rattle.ideal_lane.specs.Accesses.{values}
 use Rattle.ideal_lane.specs.Asking.{Asking, Gives, Asks}
 use Rattle.ideal_lane.specs.IdealMemory.{is_known}

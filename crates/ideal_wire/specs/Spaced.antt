@@ -4,7 +4,7 @@ use Rattle.std.specs.FinMap.{get}
 use Rattle.std.specs.Option.{option_map_or}
 use Rattle.busdma_machine.specs.declared.tags.tag.TagLimits.{TagLimits}
 use Rattle.busdma_machine.specs.Tags.TagFlags.{keep_pg_offset}
-use Rattle.iommu_map.specs.Space.{AreRuns, Space}
+use Rattle.busdma_rules.specs.Iommu.Space.{AreRuns, Space}
 use Rattle.ideal_lane.specs.State.{LaneState, LaneTag, no_space}
 
 -- a tag asks no alignment and keeps no offsets, its device reaches no page above lowaddr, and its live runs rise

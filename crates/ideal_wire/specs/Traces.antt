@@ -7,8 +7,8 @@ use Rattle.std.specs.List.{list_any}
 use Rattle.busdma_machine.specs.declared.machine.chunk.Chunk.{Chunk}
 use Rattle.busdma_machine.specs.Bounce.MemoryRuns.{in_run}
 use Rattle.busdma_machine.specs.Machine.Wire.{Placed, Traces}
-use Rattle.loan_table.specs.Loans.{loan_of, addresses_of}
-use Rattle.segment_build.specs.Trace.{chunk_len, bus_extent}
+use Rattle.busdma_rules.specs.Lending.Loans.{loan_of, addresses_of}
+use Rattle.busdma_rules.specs.Segments.Trace.{chunk_len, bus_extent}
 use Rattle.ideal_lane.specs.State.{LaneState, LaneMap, Stage, Idle}
 use Rattle.ideal_lane.specs.Syncs.{bounced_in}
 

@@ -16,10 +16,10 @@ use Rattle.busdma_base.specs.declared.journals.journal.Side.TheVariants as side
 use Rattle.busdma_machine.specs.Machine.Wire.{Wire, Placed, buses, stretch, put, copied_in, copied_out}
 use Rattle.busdma_machine.specs.Runs.{run_of}
 use Rattle.busdma_base.specs.Scenarios.Operations.{bytes_of}
-use Rattle.dma_tag.specs.SyncOps.{prewrite, postread}
+use Rattle.busdma_rules.specs.Tags.SyncOps.{prewrite, postread}
 use Rattle.lane_agreement.specs.View.{Return}
-use Rattle.lane_tables.specs.declared.queued.QueuedItem.{QueuedItem}
-use Rattle.loan_table.specs.Loans.{loan_of}
+use Rattle.busdma_base.specs.declared.scenarios.queued.QueuedItem.{QueuedItem}
+use Rattle.busdma_rules.specs.Lending.Loans.{loan_of}
 use Rattle.ideal_lane.specs.State.{LaneState, LaneMap, LaneRing}
 use Rattle.ideal_lane.specs.Asking.{Asking, Gives, Asks}
 use Rattle.ideal_lane.specs.IdealMemory.{IdealMemory, Known, is_known}
@@ -30,14 +30,14 @@ use Rattle.ideal_lane.specs.Accesses as accesses
 use Rattle.ideal_lane.specs.Rings as rings
 use Rattle.ideal_lane.specs.Sends.{Send, chain_bytes, cluster_bytes, due_send}
 use Rattle.ideal_lane.specs.Loads.{load_judged}
-use Rattle.loan_table.specs.Access.{cpu_read_answer, cpu_write_answer}
+use Rattle.busdma_rules.specs.Lending.Access.{cpu_read_answer, cpu_write_answer}
 use Rattle.busdma_machine.specs.declared.machine.bio.Bio.TheVariants.{Vector}
 use Rattle.busdma_machine.specs.declared.report.Judged.{Judged}
 use Rattle.busdma_machine.specs.declared.report.Judged.TheVariants.{Fine, Refused}
 use Rattle.ideal_lane.specs.Syncs as syncs
 use Rattle.ideal_lane.specs.Unloads.{pages_of, segments_in}
-use Rattle.ring_device.specs.declared.descriptor.Descriptor.{Descriptor}
-use Rattle.ring_device.specs.Descriptors.{descriptor_bytes}
+use Rattle.busdma_rules.specs.declared.descriptor.Descriptor.{Descriptor}
+use Rattle.busdma_rules.specs.Rings.Descriptors.{descriptor_bytes}
 use Rattle.ideal_wire.specs.Traces.{stage_at, stage_in, is_in_pages, traces_of}
 
 -- What is done

@@ -17,8 +17,8 @@ ghost use Rattle.busdma_machine.specs.declared.bounce.hold.HoldEntry.{HoldEntry}
 ghost use Rattle.busdma_machine.specs.Bounce.LowPages.{PagesLieLow};
 ghost use Rattle.busdma_machine.specs.declared.machine.address.Segment.{Segment};
 ghost use Rattle.busdma_machine.specs.declared.machine.chunk.Chunk.{Chunk};
-ghost use Rattle.segment_build.specs.Obeying.{IsReachable};
-ghost use Rattle.segment_build.specs.Segmentation.{segment_bytes};
+ghost use Rattle.busdma_rules.specs.Segments.Obeying.{IsReachable};
+ghost use Rattle.busdma_rules.specs.Segments.Segmentation.{segment_bytes};
 ghost use Rattle.busdma_machine.specs.declared.bounce.hold.HubReply.{HubReply};
 ghost use Rattle.busdma_base.specs.declared.journals.journal.Side.{Side};
 ghost use Rattle.busdma_machine.specs.declared.report.Judged.TheVariants.{Fine};

@@ -132,9 +132,11 @@ module _ (more : More) where
       let o = own-step w e.actor l there in
       looks l o.reply (more e.actor.lane.0) e.actor.side
       (ap is_ended (sym o.turn) ∙ unended (step w e.actor).turn e h.0)) in
-      let entry : step_entry (world_with more w) e.actor ≡ Some e = ap (λ t. entry_of t.turn) same ∙ h.0 in
-      (entry, subst (λ t. Leads t.world es (world_with more end)) (sym same)
-      (leads-longer (step w e.actor).world es end h.1))
+      let entry : step_entry (world_with more w) e.actor ≡ Some e = ap (λ t. entry_of t.turn) same ∙ h.0 in (
+        entry,
+        subst (λ t. Leads t.world es (world_with more end)) (sym same)
+            (leads-longer (step w e.actor).world es end h.1),
+      )
 
   -- the scripts of a world's drivers are these drivers'
   record HasScript (ds : List Driver) (i : ℕ) (l : LaneState) : Type 0 where

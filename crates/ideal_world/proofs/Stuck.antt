@@ -18,8 +18,8 @@ use Rattle.lane_agreement.specs.OwnShare.{one_if}
 use Rattle.lane_agreement.specs.View as view
 use Rattle.lane_agreement.specs.View.{Return}
 use Rattle.lane_agreement.proofs.Asking.{known}
-use Rattle.lane_tables.specs.declared.queued.QueuedItem.{QueuedItem}
-use Rattle.lane_tables.specs.Queues.{queue_names}
+use Rattle.busdma_base.specs.declared.scenarios.queued.QueuedItem.{QueuedItem}
+use Rattle.busdma_base.specs.Scenarios.Queues.{queue_names}
 use Rattle.ideal_lane.specs.Asking.{Asking, Gives, Asks, goes_on}
 use Rattle.ideal_lane.specs.State.{LaneState, LaneMap, Stage, Idle, Waiting, Loaded, Returning, named}
 use Rattle.ideal_lane.specs.State.{WaitingLoad}

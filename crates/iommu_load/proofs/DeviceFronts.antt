@@ -5,10 +5,10 @@ use Rattle.busdma_machine.specs.declared.tags.tag.TagLimits.{TagLimits}
 use Rattle.busdma_machine.specs.Machine.Entry.{IsStream, entries_of, others_of}
 use Rattle.busdma_machine.specs.Runs.{byte_count, run_of}
 use Rattle.busdma_machine.specs.Tags.Tag.{IsEffective}
-use Rattle.segment_build.specs.Pieces.{chunk_pieces, pieces_of}
+use Rattle.busdma_rules.specs.Segments.Pieces.{chunk_pieces, pieces_of}
 use Rattle.segment_build.proofs.FrontsAsk.{IsStream-front}
 use Rattle.segment_build.proofs.LongerRuns.{run_longer}
-use Rattle.iommu_load.specs.Device.{device_chunks}
+use Rattle.busdma_rules.specs.Iommu.Device.{device_chunks}
 use Rattle.iommu_load.specs.DeviceStreams.{DeviceFrontsAskNoMore, HasDeviceRoom, IsInDevicePages, device_pieces}
 use Rattle.iommu_load.specs.DeviceStreams.{stream_frames}
 use Rattle.iommu_load.specs.Gathering.{after, ended, pieces_of_runs, ungathered}

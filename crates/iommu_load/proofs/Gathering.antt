@@ -14,12 +14,12 @@ use Rattle.busdma_machine.specs.declared.machine.chunk.Part.TheVariants.{Of, Unm
 use Rattle.busdma_machine.specs.declared.tags.tag.TagLimits.{TagLimits}
 use Rattle.busdma_machine.specs.Machine.Entry.{IsEntry, IsStream, entries_bytes, entries_of, others_of}
 use Rattle.busdma_machine.specs.Runs.{byte_count, run_of}
-use Rattle.segment_build.specs.Pieces.{chunk_pieces, pieces_of}
+use Rattle.busdma_rules.specs.Segments.Pieces.{chunk_pieces, pieces_of}
 use Rattle.iommu_load.specs.declared.gatherer.Gatherer.{Gatherer}
-use Rattle.iommu_load.specs.Device.{device_chunks, load_frames}
+use Rattle.busdma_rules.specs.Iommu.Device.{device_chunks, load_frames}
 use Rattle.iommu_load.specs.DeviceStreams.{IsInDevicePages, device_pieces, stream_frames}
 use Rattle.iommu_load.specs.Gathering.{after, after_part, ended, ended_run, pieces_of_runs, ungathered}
-use Rattle.iommu_load.proofs.Carrying.{ends}
+use Rattle.busdma_rules.proofs.Iommu.Carrying.{ends}
 
 -- how many bytes runs have
 abbrev pub run_bytes : List Segment → ℕ

@@ -12,12 +12,12 @@ use Rattle.busdma_machine.specs.declared.machine.chunk.Part.{Part}
 use Rattle.busdma_machine.specs.declared.machine.chunk.Part.TheVariants.{Of, Unmapped}
 use Rattle.busdma_machine.specs.Machine.Entry.{IsEntry, IsPart, IsStream, others_of, part_bytes}
 use Rattle.busdma_machine.specs.Runs.{IsExtent}
-use Rattle.segment_build.proofs.Sound.{all_append}
+use Rattle.busdma_rules.proofs.Segments.Sound.{all_append}
 use Rattle.std.specs.Iterator.{HoldsAlong, Yields}
 use Rattle.segment_build.proofs.Iterating.{holds_so_far}
 use Rattle.segment_build.proofs.PartByPart.{last_part}
 use Rattle.iommu_load.specs.declared.gatherer.Gatherer.{Gatherer}
-use Rattle.iommu_load.specs.Device.{load_frames}
+use Rattle.busdma_rules.specs.Iommu.Device.{load_frames}
 use Rattle.iommu_load.specs.DeviceStreams.{IsInDevicePages, stream_frames}
 use Rattle.iommu_load.specs.Gathering.{after, after_part, ended, ended_run, ungathered}
 use Rattle.iommu_load.proofs.DeviceFronts.{IsInDevicePages-front}

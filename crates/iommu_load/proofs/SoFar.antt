@@ -7,7 +7,7 @@ use Rattle.busdma_machine.specs.declared.machine.address.Segment.{Segment}
 use Rattle.busdma_machine.specs.declared.machine.chunk.Part.{Part}
 use Rattle.busdma_machine.specs.declared.tags.tag.TagLimits.{TagLimits}
 use Rattle.busdma_machine.specs.Machine.Entry.{IsStream}
-use Rattle.segment_build.specs.Built.{IsFew}
+use Rattle.busdma_rules.specs.Segments.Built.{IsFew}
 use Rattle.segment_build.proofs.Cuts.{cut_shorter, one_segmentation}
 use Rattle.segment_build.proofs.MorePieces.{still_many_with}
 use Rattle.iommu_load.specs.declared.gatherer.Gatherer.{Gatherer}

@@ -6,9 +6,9 @@ use Rattle.busdma_machine.specs.declared.machine.chunk.Part.{Part}
 use Rattle.busdma_machine.specs.declared.tags.tag.TagLimits.{TagLimits}
 use Rattle.busdma_machine.specs.Machine.Entry.{IsStream, entries_of}
 use Rattle.busdma_machine.specs.Room.{Roomy}
-use Rattle.segment_build.specs.Built.{AreTooMany, IsFew}
-use Rattle.segment_build.specs.Pieces.{chunk_pieces}
-use Rattle.iommu_load.specs.Device.{device_chunks, load_frames}
+use Rattle.busdma_rules.specs.Segments.Built.{AreTooMany, IsFew}
+use Rattle.busdma_rules.specs.Segments.Pieces.{chunk_pieces}
+use Rattle.busdma_rules.specs.Iommu.Device.{device_chunks, load_frames}
 
 -- the frames that the entries of a stream touch, one for each extent
 abbrev pub stream_frames : List Part → List ℕ

@@ -8,8 +8,8 @@ use Rattle.busdma_machine.specs.declared.machine.chunk.Part.{Part}
 use Rattle.busdma_machine.specs.declared.machine.chunk.Part.TheVariants.{Of, Unmapped}
 use Rattle.busdma_machine.specs.declared.tags.tag.TagLimits.{TagLimits}
 use Rattle.busdma_machine.specs.Runs.{run_of}
-use Rattle.segment_build.specs.Pieces.{pieces_of}
-use Rattle.segment_build.specs.Built.{AreTooMany, IsFew}
+use Rattle.busdma_rules.specs.Segments.Pieces.{pieces_of}
+use Rattle.busdma_rules.specs.Segments.Built.{AreTooMany, IsFew}
 use Rattle.iommu_load.specs.declared.gatherer.Gatherer.{Gatherer}
 
 -- before the first extent, whose device page is this

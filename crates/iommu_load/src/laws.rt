@@ -5,12 +5,12 @@ ghost use Rattle.std.specs.List.{All, AllByRecursion};
 ghost use Rattle.busdma_machine.specs.declared.machine.address.Segment.{Segment};
 ghost use Rattle.busdma_machine.specs.Machine.Entry.{IsEntry, entries_addresses};
 ghost use Rattle.busdma_machine.specs.Tags.TagFlags.{keep_pg_offset};
-ghost use Rattle.iommu_map.specs.Space.{IsSpace, Space, entered, first_free, translated};
-ghost use Rattle.segment_build.specs.Built.{IsFew};
-ghost use Rattle.segment_build.specs.Obeying.{Obeys};
-ghost use Rattle.segment_build.specs.Pieces.{chunk_pieces};
-ghost use Rattle.segment_build.specs.Segmentation.{segment_bytes, segmentation};
-ghost use Rattle.iommu_load.specs.Device.{device_chunks, load_frames};
+ghost use Rattle.busdma_rules.specs.Iommu.Space.{IsSpace, Space, entered, first_free, translated};
+ghost use Rattle.busdma_rules.specs.Segments.Built.{IsFew};
+ghost use Rattle.busdma_rules.specs.Segments.Obeying.{Obeys};
+ghost use Rattle.busdma_rules.specs.Segments.Pieces.{chunk_pieces};
+ghost use Rattle.busdma_rules.specs.Segments.Segmentation.{segment_bytes, segmentation};
+ghost use Rattle.busdma_rules.specs.Iommu.Device.{device_chunks, load_frames};
 ghost use Rattle.iommu_load.specs.DeviceStreams.{DeviceFrontsAskNoMore};
 
 use busdma_machine::Entry;

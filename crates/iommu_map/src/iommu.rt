@@ -5,7 +5,8 @@ ghost use Rattle.std.specs.Prelude.{IfOk, IfSome, OnErr, ℕ};
 ghost use Rattle.std.specs.Option.{option_map};
 ghost use Rattle.std.specs.List.{All, insert};
 ghost use Rattle.busdma_machine.specs.declared.machine.address.Pa.{Pa as Address};
-ghost use Rattle.iommu_map.specs.Space.{IsSpace, entered, first_free, gap, is_live, left, place_of, put_run, translated};
+ghost use Rattle.busdma_rules.specs.Iommu.Space.{IsSpace, entered, first_free, gap, is_live, left, put_run, translated};
+ghost use Rattle.iommu_map.specs.Space.{place_of};
 
 use crate::run::DeviceRun;
 use busdma_machine::Pa;
@@ -20,7 +21,7 @@ pub struct Iommu {
 }
 
 impl Model for Iommu {
-    ghost use Rattle.iommu_map.specs.Space.{IsSpace, Space};
+    ghost use Rattle.busdma_rules.specs.Iommu.Space.{IsSpace, Space};
 
     ghost Value = { Space };
 

@@ -2,7 +2,8 @@
 
 ghost use Rattle.std.specs.Prelude.{◌≡◌, ◌≢◌, ◌-◌, ◌≤◌, ℕ, List, true, false, Some, length, slice_get};
 ghost use Rattle.std.specs.List.{Contains};
-ghost use Rattle.iommu_map.specs.Space.{DeviceRun, IsSpace, Space, entered, first_free, frame_at, has_page, is_live, left};
+ghost use Rattle.busdma_rules.specs.Iommu.Space.{DeviceRun, IsSpace, Space, entered, first_free, frame_at, has_page};
+ghost use Rattle.busdma_rules.specs.Iommu.Space.{is_live, left};
 
 use crate::Iommu;
 

@@ -14,11 +14,11 @@ use Rattle.device_model.proofs.Accessing.{all_behind, first_of_run}
 use Rattle.dma_map.specs.MapView as held
 use Rattle.loan_table.proofs.Judgement.{length-run_of}
 use Rattle.map_sync.specs.Held.{IsHeld, paged}
-use Rattle.map_sync.specs.Ranges.{placed_at}
-use Rattle.map_sync.specs.Traces.{HasChunks}
+use Rattle.busdma_rules.specs.Syncs.Positions.{placed_at}
+use Rattle.busdma_rules.specs.Syncs.Traces.{HasChunks}
 use Rattle.phys_memory.specs.Extents.{LiesIn}
 use Rattle.phys_memory.specs.Memory.{Memory, has_frame}
-use Rattle.segment_build.specs.Trace.{bus_addresses, bus_extent, bus_from, chunk_extents, chunk_len}
+use Rattle.busdma_rules.specs.Segments.Trace.{bus_addresses, bus_extent, bus_from, chunk_extents, chunk_len}
 use Rattle.ideal_lane.specs.State.{LaneState}
 use Rattle.ideal_wire.specs.Laid.{IsInPage, IsOfExtents}
 use Rattle.ideal_wire.specs.Traces.{traces_of}

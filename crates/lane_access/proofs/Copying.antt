@@ -14,12 +14,13 @@ use Rattle.busdma_machine.specs.Machine.Wire.{with_bytes_of}
 use Rattle.busdma_machine.specs.Runs.{addresses}
 use Rattle.lane_state.specs.declared.kept.KeptLoad.{KeptLoad}
 use Rattle.dma_map.specs.MapView as held
-use Rattle.dma_tag.specs.SyncOps.{postread, prewrite}
-use Rattle.loan_table.specs.Loans.{loan_of}
-use Rattle.map_sync.specs.Ranges.{chunk_range, placed_at, positions_of, range_of_chunks}
+use Rattle.busdma_rules.specs.Tags.SyncOps.{postread, prewrite}
+use Rattle.busdma_rules.specs.Lending.Loans.{loan_of}
+use Rattle.map_sync.specs.Ranges.{chunk_range, range_of_chunks}
+use Rattle.busdma_rules.specs.Syncs.Positions.{placed_at, positions_of}
 use Rattle.map_sync.proofs.Traced.{ranges_alike}
 use Rattle.phys_memory.specs.Memory.{Memory, wire}
-use Rattle.segment_build.specs.Trace.{bus_addresses, chunk_extents, chunk_len}
+use Rattle.busdma_rules.specs.Segments.Trace.{bus_addresses, chunk_extents, chunk_len}
 use Rattle.ideal_lane.specs.Loads.{is_coherent}
 use Rattle.ideal_lane.specs.State.{LaneState, LaneMemory}
 use Rattle.ideal_lane.specs.Syncs.{has_byte_of}

@@ -9,9 +9,9 @@ use Rattle.busdma_base.specs.declared.scenarios.script.Place.{Place}
 use Rattle.busdma_machine.specs.Judging.{judged}
 use Rattle.busdma_machine.specs.Machine.Wire.{Wire, put}
 use Rattle.busdma_machine.specs.Runs.{run_of}
-use Rattle.loan_table.specs.Access.{cpu_write_answer}
+use Rattle.busdma_rules.specs.Lending.Access.{cpu_write_answer}
 use Rattle.phys_memory.specs.Memory as memory
-use Rattle.phys_memory.specs.Translation.{physical_or_0, unreached}
+use Rattle.busdma_rules.specs.Memory.Translation.{physical_or_0, unreached}
 use Rattle.ideal_lane.specs.Accesses.{cpu_write}
 use Rattle.ideal_lane.specs.Asking.{Asking, by_reply}
 use Rattle.ideal_lane.specs.IdealMemory.{written}

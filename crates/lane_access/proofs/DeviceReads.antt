@@ -6,8 +6,8 @@ use Rattle.busdma_base.specs.declared.journals.answer.Answer.TheVariants as answ
 use Rattle.busdma_machine.specs.declared.report.Judged.TheVariants.{Fine, Refused}
 use Rattle.busdma_machine.specs.declared.report.Report.{Report}
 use Rattle.busdma_machine.specs.declared.report.ReportName.TheVariants.{Absent, NotLoaded}
-use Rattle.loan_table.specs.Access.{dev_read_answer}
-use Rattle.loan_table.specs.Loans.{load_bytes, loan_of}
+use Rattle.busdma_rules.specs.Lending.Access.{dev_read_answer}
+use Rattle.busdma_rules.specs.Lending.Loans.{load_bytes, loan_of}
 use Rattle.loan_table.specs.Table.{buffer_of, is_known}
 use Rattle.device_model.specs.Access.{bus_range}
 use Rattle.dma_map.specs.MapView.{segments_of}

@@ -12,9 +12,9 @@ use Rattle.busdma_machine.specs.Machine.Wire.{put, stretch, with_bytes_of}
 use Rattle.device_model.specs.Access.{bus_range}
 use Rattle.lane_state.specs.declared.kept.KeptLoad.{KeptLoad}
 use Rattle.dma_map.specs.MapView as held
-use Rattle.loan_table.specs.declared.position.Position.{Position}
-use Rattle.loan_table.specs.Access.{dev_write_answer}
-use Rattle.loan_table.specs.Loans.{Loans, addresses_of, load_bytes, loan_of}
+use Rattle.busdma_rules.specs.declared.position.Position.{Position}
+use Rattle.busdma_rules.specs.Lending.Access.{dev_write_answer}
+use Rattle.busdma_rules.specs.Lending.Loans.{Loans, addresses_of, load_bytes, loan_of}
 use Rattle.loan_table.specs.Table.{AreIn, buffer_of, set_all}
 use Rattle.phys_memory.specs.Memory.{Memory, wire}
 use Rattle.ideal_lane.specs.Accesses.{dev_write}

@@ -5,8 +5,8 @@ use Rattle.std.specs.List.{AllByRecursion}
 use Rattle.busdma_machine.specs.declared.machine.address.Extent.{Extent}
 use Rattle.busdma_machine.specs.Machine.Wire.{stretch}
 use Rattle.busdma_machine.specs.Runs.{IsExtent, addresses, run_of}
-use Rattle.loan_table.specs.declared.position.Position.{Position}
-use Rattle.loan_table.specs.Loans.{addresses_of}
+use Rattle.busdma_rules.specs.declared.position.Position.{Position}
+use Rattle.busdma_rules.specs.Lending.Loans.{addresses_of}
 use Rattle.loan_table.specs.Table.{AreIn}
 use Rattle.loan_table.proofs.Addresses.{AreIn-append}
 use Rattle.loan_table.proofs.Pieces.{addresses_of-append, two_parts}

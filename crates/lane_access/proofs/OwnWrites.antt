@@ -3,7 +3,7 @@ use Rattle.std.proofs.Common.{◌≡◌, ℕ, Bool, true, List, length, refl, sy
 use Rattle.std.specs.Ordering.{nat_cmp}
 use Rattle.std.specs.FinMap.{FinMap}
 use Rattle.busdma_machine.specs.Machine.Wire.{put}
-use Rattle.loan_table.specs.Loans.{Loans}
+use Rattle.busdma_rules.specs.Lending.Loans.{Loans}
 use Rattle.loan_table.specs.Table.{AreIn, set_all}
 use Rattle.phys_memory.specs.Memory.{Memory, wire}
 use Rattle.ideal_lane.specs.IdealMemory.{written}

@@ -14,7 +14,7 @@ use Rattle.busdma_machine.specs.declared.report.ReportName.TheVariants.{Absent, 
 use Rattle.busdma_machine.specs.Judging.{judged}
 use Rattle.busdma_machine.specs.Machine.Wire.{put}
 use Rattle.busdma_machine.specs.Runs.{run_of}
-use Rattle.iommu_map.specs.Space.{translated}
+use Rattle.busdma_rules.specs.Iommu.Space.{translated}
 use Rattle.loan_table.specs.Table.{AreIn}
 use Rattle.ideal_lane.specs.Accesses.{dev_read_at, dev_write_at, position_in, raw_bytes, unless_unlent, values}
 use Rattle.ideal_lane.specs.Asking.{Asking, by_reply}

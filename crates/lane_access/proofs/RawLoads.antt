@@ -10,12 +10,12 @@ use Rattle.busdma_machine.specs.declared.report.ReportName.{ReportName}
 use Rattle.busdma_machine.specs.Machine.Wire.{Placed, buses}
 use Rattle.device_model.proofs.Walk.{bytes_length}
 use Rattle.dma_map.specs.MapView as held
-use Rattle.iommu_map.specs.Space.{translated}
-use Rattle.loan_table.specs.declared.position.Position.{Position}
-use Rattle.loan_table.specs.Loans.{addresses_of, loan_of}
+use Rattle.busdma_rules.specs.Iommu.Space.{translated}
+use Rattle.busdma_rules.specs.declared.position.Position.{Position}
+use Rattle.busdma_rules.specs.Lending.Loans.{addresses_of, loan_of}
 use Rattle.loan_table.specs.Table.{HasMap, buffer_of}
-use Rattle.segment_build.specs.Obeying.{segments_bytes}
-use Rattle.segment_build.specs.Segmentation.{segment_bytes}
+use Rattle.busdma_rules.specs.Segments.Obeying.{segments_bytes}
+use Rattle.busdma_rules.specs.Segments.Segmentation.{segment_bytes}
 use Rattle.ideal_lane.specs.Accesses.{raw_refusal}
 use Rattle.ideal_lane.specs.Loads.{is_device}
 use Rattle.ideal_lane.specs.Outcomes.{is_loaded}

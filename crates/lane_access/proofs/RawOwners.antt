@@ -10,12 +10,12 @@ use Rattle.std.specs.List.{Contains}
 use Rattle.std.specs.Option.{option_map_or}
 use Rattle.busdma_machine.specs.declared.machine.address.Segment.{Segment}
 use Rattle.dma_map.specs.MapView as held
-use Rattle.iommu_map.specs.Space.{AreRuns, DeviceRun, end_of, has_page, translated}
-use Rattle.iommu_map.proofs.Members.{live-is, place-in}
-use Rattle.iommu_map.proofs.Runs.{run-apart}
-use Rattle.loan_table.specs.Loans.{loan_of}
-use Rattle.segment_build.specs.Obeying.{segments_bytes}
-use Rattle.segment_build.specs.Segmentation.{segment_bytes}
+use Rattle.busdma_rules.specs.Iommu.Space.{AreRuns, DeviceRun, end_of, has_page, translated}
+use Rattle.busdma_rules.proofs.Iommu.Members.{live-is, place-in}
+use Rattle.busdma_rules.proofs.Iommu.Runs.{run-apart}
+use Rattle.busdma_rules.specs.Lending.Loans.{loan_of}
+use Rattle.busdma_rules.specs.Segments.Obeying.{segments_bytes}
+use Rattle.busdma_rules.specs.Segments.Segmentation.{segment_bytes}
 use Rattle.ideal_lane.specs.Accesses.{place_in, position_in}
 use Rattle.ideal_lane.specs.Outcomes.{is_loaded}
 use Rattle.ideal_lane.specs.State.{LaneState, LaneTag}

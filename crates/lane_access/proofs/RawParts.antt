@@ -8,9 +8,9 @@ use Rattle.busdma_machine.specs.declared.report.ReportName.TheVariants.{Untransl
 use Rattle.busdma_machine.specs.Judging.{judged}
 use Rattle.busdma_machine.specs.Machine.Wire.{stretch}
 use Rattle.busdma_machine.specs.Runs.{run_of}
-use Rattle.iommu_map.specs.Space.{translated}
-use Rattle.loan_table.specs.declared.position.Position.{Position}
-use Rattle.loan_table.specs.Loans.{loan_of}
+use Rattle.busdma_rules.specs.Iommu.Space.{translated}
+use Rattle.busdma_rules.specs.declared.position.Position.{Position}
+use Rattle.busdma_rules.specs.Lending.Loans.{loan_of}
 use Rattle.loan_table.proofs.Judgement.{judged-some, length-run_of}
 use Rattle.ideal_lane.specs.Accesses.{position_in, unless_unlent}
 use Rattle.ideal_lane.specs.State.{LaneState}

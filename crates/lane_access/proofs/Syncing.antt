@@ -14,12 +14,12 @@ use Rattle.busdma_machine.specs.declared.name.ZoneId.{ZoneId}
 use Rattle.busdma_machine.specs.Machine.Wire.{Wire, with_bytes_of}
 use Rattle.lane_state.specs.declared.kept.KeptLoad.{KeptLoad}
 use Rattle.dma_map.specs.MapView as held
-use Rattle.dma_tag.specs.SyncOps.{is_mixed, postread, prewrite}
-use Rattle.loan_table.specs.Lending.{lost, marked_range, sync_answer}
-use Rattle.loan_table.specs.Lending as lending
-use Rattle.loan_table.specs.Loans.{Loans, addresses_of, loan_of}
+use Rattle.busdma_rules.specs.Tags.SyncOps.{is_mixed, postread, prewrite}
+use Rattle.busdma_rules.specs.Lending.Syncing.{lost, marked_range, sync_answer}
+use Rattle.busdma_rules.specs.Lending.Syncing as lending
+use Rattle.busdma_rules.specs.Lending.Loans.{Loans, addresses_of, loan_of}
 use Rattle.loan_table.specs.Table.{AreIn, buffer_of, set_all}
-use Rattle.loan_table.proofs.Marking.{same_bytes, addresses_of-marked_range}
+use Rattle.busdma_rules.proofs.Lending.Marking.{same_bytes, addresses_of-marked_range}
 use Rattle.map_sync.specs.Ranges.{range_of_chunks}
 use Rattle.phys_memory.specs.Memory.{Memory, wire}
 use Rattle.ideal_lane.specs.Asking.{Asking, by_reply}

@@ -10,9 +10,9 @@ use Rattle.busdma_machine.specs.declared.machine.chunk.Chunk.{Chunk}
 use Rattle.busdma_machine.specs.declared.report.Judged.TheVariants.{Fine}
 use Rattle.busdma_machine.specs.Machine.PageList.{page_addresses}
 use Rattle.busdma_machine.specs.Machine.Wire.{Placed, buses, put}
-use Rattle.loan_table.specs.declared.position.Position.{Position}
-use Rattle.loan_table.specs.Access.{dev_write_answer}
-use Rattle.loan_table.specs.Loans.{addresses_of, load_bytes, loan_of}
+use Rattle.busdma_rules.specs.declared.position.Position.{Position}
+use Rattle.busdma_rules.specs.Lending.Access.{dev_write_answer}
+use Rattle.busdma_rules.specs.Lending.Loans.{addresses_of, load_bytes, loan_of}
 use Rattle.loan_table.specs.Table.{buffer_of}
 use Rattle.ideal_lane.specs.Accesses.{dev_write}
 use Rattle.ideal_lane.specs.Asking.{Asking, by_reply}

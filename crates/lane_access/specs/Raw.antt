@@ -9,10 +9,10 @@ use Rattle.busdma_machine.specs.declared.machine.address.Segment.{Segment}
 use Rattle.busdma_machine.specs.declared.report.ReportName.{ReportName}
 use Rattle.busdma_machine.specs.declared.report.ReportName.TheVariants.{DeviceReadUnlent, DeviceWriteUnlent}
 use Rattle.dma_map.specs.MapView.{segments_of}
-use Rattle.loan_table.specs.declared.position.Position.{Position}
-use Rattle.loan_table.specs.Access.{dev_read_refusal, dev_write_refusal}
-use Rattle.loan_table.specs.Loans.{Loans, loan_of}
-use Rattle.segment_build.specs.Obeying.{segments_bytes}
+use Rattle.busdma_rules.specs.declared.position.Position.{Position}
+use Rattle.busdma_rules.specs.Lending.Access.{dev_read_refusal, dev_write_refusal}
+use Rattle.busdma_rules.specs.Lending.Loans.{Loans, loan_of}
+use Rattle.busdma_rules.specs.Segments.Obeying.{segments_bytes}
 use Rattle.ideal_lane.specs.Accesses.{place_in, raw_refusal}
 use Rattle.ideal_lane.specs.IdealMemory.{is_known}
 use Rattle.ideal_lane.specs.State.{LaneState}

@@ -11,7 +11,7 @@ ghost use Rattle.device_model.specs.Access.{bus_range};
 ghost use Rattle.dma_map.specs.MapView.{segments_of};
 ghost use Rattle.phys_memory.specs.Frames.{Lie, SamePages};
 ghost use Rattle.phys_memory.specs.Memory.{wire};
-ghost use Rattle.loan_table.specs.Loans.{load_bytes};
+ghost use Rattle.busdma_rules.specs.Lending.Loans.{load_bytes};
 ghost use Rattle.loan_table.specs.Table.{AreIn, HasMap, IsSame, buffer_of, extent_count};
 ghost use Rattle.ideal_lane.specs.Accesses as accesses;
 ghost use Rattle.ideal_lane.specs.Asking.{Asking, Gives};

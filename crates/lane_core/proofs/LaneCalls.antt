@@ -10,9 +10,9 @@ use Rattle.busdma_machine.specs.declared.name.MapId.{MapId}
 use Rattle.busdma_base.specs.declared.scenarios.script.Place.{Place}
 use Rattle.busdma_machine.specs.Machine.Wire.{Wire}
 use Rattle.busdma_machine.specs.Runs.{run_of}
-use Rattle.loan_table.specs.Lending.{lost}
-use Rattle.loan_table.specs.Loans.{load_bytes}
-use Rattle.ring_device.specs.Descriptors.{descriptor_bytes}
+use Rattle.busdma_rules.specs.Lending.Syncing.{lost}
+use Rattle.busdma_rules.specs.Lending.Loans.{load_bytes}
+use Rattle.busdma_rules.specs.Rings.Descriptors.{descriptor_bytes}
 use Rattle.ideal_lane.specs.Accesses.{cpu_read, cpu_write, dev_write, dev_write_at, raw_bytes}
 use Rattle.ideal_lane.specs.Ahead.{items_ahead}
 use Rattle.ideal_lane.specs.Asking.{Asking, Gives, by_reply}

@@ -7,7 +7,7 @@ use Rattle.std.specs.Ordering.{nat_cmp}
 use Rattle.busdma_base.specs.declared.scenarios.scenario.PageRun.{PageRun}
 use Rattle.busdma_base.specs.Scenarios.PageRuns.{is_own, physical_in}
 use Rattle.lane_tables.specs.declared.queued.QueuedPage.{QueuedPage}
-use Rattle.loan_table.specs.Loans.{Loans}
+use Rattle.busdma_rules.specs.Lending.Loans.{Loans}
 use Rattle.phys_memory.specs.Memory.{Memory, has_frame, wire}
 use Rattle.ideal_lane.specs.IdealMemory.{Known}
 use Rattle.ideal_lane.specs.Opening.{zeros}

@@ -3,7 +3,7 @@ use Rattle.std.specs.Prelude.{ℕ, List, [], ◌∷◌}
 use Rattle.std.specs.Coded.{×_prop, Unit-prop}
 use mathlib.Core.List.{is_set}
 use denote.Struct.Props.{props}
-use Rattle.iommu_map.specs.Space.{AreRuns, DeviceRun, IsRunIn, Space, end_of}
+use Rattle.busdma_rules.specs.Iommu.Space.{AreRuns, DeviceRun, IsRunIn, Space, end_of}
 use Rattle.ideal_lane.specs.State.{LaneState}
 use Rattle.ideal_wire.specs.OneProof.{AreLaid-prop, IsApart-prop, IsFaithful-prop, IsInMachine-prop}
 use Rattle.ideal_wire.specs.Spaced.{AreSpaced}

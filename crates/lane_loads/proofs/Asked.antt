@@ -13,7 +13,7 @@ use Rattle.busdma_machine.specs.declared.machine.bio.Bio.{Bio}
 use Rattle.busdma_machine.specs.declared.machine.chunk.Chunk.{Chunk}
 use Rattle.busdma_base.specs.declared.scenarios.buffer.Buffer.TheVariants as buffer
 use Rattle.busdma_base.specs.declared.scenarios.script.Item.{Item}
-use Rattle.segment_build.specs.Chunks.{need_of}
+use Rattle.busdma_rules.specs.Segments.Chunks.{need_of}
 use Rattle.ideal_lane.specs.Asking.{Asking, Gives, Asks}
 use Rattle.ideal_lane.specs.Loads.{Asked, asked, chunks_for, device_load, ended, finished, granted, is_device}
 use Rattle.ideal_lane.specs.Loads.{limits_of, load, load_chunks}

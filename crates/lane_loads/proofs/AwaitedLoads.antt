@@ -12,10 +12,10 @@ use Rattle.busdma_machine.specs.Machine.Spans.{bio_spans}
 use Rattle.busdma_base.specs.Scenarios.Buffers.{IsBioOf}
 use Rattle.dma_map.specs.declared.room.LoadRoom.{LoadRoom}
 use Rattle.dma_map.specs.MapView as held
-use Rattle.load_bio.specs.Bio.{is_rounded}
-use Rattle.loan_table.specs.Loans.{new_loan}
-use Rattle.phys_memory.specs.Translation.{Translation, missing, physical_or_0, unreached}
-use Rattle.segment_build.specs.Chunks.{chunks_of}
+use Rattle.busdma_rules.specs.Memory.Bios.{is_rounded}
+use Rattle.busdma_rules.specs.Lending.Loans.{new_loan}
+use Rattle.busdma_rules.specs.Memory.Translation.{Translation, missing, physical_or_0, unreached}
+use Rattle.busdma_rules.specs.Segments.Chunks.{chunks_of}
 use Rattle.busdma_machine.specs.declared.machine.chunk.Entry.{Entry}
 use Rattle.ideal_lane.specs.Loads.{is_coherent, limits_of, load_entries, load_judged, load_translation, no_limits}
 use Rattle.ideal_lane.specs.Standing.{IsPageless, Stands}

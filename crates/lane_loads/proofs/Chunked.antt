@@ -16,13 +16,14 @@ use Rattle.busdma_machine.specs.Machine.Entry.{parts_of}
 use Rattle.busdma_machine.specs.Machine.Spans.{bio_spans}
 use Rattle.busdma_machine.specs.Room.{Roomy}
 use Rattle.dma_map.specs.declared.room.LoadRoom.{LoadRoom}
-use Rattle.load_bio.specs.Bio.{is_rounded}
-use Rattle.phys_memory.specs.Translation.{Translation}
-use Rattle.phys_memory.specs.Vector.{IfAll, entries_of, spans_stream, walk_unless}
+use Rattle.busdma_rules.specs.Memory.Bios.{is_rounded}
+use Rattle.busdma_rules.specs.Memory.Translation.{Translation}
+use Rattle.phys_memory.specs.Vector.{IfAll, spans_stream, walk_unless}
+use Rattle.busdma_rules.specs.Memory.Vectors.{entries_of}
 use Rattle.phys_memory.proofs.Vectors.{walk_stream}
-use Rattle.segment_build.specs.Building.{placed_pieces}
-use Rattle.segment_build.specs.Chunks.{chunks_of}
-use Rattle.segment_build.specs.Segmentation.{segmentation}
+use Rattle.busdma_rules.specs.Segments.Building.{placed_pieces}
+use Rattle.busdma_rules.specs.Segments.Chunks.{chunks_of}
+use Rattle.busdma_rules.specs.Segments.Segmentation.{segmentation}
 use Rattle.segment_build.specs.Streams.{IsBuiltFrom, OverflowsFrom, stream_chunks}
 use Rattle.segment_build.proofs.Chunking.{chunks_of_parts}
 use Rattle.segment_build.proofs.Cuts.{cut_shorter, one_segmentation}

@@ -16,15 +16,15 @@ use Rattle.busdma_machine.specs.Bounce.AccountStep.{as_pages}
 use Rattle.busdma_machine.specs.Machine.Entry.{entries_addresses}
 use Rattle.busdma_machine.specs.Runs.{byte_count}
 use Rattle.busdma_machine.specs.Tags.TagFlags.{keep_pg_offset}
-use Rattle.lane_tables.specs.Queues.{queued}
-use Rattle.loan_table.specs.Loans.{new_loan}
-use Rattle.iommu_load.specs.Device.{device_chunk, device_chunks, load_frames}
-use Rattle.iommu_map.specs.Space.{Space, entered, first_free}
-use Rattle.segment_build.specs.Building.{placed_pieces, tag_placed}
-use Rattle.segment_build.specs.Chunks.{bounced_of}
-use Rattle.segment_build.specs.Pieces.{chunk_pieces}
-use Rattle.segment_build.specs.Segmentation.{segmentation}
-use Rattle.segment_build.specs.Trace.{placed}
+use Rattle.busdma_base.specs.Scenarios.Queues.{queued}
+use Rattle.busdma_rules.specs.Lending.Loans.{new_loan}
+use Rattle.busdma_rules.specs.Iommu.Device.{device_chunk, device_chunks, load_frames}
+use Rattle.busdma_rules.specs.Iommu.Space.{Space, entered, first_free}
+use Rattle.busdma_rules.specs.Segments.Building.{placed_pieces, tag_placed}
+use Rattle.busdma_rules.specs.Segments.Chunks.{bounced_of}
+use Rattle.busdma_rules.specs.Segments.Pieces.{chunk_pieces}
+use Rattle.busdma_rules.specs.Segments.Segmentation.{segmentation}
+use Rattle.busdma_rules.specs.Segments.Trace.{placed}
 use Rattle.ideal_lane.specs.Loads.{Asked, are_few, device_load, finished, is_coherent, limits_of, loaded, staged}
 use Rattle.ideal_lane.specs.Loads.{taken, with_run, with_spaces}
 use Rattle.ideal_lane.specs.State.{Idle, LaneMap, LaneState, Loaded}

@@ -12,12 +12,13 @@ use Rattle.busdma_machine.specs.declared.report.Judged.{Judged}
 use Rattle.busdma_machine.specs.declared.report.Judged.TheVariants.{Fine, Refused}
 use Rattle.busdma_machine.specs.Machine.Entry.{HasPart, entries_of, entry_parts, extent_parts, others_of, parts_of}
 use Rattle.busdma_machine.specs.Machine.Spans.{bio_spans}
-use Rattle.load_bio.specs.Bio.{is_rounded}
-use Rattle.phys_memory.specs.Extents.{extents_of, reached}
-use Rattle.phys_memory.specs.Translation.{Translation}
-use Rattle.phys_memory.specs.Vector.{ending, with_entry}
-use Rattle.phys_memory.specs.Vector.{entries_of as walk_entries}
-use Rattle.phys_memory.proofs.Extents.{begins}
+use Rattle.busdma_rules.specs.Memory.Bios.{is_rounded}
+use Rattle.busdma_rules.specs.Memory.Extents.{extents_of, reached}
+use Rattle.busdma_rules.specs.Memory.Translation.{Translation}
+use Rattle.phys_memory.specs.Vector.{ending}
+use Rattle.busdma_rules.specs.Memory.Vectors.{with_entry}
+use Rattle.busdma_rules.specs.Memory.Vectors.{entries_of as walk_entries}
+use Rattle.busdma_rules.proofs.Memory.Extents.{begins}
 use Rattle.ideal_lane.specs.Loads.{load_entries, load_translation}
 use Rattle.ideal_lane.specs.State.{LaneState}
 use Rattle.lane_state.specs.Loading.{bio_reached, load_stream}

@@ -6,8 +6,8 @@ use mathlib.Core.Logic.{∥∥₁_elim}
 use Rattle.std.proofs.lemmas.Bool.{eq-eqb}
 use Rattle.std.specs.FinMap.{get}
 use Rattle.std.specs.List.{Contains, list_any}
-use Rattle.iommu_map.specs.Space.{AreRuns, DeviceRun, Space, begins_at, is_live, left}
-use Rattle.iommu_map.proofs.Members.{place-in}
+use Rattle.busdma_rules.specs.Iommu.Space.{AreRuns, DeviceRun, Space, begins_at, is_live, left}
+use Rattle.busdma_rules.proofs.Iommu.Members.{place-in}
 use Rattle.phys_memory.specs.Memory.{wire}
 use Rattle.ideal_lane.specs.Outcomes.{is_loaded}
 use Rattle.ideal_lane.specs.State.{LaneMap, no_space}

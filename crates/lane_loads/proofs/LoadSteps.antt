@@ -14,12 +14,12 @@ use Rattle.busdma_machine.specs.declared.machine.address.Segment.{Segment}
 use Rattle.busdma_machine.specs.declared.machine.chunk.Chunk.{Chunk}
 use Rattle.busdma_machine.specs.declared.tags.tag.TagLimits.{TagLimits}
 use Rattle.busdma_machine.specs.Bounce.AccountStep.{as_pages}
-use Rattle.loan_table.specs.Lending.{lost_by_forgetting}
-use Rattle.loan_table.specs.Loans.{Loan, addresses_of, loan_of, new_loan, no_loan, to_write}
-use Rattle.loan_table.specs.Loans.{unlent as unlent_positions}
+use Rattle.busdma_rules.specs.Lending.Syncing.{lost_by_forgetting}
+use Rattle.busdma_rules.specs.Lending.Loans.{Loan, addresses_of, loan_of, new_loan, no_loan, to_write}
+use Rattle.busdma_rules.specs.Lending.Loans.{unlent as unlent_positions}
 use Rattle.ideal_lane.proofs.Lookups.{get_put, get_cut, put_same}
-use Rattle.segment_build.specs.Building.{placed_pieces, tag_placed}
-use Rattle.segment_build.specs.Segmentation.{segmentation}
+use Rattle.busdma_rules.specs.Segments.Building.{placed_pieces, tag_placed}
+use Rattle.busdma_rules.specs.Segments.Segmentation.{segmentation}
 use Rattle.ideal_lane.specs.IdealMemory.{forgotten}
 use Rattle.ideal_lane.specs.Loads.{Asked, emptied, finished, limits_of, loaded, staged, unpaged}
 use Rattle.ideal_lane.specs.State.{LaneMap, LaneState, Loaded}

@@ -20,11 +20,11 @@ use Rattle.dma_map.specs.declared.room.LoadRoom.{LoadRoom}
 use Rattle.loan_table.proofs.Judgement.{length-run_of}
 use Rattle.memory_load.specs.MemoryLoad.{run_chunks, run_entries, run_pieces, run_segments}
 use Rattle.memory_load.proofs.Unbounced.{none_bounced, stay_placed, unbounced}
-use Rattle.phys_memory.specs.Vector.{with_entry}
-use Rattle.segment_build.specs.Building.{placed_pieces, tag_placed}
-use Rattle.segment_build.specs.Chunks.{bounced_of, chunks_of, need_of}
-use Rattle.segment_build.specs.Pieces.{chunk_pieces}
-use Rattle.segment_build.specs.Segmentation.{segmentation}
+use Rattle.busdma_rules.specs.Memory.Vectors.{with_entry}
+use Rattle.busdma_rules.specs.Segments.Building.{placed_pieces, tag_placed}
+use Rattle.busdma_rules.specs.Segments.Chunks.{bounced_of, chunks_of, need_of}
+use Rattle.busdma_rules.specs.Segments.Pieces.{chunk_pieces}
+use Rattle.busdma_rules.specs.Segments.Segmentation.{segmentation}
 use Rattle.ideal_lane.specs.Loads.{chunks_for, is_foreign_in, limits_of, load_entries, load_judged}
 use Rattle.ideal_lane.specs.Places.{begin_of}
 use Rattle.ideal_lane.specs.Standing.{Stands}

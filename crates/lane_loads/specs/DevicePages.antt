@@ -3,10 +3,10 @@ use Rattle.std.specs.Prelude.{◌≡◌, ℕ, ◌≤◌, ◌==◌, List, length,
 use Rattle.busdma_machine.specs.declared.machine.address.Segment.{Segment}
 use Rattle.busdma_machine.specs.declared.machine.chunk.Entry.{Entry}
 use Rattle.busdma_machine.specs.declared.tags.tag.TagLimits.{TagLimits}
-use Rattle.iommu_load.specs.Device.{device_chunks}
-use Rattle.iommu_map.specs.Space.{Space, entered, first_free}
-use Rattle.segment_build.specs.Pieces.{chunk_pieces}
-use Rattle.segment_build.specs.Segmentation.{segmentation}
+use Rattle.busdma_rules.specs.Iommu.Device.{device_chunks}
+use Rattle.busdma_rules.specs.Iommu.Space.{Space, entered, first_free}
+use Rattle.busdma_rules.specs.Segments.Pieces.{chunk_pieces}
+use Rattle.busdma_rules.specs.Segments.Segmentation.{segmentation}
 
 -- the first page of a load that touches so many frames, if a run is free for them; one that touches none takes no run
 abbrev pub page_for : Space → ℕ → Option ℕ

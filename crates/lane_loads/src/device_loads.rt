@@ -7,7 +7,7 @@ ghost use Rattle.std.specs.List.{All};
 ghost use Rattle.busdma_base.specs.declared.journals.answer.Answer.TheVariants.{Segments};
 ghost use Rattle.busdma_machine.specs.declared.report.Judged.TheVariants.{Fine};
 ghost use Rattle.busdma_machine.specs.Machine.Entry.{IsStream};
-ghost use Rattle.iommu_load.specs.Device.{load_frames};
+ghost use Rattle.busdma_rules.specs.Iommu.Device.{load_frames};
 ghost use Rattle.iommu_load.specs.DeviceStreams.{DeviceOverflows, HasDeviceRoom, IsDeviceBuilt, IsInDevicePages};
 ghost use Rattle.iommu_load.specs.DeviceStreams.{device_pieces, stream_frames};
 ghost use Rattle.ideal_lane.specs.Loads.{Asked, device_load, is_device, load_entries, loaded};

@@ -3,7 +3,7 @@
 ghost use Rattle.std.specs.Prelude.{◌≡◌, ◌+◌, ◌≤◌, true, Some, length};
 ghost use Rattle.std.specs.FinMap.{get, insert};
 ghost use Rattle.busdma_machine.specs.Machine.PageList.{page_addresses};
-ghost use Rattle.loan_table.specs.Loans.{loan_of};
+ghost use Rattle.busdma_rules.specs.Lending.Loans.{loan_of};
 ghost use Rattle.ideal_lane.specs.Loads.{staged};
 ghost use Rattle.ideal_lane.specs.State.{Idle, LaneMap, Loaded};
 ghost use Rattle.lane_state.specs.Covered.{has_load, is_idle_map, pages_due};

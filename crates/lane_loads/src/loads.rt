@@ -9,7 +9,7 @@ ghost use Rattle.busdma_machine.specs.declared.bounce.hold.HubCall.TheVariants.{
 ghost use Rattle.busdma_machine.specs.Bounce.AccountStep.{as_pages};
 ghost use Rattle.busdma_machine.specs.Bounce.Door.{Allows};
 ghost use Rattle.busdma_machine.specs.Machine.PageList.{page_addresses};
-ghost use Rattle.segment_build.specs.Trace.{IsPage};
+ghost use Rattle.busdma_rules.specs.Segments.Trace.{IsPage};
 ghost use Rattle.ideal_lane.specs.Loads.{Asked, asked, finished, granted, is_coherent, limits_of, load, load_entries};
 ghost use Rattle.ideal_lane.specs.Loads.{zone_of};
 ghost use Rattle.ideal_lane.specs.Standing.{Stands};

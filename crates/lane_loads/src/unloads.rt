@@ -2,7 +2,7 @@
 
 ghost use Rattle.std.specs.Prelude.{◌≡◌, ◌≤◌, ◌++◌, [], IfNone, IfSome, Some, length, true};
 ghost use Rattle.std.specs.FinMap.{get};
-ghost use Rattle.iommu_map.specs.Space.{is_live, left};
+ghost use Rattle.busdma_rules.specs.Iommu.Space.{is_live, left};
 ghost use Rattle.ideal_lane.specs.Asking.{Gives};
 ghost use Rattle.ideal_lane.specs.Loads.{unpaged};
 ghost use Rattle.ideal_lane.specs.State.{LaneMap};

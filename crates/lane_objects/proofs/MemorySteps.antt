@@ -118,13 +118,13 @@ frames-hold len = omega arith
 
 -- a memory with its map is the memory that was asked for
 pub made-memory : (l : LaneState) (tag first count len flags : ℕ) (coherent clear : Bool) → count ≡ frames_for len →
-    coherent ≡ Rattle.dma_tag.specs.MemFlags.coherent flags →
-    clear ≡ Rattle.dma_tag.specs.MemFlags.zero_filled flags →
+    coherent ≡ Rattle.busdma_rules.specs.Tags.MemFlags.coherent flags →
+    clear ≡ Rattle.busdma_rules.specs.Tags.MemFlags.zero_filled flags →
     with_map tag None (record l {
       mems = insert l.mems l.place
           (record { tag = tag; first = first; count = count; len = len; coherent = coherent });
       memory = joined (in_run first count) (if clear then Known 0 else Unknown) l.memory;
-    }) ≡ with_memory (ideal_memory tag first len flags) (Rattle.dma_tag.specs.MemFlags.zero_filled flags) l
+    }) ≡ with_memory (ideal_memory tag first len flags) (Rattle.busdma_rules.specs.Tags.MemFlags.zero_filled flags) l
 made-memory l tag first count len flags coherent clear size shared filled = λ i. with_map tag None (record l {
   mems = insert l.mems l.place
       (record { tag = tag; first = first; count = size i; len = len; coherent = shared i });
@@ -136,7 +136,7 @@ pub placed-memory : (l : LaneState) (t first count : ℕ) (limits : TagLimits) (
     count ≡ frames_for limits.maxsize →
     memories.placed t limits flags l (Run (record { 0 = first }) count) ≡ record {
       lane = with_memory (ideal_memory t first limits.maxsize flags)
-          (Rattle.dma_tag.specs.MemFlags.zero_filled flags) l;
+          (Rattle.busdma_rules.specs.Tags.MemFlags.zero_filled flags) l;
       answer = answer.Placed (record { 0 = first });
     }
 placed-memory l t first count limits flags size =

@@ -14,9 +14,9 @@ use Rattle.busdma_machine.specs.Machine.VirtualPages.{pages_end}
 use Rattle.busdma_base.specs.Scenarios.PageRuns.{is_own, physical_in}
 use Rattle.busdma_base.specs.Scenarios.PageRuns as pages
 use Rattle.busdma_machine.specs.Runs.{run_of}
-use Rattle.dmamem.specs.Memory.{virtual_of}
-use Rattle.loan_table.specs.declared.position.Position.{Position}
-use Rattle.loan_table.specs.Loans.{Loan, loan_of, no_loan}
+use Rattle.busdma_rules.specs.Memory.Memories.{virtual_of}
+use Rattle.busdma_rules.specs.declared.position.Position.{Position}
+use Rattle.busdma_rules.specs.Lending.Loans.{Loan, loan_of, no_loan}
 use Rattle.loan_table.specs.Table.{AreFree, AreIn, is_among, without}
 use Rattle.memory_pages.specs.Placed.{AreAtTheirFrames, Goes, HasFrames, is_page, row_of}
 use Rattle.memory_pages.proofs.Going.{left_placed}

@@ -6,8 +6,8 @@ use Rattle.std.specs.FinMap.{entries, entries_sorted, get-entries}
 use Rattle.busdma_machine.specs.Machine.Page.{FrameBytes}
 use Rattle.busdma_machine.specs.Machine.PageList.{page_address}
 use Rattle.busdma_machine.specs.Machine.Wire.{Placed, with_bytes_of}
-use Rattle.loan_table.specs.declared.position.Position.{Position}
-use Rattle.loan_table.specs.Loans.{Loan, addresses_of, lent, loan_of, no_loan, to_write}
+use Rattle.busdma_rules.specs.declared.position.Position.{Position}
+use Rattle.busdma_rules.specs.Lending.Loans.{Loan, addresses_of, lent, loan_of, no_loan, to_write}
 use Rattle.phys_memory.specs.Memory.{Memory, wire}
 use Rattle.ideal_lane.specs.State.{LaneState}
 use Rattle.ideal_lane.specs.Syncs.{bounced_in}

@@ -1,7 +1,7 @@
 -- What is taken and left where a memory is made.
 use Rattle.std.specs.Prelude.{◌≡◌, ℕ, ◌≤◌}
 use Rattle.busdma_machine.specs.Bounce.MemoryRuns.{frames_for}
-use Rattle.dma_tag.specs.MemFlags.{coherent}
+use Rattle.busdma_rules.specs.Tags.MemFlags.{coherent}
 use Rattle.loan_table.specs.Table.{IsSame}
 use Rattle.ideal_lane.specs.State.{LaneMemory}
 use Rattle.lane_state.specs.declared.holdings.Holdings.{Holdings}

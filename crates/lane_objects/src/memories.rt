@@ -9,7 +9,7 @@ ghost use Rattle.busdma_machine.specs.declared.tags.tag.TagLimits.{TagLimits};
 ghost use Rattle.busdma_machine.specs.Bounce.Door.{IsRow};
 ghost use Rattle.busdma_machine.specs.Bounce.MemoryRuns.{frames_for, frames_from, in_run};
 ghost use Rattle.busdma_machine.specs.Machine.PageList.{page_addresses};
-ghost use Rattle.dma_tag.specs.MemFlags.{coherent, zero_filled};
+ghost use Rattle.busdma_rules.specs.Tags.MemFlags.{coherent, zero_filled};
 ghost use Rattle.ideal_lane.specs.IdealMemory.{Known, Unknown, joined, parted};
 ghost use Rattle.ideal_lane.specs.Memories as memories;
 ghost use Rattle.ideal_lane.specs.Memories.{with_memory};

@@ -8,8 +8,8 @@ use Rattle.std.specs.Option.{option_map, option_map_or}
 use Rattle.busdma_machine.specs.declared.machine.address.Segment.{Segment}
 use Rattle.dma_map.specs.MapView as held
 use Rattle.loan_table.specs.Table.{buffer_of}
-use Rattle.ring_device.specs.declared.descriptor.Descriptor.{Descriptor}
-use Rattle.ring_device.specs.Ranges.{byte_count, holds, place_of}
+use Rattle.busdma_rules.specs.declared.descriptor.Descriptor.{Descriptor}
+use Rattle.busdma_rules.specs.Rings.Ranges.{byte_count, holds, place_of}
 use Rattle.ideal_lane.specs.Loads.{is_device}
 use Rattle.ideal_lane.specs.Outcomes.{is_loaded}
 use Rattle.ideal_lane.specs.Rings.{is_left_out}

@@ -14,9 +14,9 @@ use Rattle.busdma_machine.specs.declared.report.ReportName.TheVariants.{DeviceRe
 use Rattle.busdma_machine.specs.Judging.{judged, refused_or}
 use Rattle.busdma_machine.specs.Machine.Wire.{put, stretch, with_bytes_of}
 use Rattle.busdma_machine.specs.Runs.{run_of}
-use Rattle.loan_table.specs.declared.position.Position.{Position}
-use Rattle.loan_table.specs.Access.{dev_read_answer, dev_read_refusal, dev_write_answer, dev_write_refusal}
-use Rattle.loan_table.specs.Loans.{addresses_of, load_bytes, loan_of}
+use Rattle.busdma_rules.specs.declared.position.Position.{Position}
+use Rattle.busdma_rules.specs.Lending.Access.{dev_read_answer, dev_read_refusal, dev_write_answer, dev_write_refusal}
+use Rattle.busdma_rules.specs.Lending.Loans.{addresses_of, load_bytes, loan_of}
 use Rattle.loan_table.specs.Table.{AreIn, is_marked, set_all}
 use Rattle.loan_table.proofs.Stretches.{part_of_run}
 use Rattle.phys_memory.specs.Memory.{Memory, has_frame, wire, written}

@@ -12,10 +12,10 @@ use Rattle.busdma_machine.specs.declared.report.Errno.TheVariants.{EINVAL}
 use Rattle.busdma_machine.specs.declared.report.Report.{Report}
 use Rattle.busdma_machine.specs.declared.report.ReportName.TheVariants.{Absent}
 use Rattle.busdma_machine.specs.Machine.Wire.{Wire, put}
-use Rattle.ring_device.specs.declared.descriptor.Descriptor.{Descriptor}
-use Rattle.ring_device.specs.Descriptors.{descriptor_bytes}
+use Rattle.busdma_rules.specs.declared.descriptor.Descriptor.{Descriptor}
+use Rattle.busdma_rules.specs.Rings.Descriptors.{descriptor_bytes}
 use Rattle.ring_device.specs.Ends.{EndsLow}
-use Rattle.ring_device.specs.Ranges.{address_of}
+use Rattle.busdma_rules.specs.Rings.Ranges.{address_of}
 use Rattle.ideal_lane.specs.Accesses.{cpu_write}
 use Rattle.ideal_lane.specs.Asking.{Asking}
 use Rattle.ideal_lane.specs.Loads.{is_device}
@@ -34,7 +34,7 @@ use Rattle.device_model.proofs.Walk.{bytes_length}
 use Rattle.dma_map.specs.MapView.{segments_of}
 use Rattle.loan_table.specs.Table.{buffer_of}
 use Rattle.phys_memory.specs.Memory.{Memory}
-use Rattle.segment_build.specs.Segmentation.{segment_bytes}
+use Rattle.busdma_rules.specs.Segments.Segmentation.{segment_bytes}
 use Rattle.ideal_wire.specs.Laid.{is_behind}
 use Rattle.lane_state.specs.declared.holdings.Holdings.{Holdings}
 use Rattle.lane_state.specs.declared.kept.KeptMap.{KeptMap}

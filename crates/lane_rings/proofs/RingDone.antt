@@ -8,10 +8,10 @@ use Rattle.busdma_machine.specs.declared.bounce.hold.HubReply.TheVariants.{Nothi
 use Rattle.busdma_machine.specs.declared.report.ReportName.TheVariants.{Absent}
 use Rattle.busdma_machine.specs.Machine.Wire.{Wire, put}
 use Rattle.busdma_machine.specs.Runs.{run_of}
-use Rattle.loan_table.specs.Loans.{load_bytes, loan_of}
+use Rattle.busdma_rules.specs.Lending.Loans.{load_bytes, loan_of}
 use Rattle.phys_memory.specs.Memory.{has_frame, wire}
-use Rattle.ring_device.specs.declared.descriptor.Descriptor.{Descriptor}
-use Rattle.ring_device.specs.Descriptors.{descriptor_of}
+use Rattle.busdma_rules.specs.declared.descriptor.Descriptor.{Descriptor}
+use Rattle.busdma_rules.specs.Rings.Descriptors.{descriptor_of}
 use Rattle.ideal_lane.specs.Accesses.{values}
 use Rattle.ideal_lane.specs.Asking.{Gives, by_reply}
 use Rattle.ideal_lane.specs.Outcomes.{Outcome, gives, unless_absent}

@@ -7,10 +7,10 @@ use Rattle.busdma_base.specs.declared.journals.answer.Answer.TheVariants as answ
 use Rattle.busdma_machine.specs.declared.report.Errno.TheVariants.{EINVAL}
 use Rattle.busdma_machine.specs.declared.report.Judged.TheVariants.{Fine, Refused}
 use Rattle.busdma_machine.specs.declared.report.Report.{Report}
-use Rattle.loan_table.specs.Access.{dev_read_answer}
-use Rattle.loan_table.specs.Loans.{loan_of}
-use Rattle.ring_device.specs.declared.descriptor.Descriptor.{Descriptor}
-use Rattle.ring_device.specs.Ranges.{place_of}
+use Rattle.busdma_rules.specs.Lending.Access.{dev_read_answer}
+use Rattle.busdma_rules.specs.Lending.Loans.{loan_of}
+use Rattle.busdma_rules.specs.declared.descriptor.Descriptor.{Descriptor}
+use Rattle.busdma_rules.specs.Rings.Ranges.{place_of}
 use Rattle.ideal_lane.specs.Accesses.{unless_unread}
 use Rattle.ideal_lane.specs.Asking.{Asking}
 use Rattle.ideal_lane.specs.IdealMemory.{is_known}

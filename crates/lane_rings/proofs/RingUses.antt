@@ -15,10 +15,10 @@ use Rattle.busdma_machine.specs.declared.report.Judged.TheVariants.{Fine}
 use Rattle.busdma_machine.specs.declared.report.ReportName.TheVariants.{DeviceReadUnlent, StaleByte}
 use Rattle.busdma_machine.specs.Judging.{judged, refused_or}
 use Rattle.busdma_machine.specs.Machine.Wire.{Wire, put, stretch}
-use Rattle.loan_table.specs.declared.position.Position.{Position}
-use Rattle.loan_table.specs.Access.{dev_read_answer, dev_read_refusal, dev_write_answer}
-use Rattle.loan_table.specs.Loans.{load_bytes, loan_of}
-use Rattle.ring_device.specs.declared.descriptor.Descriptor.{Descriptor}
+use Rattle.busdma_rules.specs.declared.position.Position.{Position}
+use Rattle.busdma_rules.specs.Lending.Access.{dev_read_answer, dev_read_refusal, dev_write_answer}
+use Rattle.busdma_rules.specs.Lending.Loans.{load_bytes, loan_of}
+use Rattle.busdma_rules.specs.declared.descriptor.Descriptor.{Descriptor}
 use Rattle.ideal_lane.specs.Accesses.{dev_read, dev_write, values}
 use Rattle.ideal_lane.specs.Asking.{Asking, Gives, by_reply}
 use Rattle.ideal_lane.specs.IdealMemory.{Content, IdealMemory, Known, is_known, known, written, written_at}

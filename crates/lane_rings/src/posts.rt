@@ -14,9 +14,10 @@ ghost use Rattle.lane_state.specs.Wire.{IsWired, wire_of};
 ghost use Rattle.lane_rings.specs.Ringing.{IsPosted, IsUnposted};
 
 use busdma_base::{Answer, Errno, ItemList, Place, ReportName};
+use busdma_rules::Descriptor;
 use lane_access::{cpu_write, past_end, unloaded};
 use lane_state::{Holdings, KeptRing, report};
-use ring_device::Descriptor;
+use ring_device::descriptor_bytes;
 use std::alloc::{AllocError, Global};
 
 /// What is posted to a slot of a ring: the `len` bytes of a map's load from `off` on, whether the device shall read
@@ -70,7 +71,7 @@ pub fn post(
         mem: kept.mem,
         off: 16 * posting.slot as u64,
     };
-    cpu_write(holdings, alloc, place, &descriptor.bytes())
+    cpu_write(holdings, alloc, place, &descriptor_bytes(&descriptor))
 }
 
 /// The descriptor of what is posted to a ring, or None where it may not be: there is no such slot, a device cannot be

@@ -3,10 +3,10 @@
 ghost use Rattle.std.specs.Prelude.{◌≡◌, ◌+◌, ◌/◌, ◌%◌, ◌<◌, ◌≤◌, ◌^◌, ℕ, true, length, map as mapped, [], ◌∷◌, IfOk, IfSome};
 ghost use Rattle.std.specs.Prelude.{IfNone, OnErr, Some, option_map, IsSome};
 ghost use Rattle.std.specs.FinMap.{entries, get};
-ghost use Rattle.loan_table.specs.Loans.{loan_of};
+ghost use Rattle.busdma_rules.specs.Lending.Loans.{loan_of};
 ghost use Rattle.loan_table.specs.Table.{buffer_of};
 ghost use Rattle.phys_memory.specs.Memory.{has_frame, wire};
-ghost use Rattle.ring_device.specs.Descriptors.{descriptor_of};
+ghost use Rattle.busdma_rules.specs.Rings.Descriptors.{descriptor_of};
 ghost use Rattle.ideal_lane.specs.Asking.{Gives};
 ghost use Rattle.ideal_lane.specs.Outcomes.{gives};
 ghost use Rattle.ideal_lane.specs.Rings as rings;
@@ -27,10 +27,11 @@ ghost use Rattle.lane_rings.specs.Ringing.{work_of};
 
 use crate::posts::is_work;
 use busdma_base::{Answer, Errno, Judged, Pa, Report, ReportName};
+use busdma_rules::Descriptor;
 use lane_access::{dev_read, dev_write, past_end, unloaded};
 use lane_state::{Holdings, KeptMap, KeptMemory, KeptRing, report};
 use phys_memory::LanePages;
-use ring_device::Descriptor;
+use ring_device::descriptor_of;
 use std::alloc::{AllocError, Global};
 
 /// A map, and the place in its load of the bytes that a descriptor names.
@@ -108,7 +109,7 @@ fn read_descriptor(memory: &LanePages, at: Pa) -> Descriptor
 {
     let mut bytes = [0; 16];
     memory.read(at, &mut bytes);
-    Descriptor::of(&bytes)
+    descriptor_of(&bytes)
 }
 
 /// The refusal of a device that may not read `len` bytes of a map's load, from `off` on.

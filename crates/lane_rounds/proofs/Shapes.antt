@@ -29,16 +29,16 @@ use Rattle.busdma_machine.specs.Runs.{run_of}
 use Rattle.busdma_base.specs.Scenarios.Operations.{bytes_of}
 use Rattle.busdma_machine.specs.Tags.Tag.{effective, could_bounce, space_limits}
 use Rattle.busdma_machine.specs.Tags.TagFlags.{allocnow}
-use Rattle.dma_tag.specs.SyncOps.{is_mixed}
+use Rattle.busdma_rules.specs.Tags.SyncOps.{is_mixed}
 use Rattle.lane_agreement.specs.View.{Return}
-use Rattle.lane_tables.specs.declared.queued.QueuedItem.{QueuedItem}
-use Rattle.loan_table.specs.Access.{cpu_read_answer, cpu_write_answer, dev_read_answer, dev_read_refusal}
-use Rattle.loan_table.specs.Access.{dev_write_answer, dev_write_refusal}
-use Rattle.loan_table.specs.Lending.{lost, sync_answer, synced}
-use Rattle.loan_table.specs.Loans.{load_bytes, loan_of}
-use Rattle.segment_build.specs.Chunks.{need_of}
-use Rattle.ring_device.specs.declared.descriptor.Descriptor.{Descriptor}
-use Rattle.ring_device.specs.Descriptors.{descriptor_bytes}
+use Rattle.busdma_base.specs.declared.scenarios.queued.QueuedItem.{QueuedItem}
+use Rattle.busdma_rules.specs.Lending.Access.{cpu_read_answer, cpu_write_answer, dev_read_answer, dev_read_refusal}
+use Rattle.busdma_rules.specs.Lending.Access.{dev_write_answer, dev_write_refusal}
+use Rattle.busdma_rules.specs.Lending.Syncing.{lost, sync_answer, synced}
+use Rattle.busdma_rules.specs.Lending.Loans.{load_bytes, loan_of}
+use Rattle.busdma_rules.specs.Segments.Chunks.{need_of}
+use Rattle.busdma_rules.specs.declared.descriptor.Descriptor.{Descriptor}
+use Rattle.busdma_rules.specs.Rings.Descriptors.{descriptor_bytes}
 use Rattle.ideal_lane.specs.State.{LaneState, LaneMap, LaneMemory, LaneRing, LaneTag}
 use Rattle.ideal_lane.specs.Accesses.{cpu_read, cpu_write, dev_read, dev_read_at, dev_write, dev_write_at, values}
 use Rattle.ideal_lane.specs.Accesses.{raw_bytes, raw_refusal}

@@ -17,13 +17,13 @@ use Rattle.busdma_machine.specs.declared.machine.chunk.Chunk.{Chunk}
 use Rattle.busdma_machine.specs.declared.tags.tag.TagLimits.{TagLimits}
 use Rattle.busdma_machine.specs.Bounce.AccountStep.{as_pages}
 use Rattle.busdma_machine.specs.Machine.Entry.{entries_addresses}
-use Rattle.iommu_load.specs.Device.{device_chunks, load_frames}
-use Rattle.iommu_map.specs.Space.{Space, first_free}
+use Rattle.busdma_rules.specs.Iommu.Device.{device_chunks, load_frames}
+use Rattle.busdma_rules.specs.Iommu.Space.{Space, first_free}
 use Rattle.lane_agreement.specs.After.{addresses}
-use Rattle.loan_table.specs.Loans.{Loans, new_loan}
-use Rattle.segment_build.specs.Building.{placed_pieces, tag_placed}
-use Rattle.segment_build.specs.Chunks.{bounced_of, need_of}
-use Rattle.segment_build.specs.Segmentation.{segmentation}
+use Rattle.busdma_rules.specs.Lending.Loans.{Loans, new_loan}
+use Rattle.busdma_rules.specs.Segments.Building.{placed_pieces, tag_placed}
+use Rattle.busdma_rules.specs.Segments.Chunks.{bounced_of, need_of}
+use Rattle.busdma_rules.specs.Segments.Segmentation.{segmentation}
 use Rattle.ideal_lane.specs.Asking.{Asking, Gives, Asks, by_reply}
 use Rattle.ideal_lane.specs.Loads.{Asked, are_few, chunks_for, device_load, emptied, ended, finished, granted, is_coherent}
 use Rattle.ideal_lane.specs.Loads.{is_device, limits_of, load, load_chunks, loaded, taken, unpaged, waiting_load, with_run}

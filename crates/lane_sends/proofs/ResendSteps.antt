@@ -9,7 +9,7 @@ use Rattle.busdma_machine.specs.declared.report.Report.{Report}
 use Rattle.busdma_machine.specs.declared.report.ReportName.TheVariants.{Absent, MapBusy}
 use Rattle.busdma_machine.specs.Bounce.Door.{Seen}
 use Rattle.busdma_machine.specs.Machine.Wire.{Wire, put}
-use Rattle.loan_table.specs.Access.{cpu_read_answer, cpu_write_answer}
+use Rattle.busdma_rules.specs.Lending.Access.{cpu_read_answer, cpu_write_answer}
 use Rattle.ideal_lane.specs.Asking.{Asking, Gives, Asks, goes_on}
 use Rattle.ideal_lane.specs.IdealMemory.{is_known}
 use Rattle.ideal_lane.specs.Loads.{load_judged}

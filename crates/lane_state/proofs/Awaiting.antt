@@ -12,7 +12,7 @@ use Rattle.busdma_machine.specs.Machine.Page.{FrameBytes}
 use Rattle.busdma_base.specs.declared.scenarios.scenario.PageRun.{PageRun}
 use Rattle.dma_map.specs.declared.room.LoadRoom.{LoadRoom}
 use Rattle.dma_map.specs.MapView as held
-use Rattle.loan_table.specs.Loans.{Loan, Loans}
+use Rattle.busdma_rules.specs.Lending.Loans.{Loan, Loans}
 use Rattle.loan_table.specs.Table.{IsSame, Table}
 use Rattle.ideal_lane.specs.Outcomes.{is_idle, is_loaded}
 use Rattle.ideal_lane.specs.State.{LaneMap}

@@ -12,9 +12,9 @@ use Rattle.std.specs.List.{list_any, filter}
 use Rattle.std.specs.Option.{option_map}
 use Rattle.std.specs.Ordering.{nat_cmp, eq_by_cmp, is_eq}
 use Rattle.busdma_machine.specs.declared.machine.chunk.Chunk.{Chunk}
-use Rattle.loan_table.specs.declared.position.Position.{Position}
-use Rattle.loan_table.specs.Lending.{lost_by_forgetting}
-use Rattle.loan_table.specs.Loans.{Loan, Loans, addresses_of, to_write, loan_of}
+use Rattle.busdma_rules.specs.declared.position.Position.{Position}
+use Rattle.busdma_rules.specs.Lending.Syncing.{lost_by_forgetting}
+use Rattle.busdma_rules.specs.Lending.Loans.{Loan, Loans, addresses_of, to_write, loan_of}
 use Rattle.loan_table.specs.Table.{AreIn, set_all}
 use Rattle.phys_memory.specs.Memory.{Memory, wire}
 use Rattle.ideal_lane.specs.IdealMemory.{Unknown, forgotten}

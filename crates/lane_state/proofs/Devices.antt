@@ -19,13 +19,13 @@ use Rattle.device_model.specs.Access.{IsThere, bus_range}
 use Rattle.device_model.proofs.Walk.{bytes_length}
 use Rattle.lane_state.specs.declared.kept.KeptLoad.{KeptLoad}
 use Rattle.dma_map.specs.MapView as held
-use Rattle.loan_table.specs.Loans.{addresses_of, loan_of}
+use Rattle.busdma_rules.specs.Lending.Loans.{addresses_of, loan_of}
 use Rattle.loan_table.specs.Table.{buffer_of}
 use Rattle.phys_memory.specs.Frames.{AreApart}
 use Rattle.phys_memory.specs.Memory.{Memory, has_frame}
-use Rattle.segment_build.specs.Obeying.{segments_bytes}
-use Rattle.segment_build.specs.Segmentation.{segment_bytes}
-use Rattle.segment_build.specs.Trace.{bus_extent}
+use Rattle.busdma_rules.specs.Segments.Obeying.{segments_bytes}
+use Rattle.busdma_rules.specs.Segments.Segmentation.{segment_bytes}
+use Rattle.busdma_rules.specs.Segments.Trace.{bus_extent}
 use Rattle.ideal_lane.specs.Outcomes.{is_loaded}
 use Rattle.ideal_lane.specs.State.{LaneState}
 use Rattle.ideal_lane.specs.Syncs.{bounced_in}

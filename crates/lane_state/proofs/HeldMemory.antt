@@ -5,7 +5,7 @@ use Rattle.std.specs.Option.{option_map}
 use Rattle.std.specs.Ordering.{nat_cmp}
 use Rattle.std.specs.FinMap.{FinMap, get, entries, entries_sorted, get-entries}
 use Rattle.busdma_machine.specs.Machine.Wire.{Wire, Placed, with_bytes_of}
-use Rattle.loan_table.specs.Loans.{Loans, Loan, loan_of, no_loan, to_write, lent, addresses_of}
+use Rattle.busdma_rules.specs.Lending.Loans.{Loans, Loan, loan_of, no_loan, to_write, lent, addresses_of}
 use Rattle.phys_memory.specs.Memory.{Memory, wire}
 use Rattle.ideal_lane.specs.IdealMemory.{IdealMemory, Content, Known, Unknown, known}
 use Rattle.ideal_lane.specs.State.{LaneState}
@@ -17,7 +17,7 @@ use Rattle.ideal_wire.specs.Traces.{stage_at, bus_at, traces_of}
 use Rattle.ideal_wire.proofs.Buses.{placed-buffers}
 use Rattle.ideal_wire.proofs.Placing.{load-of, place-of}
 use Rattle.ideal_wire.proofs.Positions.{twin_of}
-use Rattle.loan_table.specs.declared.position.Position.{Position}
+use Rattle.busdma_rules.specs.declared.position.Position.{Position}
 use Rattle.lane_state.specs.declared.kept.KeptMap.{KeptMap}
 use Rattle.lane_state.specs.Covered.{lends_pages}
 use Rattle.lane_state.specs.Held.{byte_among, content_of, device_view, devices_of, held}

@@ -10,8 +10,8 @@ use Rattle.busdma_machine.specs.Judging.{judged}
 use Rattle.busdma_machine.specs.Machine.Entry.{unmapped_of}
 use Rattle.busdma_machine.specs.Machine.Spans.{bio_spans, span_addresses}
 use Rattle.busdma_machine.specs.Runs.{run_of}
-use Rattle.load_bio.specs.Bio.{is_rounded}
-use Rattle.phys_memory.specs.Translation.{missing, unreached}
+use Rattle.busdma_rules.specs.Memory.Bios.{is_rounded}
+use Rattle.busdma_rules.specs.Memory.Translation.{missing, unreached}
 use Rattle.ideal_lane.specs.Loads.{is_foreign_in, is_foreign_to, load_judged, load_refusal, load_translation}
 use Rattle.ideal_lane.specs.Places.{is_in_memory, is_memory_byte}
 use Rattle.ideal_lane.specs.State.{LaneState, LaneMemory}

@@ -24,19 +24,20 @@ use Rattle.busdma_machine.specs.Machine.Entry.{parts_of, unmapped_of}
 use Rattle.busdma_base.specs.Scenarios.PageRuns as runs
 use Rattle.busdma_machine.specs.Machine.Spans.{bio_spans}
 use Rattle.busdma_machine.specs.Runs.{IsExtent, addresses, byte_count, run_of}
-use Rattle.load_bio.specs.Bio.{is_rounded}
-use Rattle.load_bio.specs.Frames.{AreFrames, in_frames}
-use Rattle.load_bio.proofs.InFrames.{IsInOneOf, frames_paged}
+use Rattle.busdma_rules.specs.Memory.Bios.{is_rounded}
+use Rattle.busdma_rules.specs.Memory.BioFrames.{AreFrames, in_frames}
+use Rattle.busdma_rules.proofs.Memory.InFrames.{IsInOneOf, frames_paged}
 use Rattle.loan_table.specs.Table.{AreIn}
 use Rattle.phys_memory.specs.Extents.{LiesIn}
 use Rattle.phys_memory.specs.Frames.{Lie}
 use Rattle.phys_memory.specs.Memory.{IsMemory, Memory, has_frame}
 use Rattle.phys_memory.specs.Memory as memory
-use Rattle.phys_memory.specs.Translation.{Translation, missing, unreached}
-use Rattle.phys_memory.specs.Vector.{ending, entries_of, judged_spans, spans_stream}
-use Rattle.phys_memory.proofs.Paged.{IsPaged}
+use Rattle.busdma_rules.specs.Memory.Translation.{Translation, missing, unreached}
+use Rattle.phys_memory.specs.Vector.{ending, spans_stream}
+use Rattle.busdma_rules.specs.Memory.Vectors.{entries_of, judged_spans}
+use Rattle.busdma_rules.proofs.Memory.Paged.{IsPaged}
 use Rattle.phys_memory.proofs.Reached.{IsHeld, memory_paged}
-use Rattle.phys_memory.proofs.Vectors.{entries_are, entries_have}
+use Rattle.busdma_rules.proofs.Memory.Vectors.{entries_are, entries_have}
 use Rattle.ideal_lane.specs.Loads.{load_entries, load_translation}
 use Rattle.ideal_lane.specs.State.{LaneState}
 use Rattle.ideal_lane.proofs.Needs.{bytes-few}

@@ -5,7 +5,7 @@ use Rattle.std.specs.Ordering.{nat_cmp}
 use Rattle.std.specs.FinMap.{FinMap, get, insert, remove}
 use Rattle.std.specs.List.{list_any}
 use Rattle.lane_tables.specs.declared.queued.QueuedPage.{QueuedPage}
-use Rattle.loan_table.specs.Loans.{Loans}
+use Rattle.busdma_rules.specs.Lending.Loans.{Loans}
 use Rattle.ideal_lane.proofs.Lookups.{get_put, get_cut, mapped, put_same}
 use Rattle.ideal_lane.proofs.Weights.{weigh-new, weigh-cut}
 use Rattle.lane_state.specs.declared.holdings.Holdings.{Holdings}

@@ -9,11 +9,11 @@ use Rattle.busdma_machine.specs.declared.machine.bio.Bio.TheVariants as bio
 use Rattle.busdma_machine.specs.Judging.{judged, refused_or}
 use Rattle.busdma_machine.specs.Runs.{addresses, run_of}
 use Rattle.load_bio.specs.Bio.{bio_stream}
-use Rattle.load_bio.specs.Frames.{in_frames}
+use Rattle.busdma_rules.specs.Memory.BioFrames.{in_frames}
 use Rattle.phys_memory.specs.declared.walk.Walked.TheVariants as walk
-use Rattle.phys_memory.specs.Extents.{reached, then_reached}
+use Rattle.busdma_rules.specs.Memory.Extents.{reached, then_reached}
 use Rattle.phys_memory.specs.Memory.{Memory, physical, reached_in}
-use Rattle.phys_memory.specs.Translation.{Translation, missing, unreached}
+use Rattle.busdma_rules.specs.Memory.Translation.{Translation, missing, unreached}
 use Rattle.phys_memory.specs.Walk.{IfParts, run_stream, verdict, walk_of}
 use Rattle.phys_memory.proofs.Vectors.{spans_one}
 

@@ -15,7 +15,7 @@ use Rattle.busdma_machine.specs.Machine.Page.{FrameBytes}
 use Rattle.busdma_machine.specs.Machine.PageList.{page_address, page_addresses}
 use Rattle.lane_agreement.proofs.Whole.{granted-length}
 use Rattle.dma_map.specs.declared.room.LoadRoom.{LoadRoom}
-use Rattle.segment_build.specs.Trace.{IsPage}
+use Rattle.busdma_rules.specs.Segments.Trace.{IsPage}
 use Rattle.lane_state.specs.Loading.{HasNeed, HasRoomFor, HasRoomForAny, IsWanted}
 
 -- pages have as many addresses

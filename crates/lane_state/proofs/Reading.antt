@@ -16,13 +16,13 @@ use Rattle.busdma_base.specs.declared.scenarios.script.Place.{Place}
 use Rattle.busdma_machine.specs.Judging.{judged, refused_or}
 use Rattle.busdma_base.specs.Scenarios.PageRuns.{physical_in}
 use Rattle.busdma_machine.specs.Runs.{run_of}
-use Rattle.loan_table.specs.declared.position.Position.{Position}
-use Rattle.loan_table.specs.Access.{cpu_read_answer, cpu_read_refusal}
-use Rattle.loan_table.specs.Loans.{Loan, Loans, lends, to_write}
+use Rattle.busdma_rules.specs.declared.position.Position.{Position}
+use Rattle.busdma_rules.specs.Lending.Access.{cpu_read_answer, cpu_read_refusal}
+use Rattle.busdma_rules.specs.Lending.Loans.{Loan, Loans, lends, to_write}
 use Rattle.loan_table.specs.Table.{is_marked}
 use Rattle.phys_memory.specs.Memory.{Memory, wire}
 use Rattle.phys_memory.specs.Memory as memory
-use Rattle.phys_memory.specs.Translation.{physical_or_0, unreached}
+use Rattle.busdma_rules.specs.Memory.Translation.{physical_or_0, unreached}
 use Rattle.ideal_lane.specs.Accesses.{cpu_read, values}
 use Rattle.ideal_lane.specs.IdealMemory.{known, value, is_known}
 use Rattle.ideal_lane.specs.Outcomes.{gives, unless_absent, unless_refused}

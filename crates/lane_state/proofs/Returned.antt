@@ -9,7 +9,7 @@ use Rattle.dma_map.specs.MapView.{idle}
 use Rattle.lane_agreement.specs.View.{Return}
 use Rattle.lane_tables.specs.declared.queued.QueuedPage.{QueuedPage}
 use Rattle.lane_tables.specs.Queues.{has_page}
-use Rattle.loan_table.specs.Loans.{Loans}
+use Rattle.busdma_rules.specs.Lending.Loans.{Loans}
 use Rattle.ideal_lane.specs.Outcomes.{is_loaded}
 use Rattle.ideal_lane.proofs.Lookups.{get_put}
 use Rattle.ideal_lane.proofs.Weights.{weigh-put}

@@ -6,7 +6,7 @@ use Rattle.std.specs.FinMap.{FinMap, empty, get, get-empty, insert, remove}
 use Rattle.std.specs.Option.{option_map_or}
 use Rattle.std.specs.Ordering.{nat_cmp}
 use Rattle.busdma_machine.specs.Tags.Tag.{could_bounce}
-use Rattle.iommu_map.specs.Space.{Space}
+use Rattle.busdma_rules.specs.Iommu.Space.{Space}
 use Rattle.ideal_lane.specs.Loads.{is_device}
 use Rattle.ideal_lane.specs.Maps.{bounces}
 use Rattle.ideal_lane.specs.State.{LaneMap, LaneTag, no_space}

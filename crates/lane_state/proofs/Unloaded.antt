@@ -17,7 +17,7 @@ use Rattle.lane_state.specs.declared.kept.KeptLoad.{KeptLoad}
 use Rattle.dma_map.specs.MapView as held
 use Rattle.lane_tables.specs.declared.queued.QueuedPage.{QueuedPage}
 use Rattle.lane_tables.specs.Queues.{queued_pages}
-use Rattle.loan_table.specs.Loans.{Loans}
+use Rattle.busdma_rules.specs.Lending.Loans.{Loans}
 use Rattle.ideal_lane.specs.Outcomes.{is_idle}
 use Rattle.ideal_lane.proofs.Lookups.{get_put, get_cut}
 use Rattle.ideal_lane.proofs.Weights.{weigh-put}

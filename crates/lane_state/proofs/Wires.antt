@@ -13,8 +13,8 @@ use Rattle.busdma_machine.specs.declared.machine.address.Extent.{Extent}
 use Rattle.busdma_machine.specs.Runs.{run_of, addresses, byte_count}
 use Rattle.phys_memory.specs.Memory.{Memory, has_frame, written, rewritten}
 use Rattle.phys_memory.specs.Extents.{LiesIn}
-use Rattle.loan_table.specs.declared.position.Position.{Position}
-use Rattle.loan_table.specs.Loans.{addresses_of}
+use Rattle.busdma_rules.specs.declared.position.Position.{Position}
+use Rattle.busdma_rules.specs.Lending.Loans.{addresses_of}
 use Rattle.loan_table.proofs.Addresses.{no_extent}
 use Rattle.loan_table.proofs.Judgement.{length-run_of}
 use Rattle.lane_state.specs.Covered.{IsCovered}

@@ -14,10 +14,10 @@ use Rattle.busdma_base.specs.declared.scenarios.scenario.PageRun.{PageRun}
 use Rattle.busdma_base.specs.Scenarios.PageRuns.{is_own}
 use Rattle.dma_map.specs.declared.room.LoadRoom.{LoadRoom}
 use Rattle.dma_map.specs.MapView.{waiting_load}
-use Rattle.load_bio.specs.Bio.{is_rounded}
-use Rattle.loan_table.specs.Loans.{Loan, Loans, loan_of, new_loan}
-use Rattle.phys_memory.specs.Vector.{entries_of}
-use Rattle.segment_build.specs.Chunks.{chunks_of}
+use Rattle.busdma_rules.specs.Memory.Bios.{is_rounded}
+use Rattle.busdma_rules.specs.Lending.Loans.{Loan, Loans, loan_of, new_loan}
+use Rattle.busdma_rules.specs.Memory.Vectors.{entries_of}
+use Rattle.busdma_rules.specs.Segments.Chunks.{chunks_of}
 use Rattle.ideal_lane.specs.Loads.{no_limits}
 use Rattle.ideal_wire.specs.Laid.{AreInPages, in_pages}
 use Rattle.lane_state.specs.declared.kept.KeptLoad.{KeptLoad}

@@ -13,7 +13,7 @@ use Rattle.busdma_base.specs.Scenarios.Operations.{items_of}
 use Rattle.lane_state.specs.declared.kept.KeptLoad.{KeptLoad}
 use Rattle.dma_map.specs.MapView as held
 use Rattle.lane_tables.specs.declared.queued.QueuedPage.{QueuedPage}
-use Rattle.loan_table.specs.Loans.{Loans}
+use Rattle.busdma_rules.specs.Lending.Loans.{Loans}
 use Rattle.memory_pages.specs.Placed.{IsPlaced}
 use Rattle.phys_memory.specs.Memory.{Memory, has_frame, physical}
 use Rattle.ideal_lane.specs.Outcomes.{is_idle, is_loaded}

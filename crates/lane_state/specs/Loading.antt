@@ -20,13 +20,13 @@ use Rattle.busdma_machine.specs.Machine.Spans.{bio_spans, span_bytes}
 use Rattle.busdma_machine.specs.Runs.{run_of}
 use Rattle.busdma_base.specs.Scenarios.Buffers.{IsBioOf}
 use Rattle.load_bio.specs.Bio.{IsBio, bio_stream}
-use Rattle.loan_table.specs.Loans.{Loan, new_loan}
+use Rattle.busdma_rules.specs.Lending.Loans.{Loan, new_loan}
 use Rattle.loan_table.specs.Table.{Table}
-use Rattle.phys_memory.specs.Vector.{judged_spans}
-use Rattle.segment_build.specs.Building.{placed_pieces, tag_placed}
-use Rattle.segment_build.specs.Chunks.{bounced_of, need_of}
-use Rattle.segment_build.specs.Segmentation.{segmentation}
-use Rattle.segment_build.specs.Trace.{IsPage}
+use Rattle.busdma_rules.specs.Memory.Vectors.{judged_spans}
+use Rattle.busdma_rules.specs.Segments.Building.{placed_pieces, tag_placed}
+use Rattle.busdma_rules.specs.Segments.Chunks.{bounced_of, need_of}
+use Rattle.busdma_rules.specs.Segments.Segmentation.{segmentation}
+use Rattle.busdma_rules.specs.Segments.Trace.{IsPage}
 use Rattle.ideal_lane.specs.Loads.{chunks_for, is_coherent, load_entries, load_translation}
 use Rattle.ideal_lane.specs.Places.{physical}
 use Rattle.ideal_lane.specs.State.{LaneMap, LaneMemory, LaneState}

@@ -18,8 +18,8 @@ use Rattle.busdma_machine.specs.declared.tags.tag.TagLimits.{TagLimits}
 use Rattle.busdma_base.specs.declared.scenarios.scenario.PageRun.{PageRun}
 use Rattle.dma_map.specs.declared.room.LoadRoom.{LoadRoom}
 use Rattle.load_bio.specs.Bio.{IsBio}
-use Rattle.loan_table.specs.contracts.position.Position as position
-use Rattle.loan_table.specs.Loans.{Loan, Loans}
+use Rattle.busdma_rules.specs.contracts.position.Position as position
+use Rattle.busdma_rules.specs.Lending.Loans.{Loan, Loans}
 use Rattle.ideal_wire.specs.OneProof.{IsBioOf-prop}
 use Rattle.lane_state.specs.declared.kept.KeptLoad.{KeptLoad}
 use Rattle.lane_state.specs.declared.kept.KeptMap.{KeptMap}

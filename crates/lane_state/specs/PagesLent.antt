@@ -9,7 +9,7 @@ use Rattle.dma_map.specs.MapView as held
 use Rattle.map_sync.specs.Held.{IsHeld, paged}
 use Rattle.phys_memory.specs.Frames.{AreApart}
 use Rattle.phys_memory.specs.Memory.{Memory}
-use Rattle.segment_build.specs.Obeying.{segments_bytes}
+use Rattle.busdma_rules.specs.Segments.Obeying.{segments_bytes}
 use Rattle.lane_state.specs.Kept.{device_in}
 
 -- a map has a load with its pages, which lie apart from each other and from the frames of a memory

@@ -9,13 +9,13 @@ ghost use Rattle.busdma_machine.specs.Machine.Entry.{IsStream, entries_addresses
 ghost use Rattle.busdma_machine.specs.Machine.PageList.{page_addresses};
 ghost use Rattle.busdma_machine.specs.Machine.Spans.{span_bytes};
 ghost use Rattle.busdma_machine.specs.Runs.{addresses, byte_count};
-ghost use Rattle.dma_tag.specs.LoadFlags.{nowait};
+ghost use Rattle.busdma_rules.specs.Tags.LoadFlags.{nowait};
 ghost use Rattle.loan_table.specs.Table.{AreIn};
 ghost use Rattle.phys_memory.specs.Frames.{Lie};
-ghost use Rattle.segment_build.specs.Building.{placed_pieces};
-ghost use Rattle.segment_build.specs.Chunks.{need_of};
+ghost use Rattle.busdma_rules.specs.Segments.Building.{placed_pieces};
+ghost use Rattle.busdma_rules.specs.Segments.Chunks.{need_of};
 ghost use Rattle.segment_build.specs.Streams.{IsBuiltFrom, IsMeasured, OverflowsFrom, stream_chunks};
-ghost use Rattle.segment_build.specs.Trace.{IsPage};
+ghost use Rattle.busdma_rules.specs.Segments.Trace.{IsPage};
 ghost use Rattle.ideal_lane.specs.Loads.{load_entries};
 ghost use Rattle.ideal_lane.specs.Turns as turns;
 ghost use Rattle.ideal_lane.specs.Turns.{bio_at};

@@ -7,7 +7,7 @@ ghost use Rattle.busdma_machine.specs.Judging.{judged};
 ghost use Rattle.busdma_machine.specs.Machine.Entry.{unmapped_of};
 ghost use Rattle.busdma_machine.specs.Machine.Spans.{span_addresses, span_bytes};
 ghost use Rattle.busdma_machine.specs.Runs.{run_of};
-ghost use Rattle.dmamem.specs.Memory.{virtual_of};
+ghost use Rattle.busdma_rules.specs.Memory.Memories.{virtual_of};
 ghost use Rattle.ideal_lane.specs.Loads.{load_judged};
 ghost use Rattle.ideal_lane.specs.Places.{is_in_memory, is_memory_byte};
 ghost use Rattle.lane_state.specs.Judging.{earlier, foreign_at, foreign_bytes, foreign_judged, foreign_refusal};

@@ -13,6 +13,6 @@ pub use buffers::{
     LoadBytes, build_parts, copy_segments, extents_of, measure_parts, never_waits, write_addresses,
 };
 pub use holdings::{Answered, Holdings, report, unheld};
-pub use script::Script;
 pub use kept::{KeptLoad, KeptMap, KeptMemory, KeptRing, KeptShare, KeptTag};
+pub use script::Script;
 pub use sends::Resend;

@@ -7,7 +7,7 @@ ghost use Rattle.busdma_machine.specs.Runs.{addresses, byte_count, run_of};
 ghost use Rattle.loan_table.specs.Table.{AreIn};
 ghost use Rattle.phys_memory.specs.Frames.{Lie};
 ghost use Rattle.phys_memory.specs.Memory.{physical};
-ghost use Rattle.phys_memory.specs.Translation.{physical_or_0, unreached};
+ghost use Rattle.busdma_rules.specs.Memory.Translation.{physical_or_0, unreached};
 ghost use Rattle.phys_memory.specs.Walk.{IfParts, verdict, walk_of};
 ghost use Rattle.ideal_lane.specs.Loads.{is_device};
 ghost use Rattle.ideal_lane.specs.Places.{virtual_at};

@@ -1,6 +1,6 @@
 -- What contracts see of a driver's agenda.
 use Rattle.std.specs.Prelude.{ℕ, List}
-use Rattle.lane_tables.specs.declared.queued.QueuedItem.{QueuedItem}
+use Rattle.busdma_base.specs.declared.scenarios.queued.QueuedItem.{QueuedItem}
 use Rattle.lane_tables.specs.declared.queued.QueuedPage.{QueuedPage}
 
 -- the place of the next operation, the length of the script, the transfer queue and the return

@@ -6,10 +6,11 @@ ghost use Rattle.std.specs.Prelude.{IfNone, IfOk, IfSome, OnErr, OnOk, OnSome};
 ghost use Rattle.std.specs.VecDeque.{deque_capacity};
 ghost use Rattle.busdma_base.specs.Scenarios.Limits.{steps_limit};
 ghost use Rattle.busdma_base.specs.Scenarios.Script.{steps_of};
-ghost use Rattle.lane_tables.specs.Queues.{script_items, queued, queue_names, queued_pages, has_page};
+ghost use Rattle.busdma_base.specs.Scenarios.Queues.{script_items, queued, queue_names};
+ghost use Rattle.lane_tables.specs.Queues.{queued_pages, has_page};
 
-use crate::queued::{QueuedItem, QueuedPage, Returned, item_names};
-use busdma_base::{Driver, ItemList, MapId, Op, PageList, ZoneId};
+use crate::queued::{QueuedPage, Returned, item_names};
+use busdma_base::{Driver, ItemList, MapId, Op, PageList, QueuedItem, ZoneId};
 use std::alloc::{AllocError, Global};
 use std::collections::VecDeque;
 use std::marker::Model;

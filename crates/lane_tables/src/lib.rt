@@ -8,4 +8,4 @@ mod queued;
 
 pub use agenda::Agenda;
 pub use place_table::{Iter, PlaceTable};
-pub use queued::{QueuedItem, QueuedPage, Returned};
+pub use queued::{QueuedPage, Returned};

@@ -1,18 +1,9 @@
-//! What stands in a driver's queues.
+//! What stands in a driver's return queue.
 
 ghost use Rattle.std.specs.Prelude.{◌≡◌};
-ghost use Rattle.lane_tables.specs.Queues.{item_names};
+ghost use Rattle.busdma_base.specs.Scenarios.Queues.{item_names};
 
 use busdma_base::{Item, MapId, NameKind, Page, ZoneId};
-
-/// An item of the transfer queue: `load_at` is the place in the script of the load that brought it,
-/// `place` its place among that load's items.
-#[derive(Debug, Drop)]
-pub struct QueuedItem {
-    pub load_at: u32,
-    pub place: u32,
-    pub item: Item,
-}
 
 /// A page of the return queue, which its map held and its zone gets back.
 #[derive(Debug, Drop)]

@@ -5,7 +5,7 @@ use Rattle.busdma_base.specs.declared.scenarios.script.Op.TheVariants.{Await}
 use Rattle.lane_state.specs.declared.kept.KeptLoad.{KeptLoad}
 use Rattle.dma_map.specs.declared.state.MapState.TheVariants as state
 use Rattle.dma_map.specs.MapView as held
-use Rattle.lane_tables.specs.Queues.{queue_names}
+use Rattle.busdma_base.specs.Scenarios.Queues.{queue_names}
 use Rattle.ideal_lane.specs.State.{LaneState, LaneMap}
 use Rattle.ideal_lane.specs.Turns.{waits, waits_in}
 use Rattle.lane_state.specs.Kept.{stage_of}

@@ -16,7 +16,7 @@ use Rattle.busdma_base.specs.Scenarios.Buffers.{IsBioOf, IsBufferOf, buffer_byte
 use Rattle.busdma_base.specs.Scenarios.Limits.{buffer_limit}
 use Rattle.busdma_base.specs.Scenarios.Valid.{LoadsFrom}
 use Rattle.load_bio.specs.Bio.{IsBio}
-use Rattle.load_bio.specs.Frames.{AreFrames}
+use Rattle.busdma_rules.specs.Memory.BioFrames.{AreFrames}
 use Rattle.phys_memory.proofs.Loads.{one_bytes}
 use Rattle.ideal_lane.specs.Places.{virtual_at}
 use Rattle.ideal_lane.specs.State.{LaneState}

@@ -18,16 +18,16 @@ use Rattle.busdma_base.specs.declared.scenarios.script.Item.{Item}
 use Rattle.busdma_base.specs.declared.scenarios.script.Item.TheVariants as item
 use Rattle.busdma_machine.specs.Machine.Wire.{Wire, put, with_bytes_of}
 use Rattle.busdma_base.specs.Scenarios.Operations.{bytes_of}
-use Rattle.dma_tag.specs.SyncOps.{is_mixed}
-use Rattle.lane_tables.specs.declared.queued.QueuedItem.{QueuedItem}
+use Rattle.busdma_rules.specs.Tags.SyncOps.{is_mixed}
+use Rattle.busdma_base.specs.declared.scenarios.queued.QueuedItem.{QueuedItem}
 use Rattle.lane_tables.specs.Schedule.{Schedule}
-use Rattle.iommu_map.specs.Space.{translated}
-use Rattle.loan_table.specs.declared.position.Position.{Position}
-use Rattle.loan_table.specs.Access.{dev_read_answer, dev_read_refusal, dev_write_answer, dev_write_refusal}
-use Rattle.loan_table.specs.Lending.{sync_answer}
-use Rattle.loan_table.specs.Loans.{load_bytes, loan_of}
-use Rattle.ring_device.specs.declared.descriptor.Descriptor.{Descriptor}
-use Rattle.ring_device.specs.Ranges.{place_of}
+use Rattle.busdma_rules.specs.Iommu.Space.{translated}
+use Rattle.busdma_rules.specs.declared.position.Position.{Position}
+use Rattle.busdma_rules.specs.Lending.Access.{dev_read_answer, dev_read_refusal, dev_write_answer, dev_write_refusal}
+use Rattle.busdma_rules.specs.Lending.Syncing.{sync_answer}
+use Rattle.busdma_rules.specs.Lending.Loans.{load_bytes, loan_of}
+use Rattle.busdma_rules.specs.declared.descriptor.Descriptor.{Descriptor}
+use Rattle.busdma_rules.specs.Rings.Ranges.{place_of}
 use Rattle.std.specs.FinMap.{entries, get}
 use Rattle.std.specs.Prelude.{nat_le, replicate}
 use Rattle.ideal_lane.specs.Accesses.{place_in, position_in, raw_refusal, unless_unlent, values}

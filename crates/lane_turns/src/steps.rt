@@ -15,13 +15,12 @@ ghost use Rattle.lane_state.specs.Wire.{IsWired, wire_of};
 ghost use Rattle.lane_state.specs.Changes.{KeepsButAgenda, KeepsState};
 ghost use Rattle.lane_state.specs.Ideal.{given, ideal_of};
 
-use busdma_base::{Answer, Bytes, Errno, Item, Op};
+use busdma_base::{Answer, Bytes, Errno, Item, Op, QueuedItem};
 use dma_map::MapState;
 use dma_tag::SyncOps;
 use lane_access::{dev_read, dev_read_at, dev_write, dev_write_at, sync, sync_range};
 use lane_rings::ring_step;
 use lane_state::{Holdings, Resend};
-use lane_tables::QueuedItem;
 use std::alloc::{AllocError, Global};
 
 /// Does an item, but for its leaving the queue.

@@ -10,16 +10,17 @@ use Rattle.phys_memory.specs.declared.entries.Entries.{Entries}
 use Rattle.phys_memory.specs.declared.entries.Entries.TheVariants as walk
 use Rattle.phys_memory.specs.declared.walk.Walked.{Walked}
 use Rattle.phys_memory.specs.declared.walk.Walked.TheVariants.{Parts, Unmapped}
-use Rattle.phys_memory.specs.Extents.{reached}
-use Rattle.phys_memory.specs.Translation.{physical_or_0}
+use Rattle.busdma_rules.specs.Memory.Extents.{reached}
+use Rattle.busdma_rules.specs.Memory.Translation.{physical_or_0}
 use Rattle.phys_memory.specs.Vector.{IfAll, spans_stream, spans_walk}
 use Rattle.phys_memory.specs.Walk.{walk_of, walked}
 use Rattle.phys_memory.proofs.Loads.{one_bytes, spans_load}
 use Rattle.phys_memory.proofs.Vectors.{past_entry, past_none, spans_one, stopped, walk_bytes, walk_entries, walk_have}
 use Rattle.phys_memory.proofs.Vectors.{walk_touches}
 use Rattle.phys_memory.proofs.Walks.{walked-run}
-use Rattle.load_bio.specs.Frames.{AreFrames, LiesInOneOf, in_frames}
-use Rattle.load_bio.proofs.InFrames.{IsInOneOf, frames_paged}
+use Rattle.busdma_rules.specs.Memory.BioFrames.{AreFrames, in_frames}
+use Rattle.load_bio.specs.Frames.{LiesInOneOf}
+use Rattle.busdma_rules.proofs.Memory.InFrames.{IsInOneOf, frames_paged}
 
 -- the stream of frames of at most 2^20 bytes is that of a load
 pub frames_load : (fs : List ℕ) (off n : ℕ) → AreFrames fs → n ≤ 2 ^ 20 →

@@ -1,5 +1,5 @@
 -- The bytes of bios, and the walks over them.
-use Rattle.std.specs.Prelude.{◌<◌, Bool, true, false, List, [], ◌∷◌}
+use Rattle.std.specs.Prelude.{◌<◌, List}
 use Rattle.busdma_machine.specs.declared.machine.address.Extent.{Extent}
 use Rattle.busdma_machine.specs.declared.machine.bio.Bio.{Bio}
 use Rattle.busdma_machine.specs.declared.machine.bio.Bio.TheVariants.{Mapped, Vector, Unmapped}
@@ -7,10 +7,12 @@ use Rattle.busdma_machine.specs.declared.machine.chunk.Part.{Part}
 use Rattle.phys_memory.specs.declared.entries.Entries.{Entries}
 use Rattle.phys_memory.specs.Extents.{LiesIn}
 use Rattle.phys_memory.specs.Memory.{Memory}
-use Rattle.phys_memory.specs.Translation.{Translation}
+use Rattle.busdma_rules.specs.Memory.Translation.{Translation}
 use Rattle.busdma_machine.specs.Machine.Spans.{bio_spans}
 use Rattle.phys_memory.specs.Vector.{spans_stream, spans_walk}
-use Rattle.load_bio.specs.Frames.{AreFrames, LiesInOneOf, in_frames}
+use Rattle.busdma_rules.specs.Memory.BioFrames.{AreFrames}
+use Rattle.load_bio.specs.Frames.{LiesInOneOf}
+use Rattle.busdma_rules.specs.Memory.Bios.{bio_translation, is_rounded}
 
 -- an unmapped bio begins in its first frame, and its frames have numbers below 2^30
 abbrev pub IsBio : Bio → Type 0
@@ -18,23 +20,11 @@ IsBio (Mapped span) = Unit {0}
 IsBio (Vector spans) = Unit {0}
 IsBio (Unmapped frames off len) = (off < 4096) × AreFrames frames
 
--- where the bytes of a bio's spans lie, for a driver with this translation
-abbrev pub bio_translation : Translation → Bio → Translation
-bio_translation t (Mapped span) = t
-bio_translation t (Vector spans) = t
-bio_translation t (Unmapped frames off len) = in_frames frames
-
 -- an extent lies in a frame of the driver's memory, or of an unmapped bio in one of its frames
 abbrev pub LiesInBio : Memory → Bio → Extent → Type 0
 LiesInBio m (Mapped span) e = LiesIn m e
 LiesInBio m (Vector spans) e = LiesIn m e
 LiesInBio m (Unmapped frames off len) e = LiesInOneOf frames e
-
--- the entries of a bio are rounded, unless it is unmapped
-abbrev pub is_rounded : Bio → Bool
-is_rounded (Mapped span) = true
-is_rounded (Vector spans) = true
-is_rounded (Unmapped frames off len) = false
 
 -- the walk over a bio of a driver with this translation
 abbrev pub bio_walk : Translation → Bio → Entries

@@ -1,22 +1,7 @@
--- The bytes of frames, one frame behind the other.
-use Rattle.std.specs.Prelude.{ℕ, ◌+◌, ◌*◌, ◌/◌, ◌%◌, ◌^◌, ◌<◌, Contains, List, Option, Some, None, slice_get}
-use Rattle.std.specs.List.{AllByRecursion}
+-- Extents that lie in frames.
+use Rattle.std.specs.Prelude.{ℕ, ◌/◌, Contains, List}
 use Rattle.busdma_machine.specs.declared.machine.address.Extent.{Extent}
-use Rattle.phys_memory.specs.Translation.{Translation}
-
--- the physical address of a byte of a frame, where there is the frame
-abbrev pub byte_of : Option ℕ → ℕ → Option ℕ
-byte_of None at = None
-byte_of (Some frame) at = Some (4096 * frame + at)
-
--- the physical address of each byte of frames by its place in them; there is none past the last
-abbrev pub in_frames : List ℕ → Translation
-in_frames frames k = byte_of (slice_get frames (k / 4096)) (k % 4096)
 
 -- the extent lies in one of these frames
 abbrev pub LiesInOneOf : List ℕ → Extent → Type 0
 LiesInOneOf frames e = Contains frames (e.pa.0 / 4096)
-
--- frames have numbers below 2^30
-abbrev pub AreFrames : List ℕ → Type 0
-AreFrames frames = AllByRecursion (λ frame. frame < 2 ^ 30) frames

@@ -7,10 +7,11 @@ ghost use Rattle.busdma_machine.specs.Machine.Entry.{HasPart, IsEntry, IsStream,
 ghost use Rattle.busdma_machine.specs.Machine.Spans.{bio_spans, span_addresses, span_bytes};
 ghost use Rattle.busdma_machine.specs.declared.machine.bio.Bio.TheVariants.{Mapped, Unmapped, Vector};
 ghost use Rattle.phys_memory.specs.Memory.{IsMemory, physical};
-ghost use Rattle.phys_memory.specs.Translation.{Translation, physical_or_0};
+ghost use Rattle.busdma_rules.specs.Memory.Translation.{Translation, physical_or_0};
 ghost use Rattle.phys_memory.specs.Vector.{IfAll};
-ghost use Rattle.load_bio.specs.Bio.{IsBio, LiesInBio, bio_stream, bio_translation, bio_walk};
-ghost use Rattle.load_bio.specs.Frames.{AreFrames};
+ghost use Rattle.load_bio.specs.Bio.{IsBio, LiesInBio, bio_stream, bio_walk};
+ghost use Rattle.busdma_rules.specs.Memory.Bios.{bio_translation};
+ghost use Rattle.busdma_rules.specs.Memory.BioFrames.{AreFrames};
 
 use crate::frame_walk::walk_frames;
 use crate::frames::{FrameParts, frame_parts};

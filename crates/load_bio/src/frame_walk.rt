@@ -3,7 +3,7 @@
 ghost use Rattle.std.specs.Prelude.{◌≡◌, ◌<◌, false, IfOk};
 ghost use Rattle.busdma_machine.specs.Machine.Spans.{one_span};
 ghost use Rattle.phys_memory.specs.Vector.{spans_walk};
-ghost use Rattle.load_bio.specs.Frames.{AreFrames, in_frames};
+ghost use Rattle.busdma_rules.specs.Memory.BioFrames.{AreFrames, in_frames};
 
 use crate::frames::frame_parts;
 use busdma_machine::{Entry, EntryList, ExtentList, Part};

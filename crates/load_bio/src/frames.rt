@@ -5,7 +5,7 @@ ghost use Rattle.std.specs.Iterator.{YieldsFirst, item_count};
 ghost use Rattle.busdma_machine.specs.Machine.Entry.{IsStream};
 ghost use Rattle.busdma_machine.specs.Machine.Spans.{one_span};
 ghost use Rattle.phys_memory.specs.Vector.{spans_stream};
-ghost use Rattle.load_bio.specs.Frames.{AreFrames, in_frames};
+ghost use Rattle.busdma_rules.specs.Memory.BioFrames.{AreFrames, in_frames};
 
 use busdma_machine::{Extent, Pa, Part};
 use std::marker::Model;
@@ -25,9 +25,9 @@ pub(crate) struct FrameParts<'a> {
 impl<'a> Model for FrameParts<'a> {
     ghost use Rattle.std.specs.Prelude.{List, ◌+◌, ◌<◌, ◌^◌, false};
     ghost use Rattle.busdma_machine.specs.declared.machine.chunk.Part.{Part};
-    ghost use Rattle.phys_memory.specs.Extents.{reached};
+    ghost use Rattle.busdma_rules.specs.Memory.Extents.{reached};
     ghost use Rattle.phys_memory.specs.Walk.{run_stream};
-    ghost use Rattle.load_bio.specs.Frames.{AreFrames, in_frames};
+    ghost use Rattle.busdma_rules.specs.Memory.BioFrames.{AreFrames, in_frames};
 
     ghost Value = { List Part };
 

@@ -7,7 +7,7 @@ ghost use Rattle.busdma_machine.specs.Machine.Entry.{HasPart, IsEntry, IsStream,
 ghost use Rattle.busdma_machine.specs.Machine.Spans.{span_addresses, span_bytes};
 ghost use Rattle.phys_memory.specs.Extents.{LiesIn};
 ghost use Rattle.phys_memory.specs.Memory.{IsMemory, physical};
-ghost use Rattle.phys_memory.specs.Translation.{physical_or_0};
+ghost use Rattle.busdma_rules.specs.Memory.Translation.{physical_or_0};
 ghost use Rattle.phys_memory.specs.Vector.{IfAll, vector, vector_walk};
 
 use busdma_machine::Mbuf;

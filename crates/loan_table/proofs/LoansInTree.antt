@@ -5,10 +5,10 @@ use Rattle.std.specs.Ordering.{nat_cmp}
 use Rattle.std.specs.Map.{lookup}
 use Rattle.std.specs.BTreeMap.{is_at}
 use Rattle.std.specs.FinMap.{insert}
-use Rattle.loan_table.specs.Loans.{Loan, Loans, loan_of, no_loan}
+use Rattle.busdma_rules.specs.Lending.Loans.{Loan, Loans, loan_of, no_loan}
 use Rattle.busdma_machine.specs.Judging.{judged}
 use Rattle.busdma_machine.specs.Machine.Wire.{stretch}
-use Rattle.loan_table.specs.Lending.{synced, marked_range, sync_answer, sync_refusal}
+use Rattle.busdma_rules.specs.Lending.Syncing.{synced, marked_range, sync_answer, sync_refusal}
 use Rattle.loan_table.specs.declared.slot.Slot.{Slot}
 use Rattle.loan_table.specs.Trees.{loans_in}
 use Rattle.loan_table.proofs.Trees.{get-loans_in, loan_at}

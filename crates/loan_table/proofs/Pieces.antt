@@ -21,9 +21,9 @@ use Rattle.busdma_machine.specs.Judging.{judged, refused_or}
 use Rattle.busdma_machine.specs.Machine.Wire.{stretch}
 use Rattle.busdma_machine.specs.Runs.{run_of}
 use Rattle.run_set.specs.Edges.{in_run}
-use Rattle.loan_table.specs.declared.position.Position.{Position}
-use Rattle.loan_table.specs.Loans.{addresses_of}
-use Rattle.loan_table.specs.Lending.{marked}
+use Rattle.busdma_rules.specs.declared.position.Position.{Position}
+use Rattle.busdma_rules.specs.Lending.Loans.{addresses_of}
+use Rattle.busdma_rules.specs.Lending.Syncing.{marked}
 use Rattle.loan_table.specs.Counted.{places, places_in}
 use Rattle.loan_table.specs.Rows.{alike, lent_like, stands, AreAlike}
 use Rattle.loan_table.proofs.Judgement.{length-run_of}

@@ -10,14 +10,14 @@ use Rattle.busdma_machine.specs.declared.report.Judged.TheVariants.{Fine, Refuse
 use Rattle.busdma_machine.specs.Judging.{judged, refused_or}
 use Rattle.busdma_machine.specs.Machine.Wire.{stretch}
 use Rattle.busdma_machine.specs.Runs.{run_of}
-use Rattle.dma_tag.specs.SyncOps.{preread, prewrite, postread, postwrite}
+use Rattle.busdma_rules.specs.Tags.SyncOps.{preread, prewrite, postread, postwrite}
 use Rattle.run_set.specs.Edges.{in_run, member, NoneIn, Rises}
-use Rattle.loan_table.specs.declared.position.Position.{Position}
-use Rattle.loan_table.specs.Loans.{Loan, addresses_of, new_loan, stands_twice, to_write, unlent}
+use Rattle.busdma_rules.specs.declared.position.Position.{Position}
+use Rattle.busdma_rules.specs.Lending.Loans.{Loan, addresses_of, new_loan, stands_twice, to_write, unlent}
 use Rattle.loan_table.specs.Kinds.{unlent_refusal}
-use Rattle.loan_table.specs.Lending.{marked, marked_range}
+use Rattle.busdma_rules.specs.Lending.Syncing.{marked, marked_range}
 use Rattle.loan_table.specs.Rows.{alike, lent_like, placed, stands, AreAlike}
-use Rattle.loan_table.proofs.Marking.{three_parts}
+use Rattle.busdma_rules.proofs.Lending.Marking.{three_parts}
 use Rattle.loan_table.proofs.Pieces.{two_parts}
 use Rattle.loan_table.proofs.Places.{places_of}
 use Rattle.loan_table.proofs.Stretches.{take_run}

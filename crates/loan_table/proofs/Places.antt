@@ -11,8 +11,8 @@ use Rattle.run_set.specs.Counts.{Counts, count, changed}
 use Rattle.run_set.specs.Edges.{in_run, NoneIn}
 use Rattle.busdma_machine.specs.declared.machine.address.Extent.{Extent}
 use Rattle.busdma_machine.specs.Runs.{addresses, run_of}
-use Rattle.loan_table.specs.declared.position.Position.{Position}
-use Rattle.loan_table.specs.Loans.{addresses_of, is_at}
+use Rattle.busdma_rules.specs.declared.position.Position.{Position}
+use Rattle.busdma_rules.specs.Lending.Loans.{addresses_of, is_at}
 use Rattle.loan_table.specs.Ends.{Ends}
 use Rattle.loan_table.specs.Rows.{stands, AreCounted, CountsPlaces}
 

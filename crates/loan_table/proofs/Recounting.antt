@@ -13,13 +13,13 @@ use Rattle.std.proofs.lemmas.List.{nil_from_length}
 use Rattle.run_set.specs.Numbers.{count_le}
 use Rattle.run_set.specs.Counts.{count}
 use Rattle.busdma_machine.specs.Machine.Wire.{stretch}
-use Rattle.loan_table.specs.declared.position.Position.{Position}
+use Rattle.busdma_rules.specs.declared.position.Position.{Position}
 use Rattle.loan_table.specs.declared.lent.LentCounts.{LentCounts}
 use Rattle.loan_table.specs.declared.row.Way.{Way}
 use Rattle.loan_table.specs.declared.row.Way.TheVariants.{ToWrite, ToRead}
-use Rattle.loan_table.specs.Loans.{Loan, Loans, loan_of, no_loan, is_at, unlent}
+use Rattle.busdma_rules.specs.Lending.Loans.{Loan, Loans, loan_of, no_loan, is_at, unlent}
 use Rattle.loan_table.specs.Kinds.{test_of}
-use Rattle.loan_table.specs.Lending.{marked, marked_range, synced}
+use Rattle.busdma_rules.specs.Lending.Syncing.{marked, marked_range, synced}
 use Rattle.loan_table.specs.Counted.{places, lent_places, counts_of, IsCounted, IsPlaced, LendsNothing, Holds}
 use Rattle.loan_table.specs.Counted.{IsRecounted}
 use Rattle.loan_table.specs.Trees.{with_value}

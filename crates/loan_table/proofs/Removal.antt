@@ -6,9 +6,9 @@ use Rattle.std.specs.Cmp.{nat_cmp_total, unsigned_tied}
 use Rattle.std.specs.FinMap.{FinMap, empty, get-empty, get, remove, get-remove}
 use Rattle.std.specs.List.{AllByRecursion}
 use Rattle.std.proofs.lemmas.List.Elements.{recursion_from_All}
-use Rattle.loan_table.specs.declared.position.Position.{Position}
+use Rattle.busdma_rules.specs.declared.position.Position.{Position}
 use Rattle.loan_table.specs.Kept.{AreLow, HasItsBytes}
-use Rattle.loan_table.specs.Loans.{Loans, loan_of, addresses_of}
+use Rattle.busdma_rules.specs.Lending.Loans.{Loans, loan_of, addresses_of}
 use Rattle.loan_table.specs.Table.{AreIn, AreNew, AreFree, without, is_among}
 
 get-without : (m : FinMap nat_cmp Bool) (ks : List ℕ) (q : ℕ) →

@@ -9,20 +9,20 @@ use Rattle.std.specs.Map.{lookup, keys_of, remove_entry, set_value}
 use Rattle.std.specs.BTreeMap.{is_at, insert_entry}
 use Rattle.std.specs.List.Sorted.{IsStrictlySortedBy}
 use Rattle.std.proofs.lemmas.Map.Entries.{sum_by-remove_entry, sum_by-set_value, sum_by-insert_entry}
-use Rattle.loan_table.specs.declared.position.Position.{Position}
+use Rattle.busdma_rules.specs.declared.position.Position.{Position}
 use Rattle.loan_table.specs.declared.slot.Slot.{Slot}
 use Rattle.loan_table.specs.declared.lent.LentCounts.{LentCounts}
 use Rattle.loan_table.specs.Counted.{counts_of, HasChanges, HasCountRoom, UsesChanges}
 use Rattle.loan_table.specs.Kept.{HasRoom, position_count}
 use Rattle.busdma_machine.specs.Machine.Wire.{stretch}
-use Rattle.loan_table.specs.Lending.{marked_range}
-use Rattle.loan_table.specs.Loans.{Loan, loan_of, addresses_of}
+use Rattle.busdma_rules.specs.Lending.Syncing.{marked_range}
+use Rattle.busdma_rules.specs.Lending.Loans.{Loan, loan_of, addresses_of}
 use Rattle.loan_table.specs.Marks.{Marks}
 use Rattle.loan_table.specs.Table.{extent_count}
 use Rattle.loan_table.specs.Trees.{loans_in}
 use Rattle.loan_table.proofs.Extending.{length-range}
 use Rattle.loan_table.proofs.LoansInTree.{loan_found, loan_shut, loan_missing}
-use Rattle.loan_table.proofs.Marking.{addresses_of-marked_range}
+use Rattle.busdma_rules.proofs.Lending.Marking.{addresses_of-marked_range}
 
 abbrev size : Slot → ℕ
 size slot = length slot.row.positions

@@ -9,7 +9,7 @@ use Rattle.busdma_machine.specs.declared.report.ReportName.TheVariants.{DeviceRe
 use Rattle.busdma_machine.specs.Judging.{judged}
 use Rattle.busdma_machine.specs.Runs.{run_of}
 use Rattle.run_set.specs.Counts.{count}
-use Rattle.loan_table.specs.declared.position.Position.{Position}
+use Rattle.busdma_rules.specs.declared.position.Position.{Position}
 use Rattle.loan_table.specs.declared.lent.LentCounts.{LentCounts}
 use Rattle.loan_table.specs.declared.row.Way.{Way}
 use Rattle.loan_table.specs.declared.row.Way.TheVariants.{ToWrite, ToRead}
@@ -18,9 +18,10 @@ use Rattle.loan_table.specs.declared.access.Access.TheVariants.{Read, Write}
 use Rattle.loan_table.specs.Counted.{counts_of, places, lent_places, IsCounted, IsOf, IsPlaced, IsUnlent, Lender}
 use Rattle.loan_table.specs.Kinds.{cpu_refusal, dev_refusal, test_of}
 use Rattle.std.specs.Option.{option_or}
-use Rattle.dma_tag.specs.SyncOps.{preread, prewrite, postread}
-use Rattle.loan_table.specs.Lending.{postread_refusal, preread_refusal, prewrite_refusal, sync_refusal}
-use Rattle.loan_table.specs.Loans.{Loan, Loans, in_any_way, lent, lent_elsewhere, loan_of, stands_twice, to_read, to_write}
+use Rattle.busdma_rules.specs.Tags.SyncOps.{preread, prewrite, postread}
+use Rattle.busdma_rules.specs.Lending.Syncing.{postread_refusal, preread_refusal, prewrite_refusal, sync_refusal}
+use Rattle.busdma_rules.specs.Lending.Loans.{Loan, Loans, in_any_way, lent, lent_elsewhere, loan_of, stands_twice}
+use Rattle.busdma_rules.specs.Lending.Loans.{to_read, to_write}
 use Rattle.loan_table.proofs.Pieces.{lent_as, none_refused, same_way}
 use Rattle.loan_table.proofs.Stretches.{run_of_sum}
 use Rattle.loan_table.proofs.Totals.{elsewhere_any, elsewhere_counted, lent_any, lent_counted}

@@ -12,10 +12,11 @@ use Rattle.std.specs.FinMap.Entries.{find, where_key, below_all, is_sorted, find
 use Rattle.std.specs.FinMap.{get, insert, remove, entries, entries_sorted, from_sorted, entries-from_sorted}
 use Rattle.std.specs.FinMap.{get-from_sorted, get-entries, get-insert, get-remove}
 use Rattle.std.specs.FinMap.{same_map, nat_cmp-IsAntisymmetric}
-use Rattle.loan_table.specs.declared.position.Position.{Position}
-use Rattle.loan_table.specs.Loans.{Loan, Loans, loan_of, no_loan, in_any_way, is_at, lends, lent, lent_elsewhere, to_read, to_write}
+use Rattle.busdma_rules.specs.declared.position.Position.{Position}
+use Rattle.busdma_rules.specs.Lending.Loans.{Loan, Loans, loan_of, no_loan, in_any_way, is_at, lends, lent}
+use Rattle.busdma_rules.specs.Lending.Loans.{lent_elsewhere, to_read, to_write}
 use Rattle.loan_table.specs.Counted.{places, lent_places}
-use Rattle.loan_table.proofs.Marking.{loan_of-insert}
+use Rattle.busdma_rules.proofs.Lending.Marking.{loan_of-insert}
 
 -- a test of a list by a sum
 either : (a b : ℕ) → (nat_lt 0 a || nat_lt 0 b) ≡ nat_lt 0 (a + b)

@@ -13,17 +13,18 @@ use Rattle.busdma_machine.specs.declared.report.Judged.TheVariants.{Fine}
 use Rattle.busdma_machine.specs.Judging.{judged, refused_or}
 use Rattle.busdma_machine.specs.Machine.Wire.{stretch}
 use Rattle.busdma_machine.specs.Runs.{run_of}
-use Rattle.dma_tag.specs.SyncOps.{preread, prewrite, postread}
-use Rattle.loan_table.specs.declared.position.Position.{Position}
+use Rattle.busdma_rules.specs.Tags.SyncOps.{preread, prewrite, postread}
+use Rattle.busdma_rules.specs.declared.position.Position.{Position}
 use Rattle.loan_table.specs.declared.lent.LentCounts.{LentCounts}
 use Rattle.loan_table.specs.declared.row.Way.{Way}
 use Rattle.loan_table.specs.declared.row.Way.TheVariants.{ToWrite, ToRead}
 use Rattle.loan_table.specs.declared.access.Access.TheVariants.{Write}
 use Rattle.loan_table.specs.Counted.{places, lent_places, AreUnlent, IsCounted, IsOf, Lender, MeetsNothing}
 use Rattle.loan_table.specs.Kinds.{cpu_refusal, test_of}
-use Rattle.loan_table.specs.Lending.{postread_refusal, preread_refusal, prewrite_refusal, sync_refusal}
-use Rattle.loan_table.specs.Loans.{Loan, Loans, addresses_of, in_any_way, lent, lent_elsewhere, loan_of, stands_twice}
-use Rattle.loan_table.specs.Loans.{to_write}
+use Rattle.busdma_rules.specs.Lending.Syncing.{postread_refusal, preread_refusal, prewrite_refusal, sync_refusal}
+use Rattle.busdma_rules.specs.Lending.Loans.{Loan, Loans, addresses_of, in_any_way, lent, lent_elsewhere, loan_of}
+use Rattle.busdma_rules.specs.Lending.Loans.{stands_twice}
+use Rattle.busdma_rules.specs.Lending.Loans.{to_write}
 use Rattle.loan_table.proofs.Addresses.{run_none}
 use Rattle.loan_table.proofs.Judgement.{length-run_of}
 use Rattle.loan_table.proofs.Marking.{no_position}

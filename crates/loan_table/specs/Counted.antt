@@ -4,13 +4,13 @@ use Rattle.std.specs.List.{All}
 use Rattle.std.specs.FinMap.{entries}
 use Rattle.run_set.specs.Counts.{Counts, count}
 use Rattle.run_set.specs.Edges.{in_run}
-use Rattle.loan_table.specs.declared.position.Position.{Position}
+use Rattle.busdma_rules.specs.declared.position.Position.{Position}
 use Rattle.loan_table.specs.declared.lent.LentCounts.{LentCounts}
 use Rattle.loan_table.specs.declared.row.Way.{Way}
 use Rattle.loan_table.specs.declared.row.Way.TheVariants.{ToWrite, ToRead}
 use Rattle.loan_table.specs.Kinds.{test_of}
-use Rattle.loan_table.specs.Lending.{sync_refusal}
-use Rattle.loan_table.specs.Loans.{Loan, Loans, loan_of, is_at, stands_twice}
+use Rattle.busdma_rules.specs.Lending.Syncing.{sync_refusal}
+use Rattle.busdma_rules.specs.Lending.Loans.{Loan, Loans, loan_of, is_at, stands_twice}
 
 -- a map among the loans of its driver
 pub record Lender : Type 0 where

@@ -10,7 +10,7 @@ use Rattle.loan_table.specs.declared.lent.LentCounts.{LentCounts}
 use Rattle.loan_table.specs.Counted.{LendsNothing, IsCounted, HasCountRoom}
 use Rattle.std.specs.Map.{values_of}
 use Rattle.loan_table.specs.Marks.{Marks}
-use Rattle.loan_table.specs.Loans.{Loans, loan_of, addresses_of}
+use Rattle.busdma_rules.specs.Lending.Loans.{Loans, loan_of, addresses_of}
 use Rattle.loan_table.specs.Rows.{loan_code}
 use Rattle.loan_table.specs.Table.{Table, AreIn}
 use Rattle.loan_table.specs.Trees.{opened, closed}

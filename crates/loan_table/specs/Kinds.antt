@@ -1,16 +1,16 @@
 -- The kinds of lending and access that the code tells apart, as tests.
 use Rattle.std.specs.Prelude.{ℕ, Bool, if◌then◌else◌, Option, Some, None}
 use Rattle.busdma_machine.specs.declared.report.ReportName.{ReportName}
-use Rattle.loan_table.specs.declared.position.Position.{Position}
+use Rattle.busdma_rules.specs.declared.position.Position.{Position}
 use Rattle.loan_table.specs.declared.row.Way.{Way}
 use Rattle.loan_table.specs.declared.row.Way.TheVariants.{ToWrite, ToRead}
 use Rattle.loan_table.specs.declared.losing.Losing.{Losing}
 use Rattle.loan_table.specs.declared.losing.Losing.TheVariants.{Call, Forgetting}
 use Rattle.loan_table.specs.declared.access.Access.{Access}
 use Rattle.loan_table.specs.declared.access.Access.TheVariants.{Read, Write}
-use Rattle.loan_table.specs.Loans.{Loans, to_read, to_write}
-use Rattle.loan_table.specs.Lending.{loses}
-use Rattle.loan_table.specs.Access.{cpu_read_refusal, cpu_write_refusal, dev_read_refusal, dev_write_refusal}
+use Rattle.busdma_rules.specs.Lending.Loans.{Loans, to_read, to_write}
+use Rattle.busdma_rules.specs.Lending.Syncing.{loses}
+use Rattle.busdma_rules.specs.Lending.Access.{cpu_read_refusal, cpu_write_refusal, dev_read_refusal, dev_write_refusal}
 
 -- a way of lending, as a test on positions
 abbrev pub test_of : Way → Position → Bool

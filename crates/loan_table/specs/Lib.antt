@@ -1,10 +1,7 @@
-pub mod Access
 pub mod Counted
 pub mod Ends
 pub mod Kinds
 pub mod Kept
-pub mod Lending
-pub mod Loans
 pub mod Marks
 pub mod Rows
 pub mod Table

@@ -8,8 +8,8 @@ use Rattle.run_set.specs.Edges.{Edges, Rises}
 use Rattle.busdma_machine.specs.declared.machine.address.Extent.{Extent}
 use Rattle.busdma_machine.specs.Runs.{addresses, byte_count, run_of}
 use Rattle.loan_table.specs.Ends.{Ends}
-use Rattle.loan_table.specs.declared.position.Position.{Position}
-use Rattle.loan_table.specs.Loans.{Loan, addresses_of}
+use Rattle.busdma_rules.specs.declared.position.Position.{Position}
+use Rattle.busdma_rules.specs.Lending.Loans.{Loan, addresses_of}
 use Rattle.loan_table.specs.Table.{extent_count}
 
 -- at how many places of a list a number stands

@@ -6,9 +6,9 @@ use Rattle.std.specs.Ordering.{nat_cmp}
 use Rattle.std.specs.FinMap.{FinMap, get, insert, remove}
 use Rattle.busdma_machine.specs.declared.report.Judged.{Judged}
 use Rattle.busdma_machine.specs.declared.report.Judged.TheVariants.{Fine, Refused}
-use Rattle.loan_table.specs.declared.position.Position.{Position}
-use Rattle.loan_table.specs.Loans.{Loans, loan_of}
-use Rattle.loan_table.specs.Lending.{synced, lost}
+use Rattle.busdma_rules.specs.declared.position.Position.{Position}
+use Rattle.busdma_rules.specs.Lending.Loans.{Loans, loan_of}
+use Rattle.busdma_rules.specs.Lending.Syncing.{synced, lost}
 
 -- the driver's bytes by physical address, each Known or not; the loans of its loaded maps; those that are prepared
 -- for maps to come; and for how many extents there is room to change

@@ -4,7 +4,7 @@ use Rattle.std.specs.Ordering.{nat_cmp}
 use Rattle.std.specs.BTreeMap.{BTreeMap}
 use Rattle.std.specs.FinMap.{FinMap, empty, insert, remove}
 use Rattle.loan_table.specs.declared.slot.Slot.{Slot}
-use Rattle.loan_table.specs.Loans.{Loan, Loans}
+use Rattle.busdma_rules.specs.Lending.Loans.{Loan, Loans}
 
 -- a finite map with a value at a key, or with none there
 abbrev pub with_value : {X : Type 0} → FinMap nat_cmp X → ℕ → Option X → FinMap nat_cmp X

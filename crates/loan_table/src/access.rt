@@ -5,18 +5,19 @@ ghost use Rattle.std.specs.List.{All};
 ghost use Rattle.busdma_machine.specs.Judging.{judged};
 ghost use Rattle.busdma_machine.specs.Machine.Wire.{stretch};
 ghost use Rattle.busdma_machine.specs.Runs.{run_of, addresses, byte_count};
-ghost use Rattle.loan_table.specs.Access.{cpu_read_refusal, cpu_write_refusal, dev_read_refusal, dev_write_refusal};
+ghost use Rattle.busdma_rules.specs.Lending.Access.{cpu_read_refusal, cpu_write_refusal, dev_read_refusal};
+ghost use Rattle.busdma_rules.specs.Lending.Access.{dev_write_refusal};
 ghost use Rattle.loan_table.specs.Counted.{AreUnlent, IsCounted};
 ghost use Rattle.loan_table.specs.Ends.{Ends};
 ghost use Rattle.loan_table.specs.Kinds.{cpu_refusal, dev_refusal};
-ghost use Rattle.loan_table.specs.Loans.{Loans, in_any_way, lent};
+ghost use Rattle.busdma_rules.specs.Lending.Loans.{Loans, in_any_way, lent};
 ghost use Rattle.loan_table.specs.Table.{is_marked};
 
 use crate::lent::{LentCounts, NearCounts, Unlent};
 use crate::marks::ByteMarks;
-use crate::position::Position;
 use crate::row::{LoanRow, Way};
 use busdma_machine::{Extent, Judged, Report, ReportName};
+use busdma_rules::Position;
 
 /// What is done to bytes.
 #[derive(Clone, Copy)]

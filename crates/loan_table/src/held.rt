@@ -4,8 +4,8 @@ ghost use Rattle.std.specs.Prelude.{◌≡◌, ◌+◌, ◌≤◌, ◌<◌, ◌^
 ghost use Rattle.std.specs.List.{All};
 ghost use Rattle.busdma_machine.specs.Runs.{addresses, byte_count};
 ghost use Rattle.loan_table.specs.Ends.{Ends};
-ghost use Rattle.loan_table.specs.Lending.{marked_range};
-ghost use Rattle.loan_table.specs.Loans.{new_loan};
+ghost use Rattle.busdma_rules.specs.Lending.Syncing.{marked_range};
+ghost use Rattle.busdma_rules.specs.Lending.Loans.{new_loan};
 
 use crate::row::LoanRow;
 use busdma_machine::Extent;
@@ -20,7 +20,7 @@ pub struct HeldRow {
 }
 
 impl Model for HeldRow {
-    ghost use Rattle.loan_table.specs.Loans.{Loan};
+    ghost use Rattle.busdma_rules.specs.Lending.Loans.{Loan};
     ghost use Rattle.loan_table.specs.Rows.{loan_code};
 
     ghost Value = { Loan };

@@ -10,8 +10,8 @@ ghost use Rattle.loan_table.specs.Ends.{Ends};
 ghost use Rattle.loan_table.specs.Counted.{counts_of, places, HasChanges, Holds, IsAlike, IsRecounted};
 ghost use Rattle.loan_table.specs.Counted.{AreUnlent, IsUnlent, UsesChanges};
 ghost use Rattle.loan_table.specs.Kinds.{test_of};
-ghost use Rattle.loan_table.specs.Lending.{marked};
-ghost use Rattle.loan_table.specs.Loans.{addresses_of};
+ghost use Rattle.busdma_rules.specs.Lending.Syncing.{marked};
+ghost use Rattle.busdma_rules.specs.Lending.Loans.{addresses_of};
 ghost use Rattle.loan_table.specs.Rows.{stands, AreAlike};
 
 use crate::piece::Span;

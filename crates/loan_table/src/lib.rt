@@ -10,12 +10,10 @@ mod loans;
 mod losing;
 mod marks;
 mod piece;
-mod position;
 mod room;
 mod row;
 mod slot;
 mod sync;
 mod table;
 
-pub use position::Position;
 pub use table::LoanTable;

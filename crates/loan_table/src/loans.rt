@@ -5,7 +5,7 @@ ghost use Rattle.std.specs.Ordering.{nat_cmp};
 ghost use Rattle.std.specs.BTreeMap as tree;
 ghost use Rattle.std.specs.FinMap as finmap;
 ghost use Rattle.loan_table.specs.Kept.{position_count};
-ghost use Rattle.loan_table.specs.Loans.{loan_of};
+ghost use Rattle.busdma_rules.specs.Lending.Loans.{loan_of};
 ghost use Rattle.loan_table.specs.Trees.{closed, opened};
 
 use crate::row::LoanRow;

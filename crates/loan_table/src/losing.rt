@@ -4,16 +4,16 @@ ghost use Rattle.std.specs.Prelude.{◌≡◌, ◌+◌, ◌≤◌, length, false
 ghost use Rattle.std.specs.List.{filter};
 ghost use Rattle.busdma_machine.specs.Machine.Wire.{stretch};
 ghost use Rattle.loan_table.specs.Kinds.{losing_test};
-ghost use Rattle.loan_table.specs.Lending.{loses};
-ghost use Rattle.loan_table.specs.Loans.{addresses_of};
+ghost use Rattle.busdma_rules.specs.Lending.Syncing.{loses};
+ghost use Rattle.busdma_rules.specs.Lending.Loans.{addresses_of};
 ghost use Rattle.loan_table.specs.Rows.{AreAlike};
 ghost use Rattle.loan_table.specs.Table.{AreIn, set_all};
 
 use crate::marks::{ByteMarks, set_range};
 use crate::piece::Span;
-use crate::position::Position;
 use crate::row::LoanRow;
 use bitflags::Flags;
+use busdma_rules::Position;
 use dma_tag::SyncOps;
 
 /// What makes bytes Unknown: a call on them, or that their map is forgotten.

@@ -6,7 +6,7 @@ ghost use Rattle.std.specs.FinMap as map;
 ghost use Rattle.busdma_machine.specs.Machine.Wire.{stretch};
 ghost use Rattle.busdma_machine.specs.Runs.{run_of, addresses};
 ghost use Rattle.loan_table.specs.Ends.{Ends};
-ghost use Rattle.loan_table.specs.Loans.{addresses_of};
+ghost use Rattle.busdma_rules.specs.Lending.Loans.{addresses_of};
 ghost use Rattle.loan_table.specs.Table.{AreIn, set_all, without, is_marked};
 
 use crate::row::LoanRow;

@@ -1,6 +1,6 @@
 //! Pieces and spans of a map's buffer.
 
-use crate::position::Position;
+use busdma_rules::Position;
 
 /// Positions that follow one another, of bytes that follow one another, all lent alike: the first of
 /// them, and how many they are.

@@ -9,8 +9,8 @@ ghost use Rattle.busdma_machine.specs.Runs.{addresses, byte_count, run_of};
 ghost use Rattle.loan_table.specs.Counted.{places, places_in, HasChanges, Holds, IsPlaced, IsRecounted, UsesChanges};
 ghost use Rattle.loan_table.specs.Ends.{Ends};
 ghost use Rattle.loan_table.specs.Kinds.{test_of, unlent_refusal};
-ghost use Rattle.loan_table.specs.Lending.{marked, marked_range};
-ghost use Rattle.loan_table.specs.Loans.{stands_twice, addresses_of, to_write, new_loan, unlent};
+ghost use Rattle.busdma_rules.specs.Lending.Syncing.{marked, marked_range};
+ghost use Rattle.busdma_rules.specs.Lending.Loans.{stands_twice, addresses_of, to_write, new_loan, unlent};
 ghost use Rattle.loan_table.specs.Rows.{alike, AreAlike, AreWithin, IsRoomy};
 ghost use Rattle.loan_table.specs.Table.{extent_count, AreIn, set_all};
 ghost use Rattle.run_set.specs.Edges.{in_run, member};
@@ -21,9 +21,9 @@ use crate::lent::LentCounts;
 use crate::losing::{self, Losing};
 use crate::marks::ByteMarks;
 use crate::piece::{Piece, Span};
-use crate::position::Position;
 use bitflags::Flags;
 use busdma_machine::{Extent, Judged, Report, ReportName};
+use busdma_rules::Position;
 use dma_tag::SyncOps;
 use run_set::{Near, RunSet};
 use std::alloc::{AllocError, Global};
@@ -61,7 +61,7 @@ pub struct LoanRow {
 
 impl Model for LoanRow {
     ghost use Rattle.run_set.specs.Edges.{member};
-    ghost use Rattle.loan_table.specs.Loans.{Loan};
+    ghost use Rattle.busdma_rules.specs.Lending.Loans.{Loan};
     ghost use Rattle.loan_table.specs.Rows.{loan_code, placed, IsRow};
 
     ghost Value = { Loan };

@@ -13,7 +13,7 @@ use Rattle.busdma_machine.specs.Runs.{addresses, byte_count, run_of}
 use Rattle.phys_memory.specs.Memory.{written}
 use Rattle.phys_memory.proofs.PageBytes.{page_written}
 use Rattle.phys_memory.proofs.Writing.{written_run}
-use Rattle.segment_build.proofs.Places.{run_length}
+use Rattle.busdma_rules.proofs.Segments.Places.{run_length}
 use Rattle.map_sync.specs.Copying.{IsWritten, part}
 use Rattle.phys_memory.proofs.RunParts.{run_append}
 use Rattle.map_sync.proofs.Parts.{part_append, part_run, put_both}

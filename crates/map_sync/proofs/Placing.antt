@@ -13,12 +13,13 @@ use Rattle.busdma_machine.specs.Runs.{IsExtent, addresses, byte_count, run_of}
 use Rattle.phys_memory.specs.Extents.{LiesIn}
 use Rattle.phys_memory.specs.Frames.{Lie}
 use Rattle.phys_memory.specs.Memory.{Memory, has_frame}
-use Rattle.segment_build.specs.Trace.{bus_addresses, bus_extent, bus_from, chunk_extents, chunk_len}
+use Rattle.busdma_rules.specs.Segments.Trace.{bus_addresses, bus_extent, bus_from, chunk_extents, chunk_len}
 use Rattle.map_sync.specs.Copying.{part}
 use Rattle.map_sync.specs.Held.{IsHeld}
-use Rattle.map_sync.specs.Ranges.{chunk_range, placed_at, positions_of}
-use Rattle.segment_build.proofs.Counting.{addresses_length}
-use Rattle.segment_build.proofs.Places.{run_length}
+use Rattle.map_sync.specs.Ranges.{chunk_range}
+use Rattle.busdma_rules.specs.Syncs.Positions.{placed_at, positions_of}
+use Rattle.busdma_rules.proofs.Segments.Counting.{addresses_length}
+use Rattle.busdma_rules.proofs.Segments.Places.{run_length}
 use Rattle.phys_memory.proofs.RunParts.{all_append, all_drop, all_imply, all_take, run_in_frame}
 
 -- what holds of each address, or position, holds of each of a part

@@ -19,7 +19,7 @@ use Rattle.phys_memory.specs.Memory.{Memory, has_frame, wire}
 use Rattle.phys_memory.proofs.PageBytes.{no_page, no_page_at, none_apart, page_at, page_replaced, page_shown}
 use Rattle.phys_memory.proofs.PageBytes.{put_under}
 use Rattle.phys_memory.proofs.RunParts.{all_imply, same_reads}
-use Rattle.segment_build.specs.Trace.{bus_addresses, bus_extent, bus_from, chunk_extents, chunk_len}
+use Rattle.busdma_rules.specs.Segments.Trace.{bus_addresses, bus_extent, bus_from, chunk_extents, chunk_len}
 use Rattle.map_sync.specs.Copying.{IsWritten, part}
 use Rattle.map_sync.specs.Held.{IsHeld, paged}
 use Rattle.map_sync.specs.Ranges.{chunk_range, range_of_chunks}

@@ -8,10 +8,12 @@ use Rattle.std.proofs.lemmas.List.Elements.{filter-append}
 use Rattle.busdma_machine.specs.declared.machine.chunk.Chunk.{Chunk}
 use Rattle.busdma_machine.specs.Machine.Wire.{Placed, Wire, buffers, buses, is_bounced, put, stretch}
 use Rattle.phys_memory.proofs.RunParts.{all_drop, all_take}
-use Rattle.segment_build.specs.Trace.{chunk_len}
+use Rattle.busdma_rules.specs.Segments.Trace.{chunk_len}
 use Rattle.map_sync.specs.Copying.{part}
-use Rattle.map_sync.specs.Ranges.{chunk_range, positions_of, range_of_chunks}
-use Rattle.map_sync.specs.Traces.{CopiesAlike, HasChunk, HasChunks}
+use Rattle.map_sync.specs.Ranges.{chunk_range, range_of_chunks}
+use Rattle.busdma_rules.specs.Syncs.Positions.{positions_of}
+use Rattle.map_sync.specs.Traces.{CopiesAlike}
+use Rattle.busdma_rules.specs.Syncs.Traces.{HasChunk, HasChunks}
 use Rattle.map_sync.proofs.Parts.{part_append}
 use Rattle.map_sync.proofs.Placing.{filter_none}
 

@@ -5,7 +5,7 @@ use Rattle.busdma_machine.specs.declared.machine.chunk.Chunk.{Chunk}
 use Rattle.busdma_machine.specs.Runs.{IsExtent}
 use Rattle.phys_memory.specs.Frames.{Lie}
 use Rattle.phys_memory.specs.Memory.{Memory}
-use Rattle.segment_build.specs.Trace.{bus_extent, chunk_extents}
+use Rattle.busdma_rules.specs.Segments.Trace.{bus_extent, chunk_extents}
 
 -- the chunks that have a page
 abbrev pub paged : List Chunk → List Chunk

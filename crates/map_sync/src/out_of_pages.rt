@@ -8,7 +8,7 @@ ghost use Rattle.busdma_machine.specs.Machine.Wire.{copied_out, page_byte, put, 
 ghost use Rattle.phys_memory.specs.Extents.{LiesIn};
 ghost use Rattle.phys_memory.specs.Frames.{AreApart, Lie, SamePages};
 ghost use Rattle.phys_memory.specs.Memory.{wire};
-ghost use Rattle.segment_build.specs.Trace.{bus_extent, chunk_extents};
+ghost use Rattle.busdma_rules.specs.Segments.Trace.{bus_extent, chunk_extents};
 ghost use Rattle.map_sync.specs.Copying.{part};
 ghost use Rattle.map_sync.specs.Held.{IsHeld, paged};
 ghost use Rattle.map_sync.specs.Ranges.{range_of_chunks};

@@ -9,13 +9,16 @@ use Rattle.busdma_machine.specs.declared.machine.chunk.Part.TheVariants as part
 use Rattle.busdma_machine.specs.Machine.Entry.{IsStream, entries_of, extent_parts, others_of, unmapped_of}
 use Rattle.busdma_machine.specs.Machine.Spans.{one_span}
 use Rattle.busdma_machine.specs.Runs.{run_of}
-use Rattle.phys_memory.specs.Extents.{BeginsFrame, extents_of, reached, then_reached}
-use Rattle.phys_memory.specs.Translation.{Translation}
-use Rattle.phys_memory.specs.Vector.{spans_stream, with_entry}
+use Rattle.phys_memory.specs.Extents.{BeginsFrame}
+use Rattle.busdma_rules.specs.Memory.Extents.{extents_of, reached, then_reached}
+use Rattle.busdma_rules.specs.Memory.Translation.{Translation}
+use Rattle.phys_memory.specs.Vector.{spans_stream}
+use Rattle.busdma_rules.specs.Memory.Vectors.{with_entry}
 use Rattle.phys_memory.specs.Walk.{run_stream}
-use Rattle.phys_memory.proofs.Extents.{Begins, begins, extents_of-run, length-run_of}
+use Rattle.busdma_rules.proofs.Memory.Extents.{Begins, begins}
+use Rattle.phys_memory.proofs.Extents.{extents_of-run, length-run_of}
 use Rattle.phys_memory.proofs.Loads.{one_bytes, spans_load}
-use Rattle.phys_memory.proofs.Paged.{IsPaged}
+use Rattle.busdma_rules.proofs.Memory.Paged.{IsPaged}
 use Rattle.phys_memory.proofs.RunParts.{run_append}
 use Rattle.phys_memory.proofs.Vectors.{spans_one}
 use Rattle.memory_load.specs.MemoryLoad.{run_entries, run_parts}

@@ -4,10 +4,10 @@ use Rattle.busdma_machine.specs.declared.machine.address.Segment.{Segment}
 use Rattle.busdma_machine.specs.declared.machine.chunk.Entry.{Entry}
 use Rattle.busdma_machine.specs.declared.tags.tag.TagLimits.{TagLimits}
 use Rattle.busdma_machine.specs.Tags.TagFlags.{keep_pg_offset}
-use Rattle.segment_build.specs.Building.{placed_pieces, tag_placed}
-use Rattle.segment_build.specs.Built.{AreTooMany, IsFew}
-use Rattle.segment_build.specs.Chunks.{bounced_of, chunks_of, need_of}
-use Rattle.segment_build.specs.Segmentation.{joint, may_join, segmentation, segments_from}
+use Rattle.busdma_rules.specs.Segments.Building.{placed_pieces, tag_placed}
+use Rattle.busdma_rules.specs.Segments.Built.{AreTooMany, IsFew}
+use Rattle.busdma_rules.specs.Segments.Chunks.{bounced_of, chunks_of, need_of}
+use Rattle.busdma_rules.specs.Segments.Segmentation.{joint, may_join, segmentation, segments_from}
 use Rattle.segment_build.specs.Streams.{stream_chunks}
 use Rattle.segment_build.proofs.Cuts.{one_segmentation}
 use Rattle.memory_load.specs.MemoryLoad.{run_entries, run_parts, run_pieces, run_segments, unaligned}

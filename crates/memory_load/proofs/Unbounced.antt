@@ -10,9 +10,9 @@ use Rattle.busdma_machine.specs.declared.tags.tag.TagLimits.{TagLimits}
 use Rattle.busdma_machine.specs.Machine.Entry.{entry_addresses}
 use Rattle.busdma_machine.specs.Runs.{byte_count}
 use Rattle.busdma_machine.specs.Tags.Tag.{excluded, needs_bounce}
-use Rattle.segment_build.specs.Chunks.{bounced_of, chunk_limit, chunks_from, chunks_of_bytes, chunks_within}
-use Rattle.segment_build.specs.Trace.{in_page, first_page, placed}
-use Rattle.segment_build.proofs.Sound.{all_append}
+use Rattle.busdma_rules.specs.Segments.Chunks.{bounced_of, chunk_limit, chunks_from, chunks_of_bytes, chunks_within}
+use Rattle.busdma_rules.specs.Segments.Trace.{in_page, first_page, placed}
+use Rattle.busdma_rules.proofs.Segments.Sound.{all_append}
 use Rattle.memory_load.specs.MemoryLoad.{unaligned}
 
 abbrev pub IsUnbounced : Chunk → Type 0

@@ -7,11 +7,11 @@ use Rattle.busdma_machine.specs.declared.machine.chunk.Part.{Part}
 use Rattle.busdma_machine.specs.declared.tags.tag.TagLimits.{TagLimits}
 use Rattle.busdma_machine.specs.Machine.Entry.{extent_parts}
 use Rattle.busdma_machine.specs.Runs.{run_of}
-use Rattle.phys_memory.specs.Extents.{extents_of}
-use Rattle.phys_memory.specs.Vector.{with_entry}
-use Rattle.segment_build.specs.Building.{placed_pieces}
-use Rattle.segment_build.specs.Chunks.{chunks_of}
-use Rattle.segment_build.specs.Segmentation.{segmentation}
+use Rattle.busdma_rules.specs.Memory.Extents.{extents_of}
+use Rattle.busdma_rules.specs.Memory.Vectors.{with_entry}
+use Rattle.busdma_rules.specs.Segments.Building.{placed_pieces}
+use Rattle.busdma_rules.specs.Segments.Chunks.{chunks_of}
+use Rattle.busdma_rules.specs.Segments.Segmentation.{segmentation}
 
 -- the entries of the `len` bytes from an address on: one that is rounded, or none where there is no byte
 abbrev pub run_entries : ℕ → ℕ → List Entry

@@ -1,8 +1,8 @@
 //! How many segments a memory's load can have, and their build.
 
 ghost use Rattle.std.specs.Prelude.{◌≡◌, ◌+◌, ◌^◌, ◌<◌, ◌≤◌, [], length, min, true, false};
-ghost use Rattle.segment_build.specs.Building.{tag_placed};
-ghost use Rattle.segment_build.specs.Chunks.{bounced_of, need_of};
+ghost use Rattle.busdma_rules.specs.Segments.Building.{tag_placed};
+ghost use Rattle.busdma_rules.specs.Segments.Chunks.{bounced_of, need_of};
 ghost use Rattle.memory_load.specs.MemoryLoad.{run_chunks, run_pieces, run_segments};
 
 use crate::run_parts::run_parts;

@@ -12,7 +12,7 @@ use Rattle.busdma_machine.specs.Machine.Page.{FrameBytes}
 use Rattle.busdma_machine.specs.Machine.PageList.{page_address, page_addresses}
 use Rattle.busdma_machine.specs.Machine.VirtualPages.{pages_end}
 use Rattle.busdma_machine.specs.Machine.Wire.{Wire, page_byte, with_bytes_of}
-use Rattle.dmamem.specs.Memory.{virtual_of}
+use Rattle.busdma_rules.specs.Memory.Memories.{virtual_of}
 use Rattle.phys_memory.specs.declared.reach.Reach.{Reach}
 use Rattle.phys_memory.specs.Memory.{Memory, byte_in, has_frame, has_page, wire, with_page}
 use Rattle.phys_memory.proofs.PageBytes.{IsNone, first_page, no_page_at, other_pages}

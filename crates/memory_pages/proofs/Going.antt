@@ -11,7 +11,7 @@ use Rattle.busdma_machine.specs.Bounce.MemoryRuns.{in_run, frames_from}
 use Rattle.busdma_machine.specs.Machine.Page.{FrameBytes}
 use Rattle.busdma_machine.specs.Machine.PageList.{page_address, page_addresses}
 use Rattle.busdma_machine.specs.Machine.VirtualPages.{pages_end}
-use Rattle.dmamem.specs.Memory.{virtual_of}
+use Rattle.busdma_rules.specs.Memory.Memories.{virtual_of}
 use Rattle.phys_memory.specs.declared.reach.Reach.{Reach}
 use Rattle.phys_memory.specs.Memory as memory
 use Rattle.phys_memory.specs.Memory.{Memory, byte_in, has_frame, page_at, wire, without_page}

@@ -5,7 +5,7 @@ use Rattle.std.specs.FinMap.{get}
 use Rattle.std.proofs.lemmas.Bool.Decides.{nat_tests}
 use Rattle.busdma_machine.specs.Bounce.MemoryRuns.{in_run}
 use Rattle.busdma_machine.specs.Machine.VirtualPages.{pages_end}
-use Rattle.dmamem.specs.Memory.{virtual_of}
+use Rattle.busdma_rules.specs.Memory.Memories.{virtual_of}
 use Rattle.phys_memory.specs.declared.reach.Reach.{Reach}
 use Rattle.phys_memory.specs.Memory.{Memory, physical, reached_in}
 use Rattle.memory_pages.specs.Placed.{Comes, Goes, is_byte, is_page, row_of}

@@ -7,7 +7,7 @@ ghost use Rattle.busdma_machine.specs.Bounce.MemoryRuns.{frames_from, in_run};
 ghost use Rattle.busdma_machine.specs.Machine.PageList.{page_addresses};
 ghost use Rattle.busdma_machine.specs.Machine.VirtualPages.{pages_end};
 ghost use Rattle.busdma_machine.specs.Machine.Wire.{with_bytes_of};
-ghost use Rattle.dmamem.specs.Memory.{virtual_of};
+ghost use Rattle.busdma_rules.specs.Memory.Memories.{virtual_of};
 ghost use Rattle.phys_memory.specs.Memory.{has_frame, physical, wire, with_page};
 ghost use Rattle.memory_pages.specs.Bytes.{all_filled, filled, pages_of};
 ghost use Rattle.memory_pages.specs.Placed.{AreAtTheirFrames, Comes, Goes, HasFrames, IsPlaced, IsWithout, is_byte};

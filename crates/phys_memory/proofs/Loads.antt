@@ -16,13 +16,16 @@ use Rattle.busdma_machine.specs.Machine.Entry.{AreJoined, HasPart, IsEntry, IsSt
 use Rattle.busdma_machine.specs.Machine.Entry.{entry_parts, extent_parts, others_of, parts_of}
 use Rattle.busdma_machine.specs.Runs.{IsExtent, addresses, byte_count, run_of}
 use Rattle.busdma_machine.specs.Machine.Spans.{one_span, span_bytes}
-use Rattle.phys_memory.specs.Translation.{Translation}
-use Rattle.phys_memory.specs.Extents.{extents_of, reached}
-use Rattle.phys_memory.specs.Vector.{ending, judged_spans, spans_stream, with_entry}
-use Rattle.phys_memory.specs.Vector.{entries_of as walk_entries}
-use Rattle.phys_memory.proofs.Extents.{length-run_of, reached_extents}
-use Rattle.phys_memory.proofs.Paged.{IsPaged}
-use Rattle.phys_memory.proofs.Vectors.{entries_are, entries_touch, length-reached}
+use Rattle.busdma_rules.specs.Memory.Translation.{Translation}
+use Rattle.busdma_rules.specs.Memory.Extents.{extents_of, reached}
+use Rattle.phys_memory.specs.Vector.{ending, spans_stream}
+use Rattle.busdma_rules.specs.Memory.Vectors.{judged_spans, with_entry}
+use Rattle.busdma_rules.specs.Memory.Vectors.{entries_of as walk_entries}
+use Rattle.phys_memory.proofs.Extents.{length-run_of}
+use Rattle.busdma_rules.proofs.Memory.Extents.{reached_extents}
+use Rattle.busdma_rules.proofs.Memory.Paged.{IsPaged}
+use Rattle.busdma_rules.proofs.Memory.Vectors.{entries_are, entries_touch}
+use Rattle.phys_memory.proofs.Vectors.{length-reached}
 
 -- ---- the entries of a stream of entries
 

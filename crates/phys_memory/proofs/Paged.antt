@@ -1,22 +1,13 @@
 -- Translations that keep pages: the bytes of a page lie in order in one frame.
 use Rattle.std.proofs.Common.{◌≡◌, ℕ, zero, suc, ◌+◌, ◌-◌, ◌*◌, ◌/◌, ◌%◌, ◌^◌, ◌<◌, ◌≤◌, min, ◌∷◌, ◌++◌, refl, ap, sym}
-use Rattle.std.proofs.Common.{◌∙◌, subst, inl, inr, ◌≢◌, arith}
+use Rattle.std.proofs.Common.{◌∙◌, subst, inl, inr, arith}
 use Rattle.std.specs.Prelude.{Option, Some, None}
 use Rattle.std.proofs.lemmas.Bool.{cases_lt}
 use Rattle.busdma_machine.specs.Runs.{run_of}
-use Rattle.phys_memory.specs.Translation.{Translation}
-use Rattle.phys_memory.specs.Extents.{BeginsFrame, IsNext, reached, then_reached}
-
--- a byte has the same place in its page and in its frame
-abbrev pub KeepsPlaces : Translation → Type 0
-KeepsPlaces t = (va p : ℕ) → t va ≡ Some p → p % 4096 ≡ va % 4096
-
--- each byte keeps its place and lies low, at an address that has this property; bytes of a page follow one another
-pub record IsPaged (Has : ℕ → Type 0) (t : Translation) : Type 0 where
-  pub places : KeepsPlaces t
-  pub next : (va p q : ℕ) → t va ≡ Some p → t (va + 1) ≡ Some q → (va + 1) % 4096 ≢ 0 → q ≡ p + 1
-  pub low : (va p : ℕ) → t va ≡ Some p → p < 2 ^ 42
-  pub has : (va p : ℕ) → t va ≡ Some p → Has p
+use Rattle.busdma_rules.specs.Memory.Translation.{Translation}
+use Rattle.phys_memory.specs.Extents.{BeginsFrame, IsNext}
+use Rattle.busdma_rules.specs.Memory.Extents.{reached, then_reached}
+use Rattle.busdma_rules.proofs.Memory.Paged.{KeepsPlaces}
 
 -- a page has a frame, and so many of its first bytes can be reached
 pub record HasPage (t : Translation) (page frame reach : ℕ) : Type 0 where

@@ -8,7 +8,8 @@ use Rattle.phys_memory.specs.declared.reach.Reach.{Reach}
 use Rattle.phys_memory.specs.Memory.{Memory, IsMemory, IsReachOf, has_frame, physical, reached_in, row_at}
 use Rattle.phys_memory.specs.Extents.{IsNext}
 use Rattle.phys_memory.proofs.Kept.{row_is}
-use Rattle.phys_memory.proofs.Paged.{HasPage, IsPaged, KeepsPlaces, next_in_page}
+use Rattle.phys_memory.proofs.Paged.{HasPage, next_in_page}
+use Rattle.busdma_rules.proofs.Memory.Paged.{IsPaged, KeepsPlaces}
 
 -- the row of a byte's page is that of every byte of the page
 row_in_page : (m : Memory) (a b : ℕ) → a / 4096 ≡ b / 4096 → row_at m a ≡ row_at m b

@@ -8,8 +8,9 @@ use Rattle.busdma_machine.specs.declared.machine.address.Extent.{Extent}
 use Rattle.busdma_machine.specs.declared.machine.chunk.Part.TheVariants as part
 use Rattle.busdma_machine.specs.Machine.Entry.{extent_parts}
 use Rattle.busdma_machine.specs.Runs.{run_of}
-use Rattle.phys_memory.specs.Translation.{Translation}
-use Rattle.phys_memory.specs.Extents.{IsNext, extents_of, reached}
+use Rattle.busdma_rules.specs.Memory.Translation.{Translation}
+use Rattle.phys_memory.specs.Extents.{IsNext}
+use Rattle.busdma_rules.specs.Memory.Extents.{extents_of, reached}
 use Rattle.phys_memory.specs.Walk.{run_stream}
 use Rattle.phys_memory.proofs.Extents.{extents_of-run, length-run_of}
 

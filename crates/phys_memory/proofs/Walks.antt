@@ -1,26 +1,24 @@
 -- Walks, from their streams.
-use Rattle.std.proofs.Common.{◌≡◌, ℕ, zero, suc, ◌+◌, Bool, true, false, List, [], ◌∷◌, ◌++◌, map, length, refl, ap}
-use Rattle.std.proofs.Common.{sym, ◌∙◌, subst, inl, inr, arith, append-nil, append_assoc}
-use Rattle.std.specs.Prelude.{Option, Some, None, nat_eq, if◌then◌else◌, unwrap_or}
+use Rattle.std.proofs.Common.{◌≡◌, ℕ, ◌+◌, Bool, true, false, List, [], ◌∷◌, ◌++◌, map, length, refl, ap, sym, ◌∙◌}
+use Rattle.std.proofs.Common.{subst, arith, append-nil, append_assoc}
+use Rattle.std.specs.Prelude.{nat_eq, if◌then◌else◌}
 use Rattle.std.specs.List.{AllByRecursion}
-use Rattle.std.proofs.lemmas.Bool.{eq-eqb, eqb-true, ne_eqb}
-use Rattle.std.proofs.lemmas.Bool.Decides.{eqb_tells}
+use Rattle.std.proofs.lemmas.Bool.{eqb-true}
 use Rattle.busdma_machine.specs.declared.machine.address.Extent.{Extent}
 use Rattle.busdma_machine.specs.declared.machine.chunk.Part.{Part}
 use Rattle.busdma_machine.specs.declared.machine.chunk.Part.TheVariants as part
-use Rattle.busdma_machine.specs.declared.report.ReportName.TheVariants as name
-use Rattle.busdma_machine.specs.declared.report.Judged.{Judged}
-use Rattle.busdma_machine.specs.declared.report.Judged.TheVariants.{Fine, Refused}
+use Rattle.busdma_machine.specs.declared.report.Judged.TheVariants.{Fine}
 use Rattle.busdma_machine.specs.Machine.Entry.{AreJoined, extent_parts}
-use Rattle.busdma_machine.specs.Judging.{judged, refused_or}
+use Rattle.busdma_machine.specs.Judging.{judged}
 use Rattle.busdma_machine.specs.Runs.{addresses, run_of, IsExtent}
 use Rattle.phys_memory.specs.declared.walk.Walked.{Walked}
 use Rattle.phys_memory.specs.declared.walk.Walked.TheVariants.{Parts, Unmapped}
-use Rattle.phys_memory.specs.Translation.{Translation, missing, physical_or_0, unreached}
-use Rattle.phys_memory.specs.Extents.{extents_of, reached, then_reached}
+use Rattle.busdma_rules.specs.Memory.Translation.{Translation, physical_or_0, unreached}
+use Rattle.busdma_rules.specs.Memory.Extents.{extents_of, reached}
 use Rattle.phys_memory.specs.Walk.{IfParts, flat, run_stream, verdict, walk_of, walked}
-use Rattle.phys_memory.proofs.Extents.{reached_extents}
-use Rattle.phys_memory.proofs.Paged.{IsPaged}
+use Rattle.busdma_rules.proofs.Memory.Extents.{reached_extents}
+use Rattle.busdma_rules.proofs.Memory.Paged.{IsPaged}
+use Rattle.busdma_rules.proofs.Memory.Walks.{refused_at, judged-run, reached_all}
 
 walked-parts : (before es : List Extent) (opens rounded : Bool) (rest : List Part) →
     walked before (extent_parts opens rounded es ++ rest) ≡ walked (before ++ es) rest
@@ -41,44 +39,6 @@ walked-run pas n opens rounded =
 
 -- ---- what a walk says
 
-eqb_suc : (a b : ℕ) → nat_eq (suc a) (suc b) ≡ nat_eq a b
-eqb_suc a b = elim (eqb_tells a b) [
-  | inl e ↦ eq-eqb (suc a) (suc b) (ap suc e.1) ∙ sym e.0
-  | inr d ↦ ne_eqb (suc a) (suc b) (λ e. d.1 (omega arith)) ∙ sym d.0
-]
-
-abbrev pub refused_at : ℕ → Judged
-refused_at k = Refused (record { name = name.Unmapped; at = k })
-
--- the judgement of a run of bytes, and then of others
-pub judged-run : (t : Translation) (va n k : ℕ) (rest : List ℕ) →
-    judged (unreached t) k (run_of va n ++ rest)
-    ≡ (if nat_eq (length (reached t va n)) n then judged (unreached t) (k + n) rest
-    else refused_at (k + length (reached t va n)))
-judged-run t va zero k rest =
-    let none : k ≡ k + 0 = omega arith in
-    ap (λ j. judged (unreached t) j rest) none
-judged-run t va (suc n) k rest = first (t va) (judged-run t (va + 1) n (k + 1) rest)
-  where
-    first : (o : Option ℕ) → judged (unreached t) (k + 1) (run_of (va + 1) n ++ rest)
-        ≡ (if nat_eq (length (reached t (va + 1) n)) n then judged (unreached t) (k + 1 + n) rest
-        else refused_at (k + 1 + length (reached t (va + 1) n))) →
-        refused_or (missing o) k (judged (unreached t) (k + 1) (run_of (va + 1) n ++ rest))
-        ≡ (if nat_eq (length (then_reached o (reached t (va + 1) n))) (suc n)
-        then judged (unreached t) (k + suc n) rest
-        else refused_at (k + length (then_reached o (reached t (va + 1) n))))
-    first None others =
-        let none : k ≡ k + 0 = omega arith in
-        ap refused_at none ∙ ap (λ b. if b then judged (unreached t) (k + suc n) rest else refused_at (k + 0))
-        (sym (ne_eqb 0 (suc n) (omega arith)))
-    first (Some p) others =
-        let l = length (reached t (va + 1) n) in
-        let reached_one : k + 1 + l ≡ k + suc l = omega arith in
-        let all_one : k + 1 + n ≡ k + suc n = omega arith in
-        others ∙ ap (λ j. if nat_eq l n then judged (unreached t) (k + 1 + n) rest else refused_at j) reached_one
-        ∙ ap (λ j. if nat_eq l n then judged (unreached t) j rest else refused_at (k + suc l)) all_one
-        ∙ ap (λ b. if b then judged (unreached t) (k + suc n) rest else refused_at (k + suc l)) (sym (eqb_suc l n))
-
 verdict-walk_of : (t : Translation) (va n : ℕ) →
     verdict (walk_of (reached t va n) n) ≡ judged (unreached t) 0 (run_of va n)
 verdict-walk_of t va n =
@@ -87,18 +47,6 @@ verdict-walk_of t va n =
     elim (nat_eq l n) as (λ b. verdict (if b then Parts (extents_of (reached t va n)) else Unmapped l)
     ≡ (if b then Fine else refused_at (0 + l))) [ true ↦ refl | false ↦ ap refused_at zero_plus ]
     ∙ sym (judged-run t va n 0 []) ∙ ap (judged (unreached t) 0) (append-nil (run_of va n))
-
--- where all bytes are reached, they stand at their physical addresses
-pub reached_all : (t : Translation) (va n : ℕ) → length (reached t va n) ≡ n →
-    reached t va n ≡ map (physical_or_0 t) (run_of va n)
-reached_all t va zero h = refl
-reached_all t va (suc n) h = first (t va) h (λ e. reached_all t (va + 1) n e)
-  where
-    first : (o : Option ℕ) → length (then_reached o (reached t (va + 1) n)) ≡ suc n →
-        (length (reached t (va + 1) n) ≡ n → reached t (va + 1) n ≡ map (physical_or_0 t) (run_of (va + 1) n)) →
-        then_reached o (reached t (va + 1) n) ≡ unwrap_or o 0 ∷ map (physical_or_0 t) (run_of (va + 1) n)
-    first None e others = absurd (omega arith)
-    first (Some p) e others = ap (λ pas. p ∷ pas) (others (omega arith))
 
 -- what holds of the extents of a walk that is whole
 if_parts : (pas : List ℕ) (n : ℕ) (P : List Extent → Type 0) →

@@ -4,6 +4,5 @@ pub mod Frames
 pub mod Kept
 pub mod Memory
 pub mod Stretches
-pub mod Translation
 pub mod Vector
 pub mod Walk

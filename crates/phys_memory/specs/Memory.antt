@@ -5,7 +5,7 @@ use Rattle.std.specs.Ordering.{nat_cmp}
 use Rattle.std.specs.FinMap.{FinMap, get, contains_key, insert, remove}
 use Rattle.phys_memory.specs.declared.reach.Reach.{Reach}
 use Rattle.busdma_machine.specs.Machine.Page.{FrameBytes, overwritten}
-use Rattle.phys_memory.specs.Translation.{Translation}
+use Rattle.busdma_rules.specs.Memory.Translation.{Translation}
 
 -- the virtual pages by their number, the virtual address / 4096, and the bytes of the frames by theirs
 pub record Memory : Type 0 where

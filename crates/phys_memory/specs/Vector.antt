@@ -1,5 +1,5 @@
 -- Walks over the spans of vectors, and the streams of their parts.
-use Rattle.std.specs.Prelude.{ℕ, ◌==◌, Bool, true, if◌then◌else◌, List, [], ◌∷◌, ◌++◌, length}
+use Rattle.std.specs.Prelude.{ℕ, Bool, true, List, [], ◌∷◌, ◌++◌}
 use Rattle.busdma_machine.specs.declared.machine.address.Span.{Span}
 use Rattle.busdma_machine.specs.declared.machine.chunk.Entry.{Entry}
 use Rattle.busdma_machine.specs.declared.machine.chunk.Part.{Part}
@@ -7,28 +7,10 @@ use Rattle.busdma_machine.specs.declared.machine.chunk.Part.TheVariants as part
 use Rattle.busdma_machine.specs.declared.report.Judged.{Judged}
 use Rattle.busdma_machine.specs.declared.report.Judged.TheVariants.{Fine, Refused}
 use Rattle.busdma_machine.specs.Machine.Entry.{parts_of}
-use Rattle.busdma_machine.specs.Judging.{judged}
-use Rattle.busdma_machine.specs.Machine.Spans.{span_addresses}
 use Rattle.phys_memory.specs.declared.entries.Entries.{Entries}
 use Rattle.phys_memory.specs.declared.entries.Entries.TheVariants.{All, Unmapped}
-use Rattle.phys_memory.specs.Extents.{extents_of, reached}
-use Rattle.phys_memory.specs.Translation.{Translation, unreached}
-
--- the entry of the bytes at these physical addresses, rounded or not, before other entries; no byte is no entry
-abbrev pub with_entry : Bool → List ℕ → List Entry → List Entry
-with_entry rounded [] es = es
-with_entry rounded (pa ∷ pas) es = record { rounded = rounded; parts = extents_of (pa ∷ pas) } ∷ es
-
--- the entries of spans, all of them rounded or none, up to the first byte that cannot be reached
-abbrev pub entries_of : Bool → Translation → List Span → List Entry
-entries_of rounded t [] = []
-entries_of rounded t (s ∷ ss) =
-    let pas = reached t s.va.0 s.len in
-    with_entry rounded pas (if length pas == s.len then entries_of rounded t ss else [])
-
--- what stands in the way of the bytes of spans, the first of them at an offset of the load
-abbrev pub judged_spans : Translation → ℕ → List Span → Judged
-judged_spans t offset spans = judged (unreached t) offset (span_addresses spans)
+use Rattle.busdma_rules.specs.Memory.Translation.{Translation}
+use Rattle.busdma_rules.specs.Memory.Vectors.{entries_of, judged_spans}
 
 -- a walk that found entries, unless a byte is refused
 abbrev pub walk_unless : Judged → List Entry → Entries

@@ -9,8 +9,8 @@ use Rattle.busdma_machine.specs.declared.report.Judged.TheVariants.{Fine, Refuse
 use Rattle.busdma_machine.specs.Machine.Entry.{extent_parts}
 use Rattle.phys_memory.specs.declared.walk.Walked.{Walked}
 use Rattle.phys_memory.specs.declared.walk.Walked.TheVariants.{Parts, Unmapped}
-use Rattle.phys_memory.specs.Extents.{extents_of, reached}
-use Rattle.phys_memory.specs.Translation.{Translation}
+use Rattle.busdma_rules.specs.Memory.Extents.{extents_of, reached}
+use Rattle.busdma_rules.specs.Memory.Translation.{Translation}
 
 -- the stream of n bytes of which these can be reached, the first of them at an offset of the load; an
 -- entry opens with them or does not, and it is rounded or is not

@@ -7,7 +7,7 @@ ghost use Rattle.busdma_machine.specs.Runs.{run_of};
 ghost use Rattle.busdma_machine.specs.Machine.Spans.{one_span, span_addresses, span_bytes};
 ghost use Rattle.phys_memory.specs.Extents.{LiesIn};
 ghost use Rattle.phys_memory.specs.Memory.{physical};
-ghost use Rattle.phys_memory.specs.Translation.{physical_or_0};
+ghost use Rattle.busdma_rules.specs.Memory.Translation.{physical_or_0};
 ghost use Rattle.phys_memory.specs.Vector.{IfAll, vector_walk};
 
 use crate::pages::LanePages;

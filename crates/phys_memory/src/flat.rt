@@ -5,7 +5,8 @@ ghost use Rattle.std.specs.Prelude.{[]};
 ghost use Rattle.std.specs.Iterator.{HoldsAlong, YieldsFirst, item_count};
 ghost use Rattle.busdma_machine.specs.Machine.Entry.{IsStream, parts_of};
 ghost use Rattle.phys_memory.specs.Memory.{IsMemory, IsReachOf, physical, row_at};
-ghost use Rattle.phys_memory.specs.Extents.{IsNext, reached};
+ghost use Rattle.phys_memory.specs.Extents.{IsNext};
+ghost use Rattle.busdma_rules.specs.Memory.Extents.{reached};
 ghost use Rattle.phys_memory.specs.Stretches.{IsKnown};
 ghost use Rattle.phys_memory.specs.Walk.{flat, flat_at, run_stream};
 ghost use Rattle.busdma_machine.specs.Machine.Spans.{one_span};
@@ -32,7 +33,7 @@ pub struct FlatParts<'a> {
 impl<'a> Model for FlatParts<'a> {
     ghost use Rattle.std.specs.Prelude.{List, ◌+◌, ◌<◌, ◌^◌, true};
     ghost use Rattle.busdma_machine.specs.declared.machine.chunk.Part.{Part};
-    ghost use Rattle.phys_memory.specs.Extents.{reached};
+    ghost use Rattle.busdma_rules.specs.Memory.Extents.{reached};
     ghost use Rattle.phys_memory.specs.Memory.{physical};
     ghost use Rattle.phys_memory.specs.Stretches.{IsKnown};
     ghost use Rattle.phys_memory.specs.Walk.{run_stream};

@@ -6,8 +6,9 @@ ghost use Rattle.busdma_machine.specs.Machine.Entry.{AreJoined};
 ghost use Rattle.busdma_machine.specs.Judging.{judged};
 ghost use Rattle.busdma_machine.specs.Runs.{IsExtent, addresses, run_of};
 ghost use Rattle.phys_memory.specs.Memory.{physical};
-ghost use Rattle.phys_memory.specs.Extents.{LiesIn, reached};
-ghost use Rattle.phys_memory.specs.Translation.{physical_or_0, unreached};
+ghost use Rattle.phys_memory.specs.Extents.{LiesIn};
+ghost use Rattle.busdma_rules.specs.Memory.Extents.{reached};
+ghost use Rattle.busdma_rules.specs.Memory.Translation.{physical_or_0, unreached};
 ghost use Rattle.phys_memory.specs.Walk.{IfParts, verdict, walk_of, walked};
 
 use crate::flat::FlatParts;

@@ -6,7 +6,7 @@ use Rattle.std.proofs.lemmas.List.Concat.{flat_map-cons}
 use Rattle.std.specs.Option.{option_map}
 use Rattle.busdma_machine.specs.declared.machine.address.Segment.{Segment}
 use Rattle.busdma_machine.specs.Runs.{run_of}
-use Rattle.ring_device.specs.Ranges.{address_of, bus_bytes, holds, place_of}
+use Rattle.busdma_rules.specs.Rings.Ranges.{address_of, bus_bytes, holds, place_of}
 
 -- a part of a run that others follow
 run_part : (n k len a : ℕ) (rest : List ℕ) → k + len ≤ n → take len (drop k (run_of a n ++ rest)) ≡ run_of (a + k) len

@@ -1,56 +1,42 @@
 //! Descriptors and their bytes.
 
 ghost use Rattle.std.specs.Prelude.{◌≡◌};
-ghost use Rattle.ring_device.specs.Descriptors.{descriptor_bytes, descriptor_of};
+ghost use Rattle.busdma_rules.specs.Rings.Descriptors.{descriptor_bytes, descriptor_of};
 
-/// What a device is told to do with the `len` bytes from the bus address `addr` on.
-///
-/// It reads them where `kind` is 1, and writes `fill` into each where it is 2. `owner` is 1 while
-/// the descriptor is the device's, and `status` is 1 once it was done.
-#[derive(Clone, Copy, Debug, PartialEq, Eq)]
-pub struct Descriptor {
-    pub addr: u64,
-    pub len: u32,
-    pub kind: u8,
-    pub fill: u8,
-    pub owner: u8,
-    pub status: u8,
+use busdma_rules::Descriptor;
+
+/// The descriptor that these bytes hold.
+pub fn descriptor_of(bytes: &[u8; 16]) -> Descriptor
+    ensures descriptor { result ≡ descriptor_of bytes.now }
+    ensures written_again { descriptor_bytes result ≡ bytes.now }
+{
+    let b = *bytes;
+    Descriptor {
+        addr: u64::from_le_bytes([b[0], b[1], b[2], b[3], b[4], b[5], b[6], b[7]]),
+        len: u32::from_le_bytes([b[8], b[9], b[10], b[11]]),
+        kind: b[12],
+        fill: b[13],
+        owner: b[14],
+        status: b[15],
+    }
 }
 
-impl Descriptor {
-    /// The descriptor that these bytes hold.
-    pub fn of(bytes: &[u8; 16]) -> Descriptor
-        ensures descriptor { result ≡ descriptor_of bytes.now }
-        ensures written_again { descriptor_bytes result ≡ bytes.now }
-    {
-        let b = *bytes;
-        Descriptor {
-            addr: u64::from_le_bytes([b[0], b[1], b[2], b[3], b[4], b[5], b[6], b[7]]),
-            len: u32::from_le_bytes([b[8], b[9], b[10], b[11]]),
-            kind: b[12],
-            fill: b[13],
-            owner: b[14],
-            status: b[15],
-        }
-    }
-
-    /// The bytes that hold the descriptor, those of its numbers from the least on.
-    pub fn bytes(&self) -> [u8; 16]
-        ensures bytes { result ≡ descriptor_bytes self.now }
-        ensures read_again { descriptor_of result ≡ self.now }
-    {
-        let Descriptor {
-            addr,
-            len,
-            kind,
-            fill,
-            owner,
-            status,
-        } = *self;
-        let [a, b, c, d, e, f, g, h] = addr.to_le_bytes();
-        let [i, j, k, l] = len.to_le_bytes();
-        [
-            a, b, c, d, e, f, g, h, i, j, k, l, kind, fill, owner, status,
-        ]
-    }
+/// The bytes that hold the descriptor, those of its numbers from the least on.
+pub fn descriptor_bytes(descriptor: &Descriptor) -> [u8; 16]
+    ensures bytes { result ≡ descriptor_bytes descriptor.now }
+    ensures read_again { descriptor_of result ≡ descriptor.now }
+{
+    let Descriptor {
+        addr,
+        len,
+        kind,
+        fill,
+        owner,
+        status,
+    } = *descriptor;
+    let [a, b, c, d, e, f, g, h] = addr.to_le_bytes();
+    let [i, j, k, l] = len.to_le_bytes();
+    [
+        a, b, c, d, e, f, g, h, i, j, k, l, kind, fill, owner, status,
+    ]
 }

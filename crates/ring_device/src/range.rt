@@ -6,7 +6,7 @@ ghost use Rattle.std.specs.Option.{option_map};
 ghost use Rattle.busdma_machine.specs.Machine.Wire.{stretch};
 ghost use Rattle.busdma_machine.specs.Runs.{run_of};
 ghost use Rattle.ring_device.specs.Ends.{EndsLow};
-ghost use Rattle.ring_device.specs.Ranges.{address_of, bus_bytes, byte_count, place_of};
+ghost use Rattle.busdma_rules.specs.Rings.Ranges.{address_of, bus_bytes, byte_count, place_of};
 
 use busdma_machine::{Pa, Segment};
 

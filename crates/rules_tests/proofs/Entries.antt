@@ -4,7 +4,7 @@ use Rattle.std.proofs.lemmas.List.Sums.{sum_by-cons}
 use Rattle.busdma_machine.specs.declared.machine.chunk.Entry.{Entry}
 use Rattle.busdma_machine.specs.Machine.Entry.{entries_addresses, entries_bytes, entry_addresses}
 use Rattle.busdma_machine.specs.Runs.{byte_count}
-use Rattle.segment_build.proofs.Counting.{addresses_length}
+use Rattle.busdma_rules.proofs.Segments.Counting.{addresses_length}
 
 pub entries_length : (es : List Entry) → length (entries_addresses es) ≡ entries_bytes es
 entries_length [] = omega arith

@@ -4,9 +4,9 @@ use Rattle.std.specs.Str.{bytes_eq}
 use Rattle.bitflags.specs.Sets.{find_name}
 use Rattle.serde_json.specs.Data.{Data}
 use Rattle.busdma_machine.specs.Tags.TagFlags.{tag_table}
-use Rattle.dma_tag.specs.LoadFlags.{load_table}
-use Rattle.dma_tag.specs.MemFlags.{mem_table}
-use Rattle.dma_tag.specs.SyncOps.{sync_table}
+use Rattle.busdma_rules.specs.Tags.LoadFlags.{load_table}
+use Rattle.busdma_rules.specs.Tags.MemFlags.{mem_table}
+use Rattle.busdma_rules.specs.Tags.SyncOps.{sync_table}
 use Rattle.json_fields.specs.Place.{Place}
 use Rattle.json_fields.specs.Read.{Read, ◌>>=◌, refuse}
 use Rattle.json_fields.specs.Field.{Spot, field, required, item_of}

@@ -13,10 +13,11 @@ use Rattle.busdma_machine.specs.declared.tags.tag.TagLimits.{TagLimits}
 use Rattle.busdma_machine.specs.Runs.{run_of}
 use Rattle.busdma_machine.specs.Tags.Tag.{IsEffective}
 use Rattle.busdma_machine.specs.Tags.TagFlags.{keep_pg_offset}
-use Rattle.segment_build.specs.Building.{IsPlaceable, placed_pieces}
-use Rattle.segment_build.specs.Pieces.{chunk_pieces, piece_len, pieces_of}
-use Rattle.segment_build.specs.Trace.{IsPage, bus_addresses, chunk_len, first_page, in_page, page_offset, placed}
-use Rattle.segment_build.proofs.Places.{pieces_step, piece_some, piece_fits}
+use Rattle.busdma_rules.specs.Segments.Building.{IsPlaceable, placed_pieces}
+use Rattle.busdma_rules.specs.Segments.Pieces.{chunk_pieces, piece_len, pieces_of}
+use Rattle.busdma_rules.specs.Segments.Trace.{IsPage, bus_addresses, chunk_len, first_page, in_page, page_offset}
+use Rattle.busdma_rules.specs.Segments.Trace.{placed}
+use Rattle.busdma_rules.proofs.Segments.Places.{pieces_step, piece_some, piece_fits}
 
 -- a boundary divides the frame's size or is a multiple of it
 IsBoundary : ℕ → Type 0

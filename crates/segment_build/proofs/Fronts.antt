@@ -6,8 +6,8 @@ use Rattle.busdma_machine.specs.declared.machine.chunk.Part.{Part}
 use Rattle.busdma_machine.specs.declared.tags.tag.TagLimits.{TagLimits}
 use Rattle.busdma_machine.specs.Machine.Entry.{IsStream, entries_of}
 use Rattle.busdma_machine.specs.Tags.Tag.{IsEffective}
-use Rattle.segment_build.specs.Building.{placed_pieces}
-use Rattle.segment_build.specs.Chunks.{chunks_of, need_of}
+use Rattle.busdma_rules.specs.Segments.Building.{placed_pieces}
+use Rattle.busdma_rules.specs.Segments.Chunks.{chunks_of, need_of}
 use Rattle.segment_build.specs.Cutting.{after, closed, closed_part, uncut}
 use Rattle.segment_build.proofs.SoFar.{need_longer, pieces_longer}
 use Rattle.segment_build.proofs.PartByPart.{holds, holds_at}

@@ -17,19 +17,20 @@ use Rattle.busdma_machine.specs.Machine.Entry.{part_bytes, parts_of}
 use Rattle.busdma_machine.specs.Runs.{IsExtent, addresses, byte_count, run_of}
 use Rattle.busdma_machine.specs.Tags.Tag.{IsEffective}
 use Rattle.busdma_machine.specs.Tags.TagFlags.{keep_pg_offset}
-use Rattle.segment_build.specs.Building.{IsPlaceable, placed_pieces}
-use Rattle.segment_build.specs.Chunks.{chunks_from, chunks_of, chunks_of_bytes, need_of}
+use Rattle.busdma_rules.specs.Segments.Building.{IsPlaceable, placed_pieces}
+use Rattle.busdma_rules.specs.Segments.Chunks.{chunks_from, chunks_of, chunks_of_bytes, need_of}
 use Rattle.segment_build.specs.Conditions.{HasRooms}
-use Rattle.segment_build.specs.Pieces.{chunk_pieces, pieces_of}
+use Rattle.busdma_rules.specs.Segments.Pieces.{chunk_pieces, pieces_of}
 use Rattle.segment_build.specs.Streams.{FrontsAskNoMore, stream_chunks}
-use Rattle.segment_build.specs.Trace.{bus_addresses, chunk_len, first_page, in_page, page_offset, placed}
+use Rattle.busdma_rules.specs.Segments.Trace.{bus_addresses, chunk_len, first_page, in_page, page_offset, placed}
 use Rattle.segment_build.proofs.Chunking.{chunks_of_parts, stream_of_entries}
-use Rattle.segment_build.proofs.Counting.{need_append, need_first, pieces_append}
-use Rattle.segment_build.proofs.OneWindow.{all_first, all_second}
+use Rattle.busdma_rules.proofs.Segments.Counting.{need_append, need_first, pieces_append}
+use Rattle.busdma_rules.proofs.Segments.OneWindow.{all_first, all_second}
 use Rattle.segment_build.proofs.LongerRuns.{BeginsLonger, IsFront, IsLonger, behind, extended, no_front, run_longer}
 use Rattle.segment_build.proofs.LongerRuns.{within_front}
-use Rattle.segment_build.proofs.Sound.{chunks_sound}
-use Rattle.segment_build.proofs.PartByPart.{bytes_split, own_run}
+use Rattle.busdma_rules.proofs.Segments.Sound.{chunks_sound}
+use Rattle.segment_build.proofs.PartByPart.{bytes_split}
+use Rattle.busdma_rules.proofs.Segments.PartByPart.{own_run}
 
 -- ---- fronts of streams
 

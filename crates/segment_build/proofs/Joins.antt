@@ -6,7 +6,7 @@ use Rattle.std.specs.Prelude.{Result, Ok, Err, IsOk}
 use Rattle.std.proofs.lemmas.Bool.{false≢true}
 use Rattle.busdma_machine.specs.declared.machine.address.Segment.{Segment}
 use Rattle.busdma_machine.specs.declared.tags.tag.TagLimits.{TagLimits}
-use Rattle.segment_build.specs.Segmentation.{joint, may_join}
+use Rattle.busdma_rules.specs.Segments.Segmentation.{joint, may_join}
 use Rattle.segment_build.specs.Joining.{added, joined}
 
 -- the last segment, and the segments behind one that is not the last

@@ -9,13 +9,13 @@ use Rattle.busdma_machine.specs.declared.machine.chunk.Chunk.{Chunk}
 use Rattle.busdma_machine.specs.declared.tags.tag.TagLimits.{TagLimits}
 use Rattle.busdma_machine.specs.Runs.{run_of}
 use Rattle.busdma_machine.specs.Tags.Tag.{IsEffective}
-use Rattle.segment_build.specs.Chunks.{chunk_limit, chunk_of, chunks_within}
-use Rattle.segment_build.specs.Pieces.{piece_len, pieces_of}
-use Rattle.segment_build.specs.Trace.{chunk_len}
-use Rattle.segment_build.proofs.Chunking.{limit_reaches}
-use Rattle.segment_build.proofs.Numbers.{above, most}
-use Rattle.segment_build.proofs.Places.{piece_fits, piece_some, pieces_step}
-use Rattle.segment_build.proofs.Sound.{made_len}
+use Rattle.busdma_rules.specs.Segments.Chunks.{chunk_limit, chunk_of, chunks_within}
+use Rattle.busdma_rules.specs.Segments.Pieces.{piece_len, pieces_of}
+use Rattle.busdma_rules.specs.Segments.Trace.{chunk_len}
+use Rattle.busdma_rules.proofs.Segments.Chunking.{limit_reaches}
+use Rattle.busdma_rules.proofs.Segments.Numbers.{above, most}
+use Rattle.busdma_rules.proofs.Segments.Places.{piece_fits, piece_some, pieces_step}
+use Rattle.busdma_rules.proofs.Segments.Sound.{made_len}
 
 -- ---- pieces of longer runs
 

@@ -3,10 +3,11 @@ use Rattle.std.proofs.Common.{◌≡◌, ◌+◌, ◌<◌, ◌≤◌, List, [], 
 use Rattle.std.proofs.Common.{arith}
 use Rattle.busdma_machine.specs.declared.machine.address.Segment.{Segment}
 use Rattle.busdma_machine.specs.declared.tags.tag.TagLimits.{TagLimits}
-use Rattle.segment_build.specs.Built.{AreTooMany, IsFew}
+use Rattle.busdma_rules.specs.Segments.Built.{AreTooMany, IsFew}
 use Rattle.segment_build.specs.Joining.{added, added_all}
-use Rattle.segment_build.specs.Segmentation.{IsSegmentation, joint, may_join, segmentation}
-use Rattle.segment_build.proofs.Cuts.{cut_all, cut_is, one_segmentation}
+use Rattle.busdma_rules.specs.Segments.Segmentation.{IsSegmentation, joint, may_join, segmentation}
+use Rattle.segment_build.proofs.Cuts.{cut_all, one_segmentation}
+use Rattle.busdma_rules.proofs.Segments.Cuts.{cut_is}
 use Rattle.segment_build.proofs.SoFar.{cut_longer}
 
 added_by_one : (t : TagLimits) (segs : List Segment) (p : Segment) → length (added t segs p) ≤ length segs + 1

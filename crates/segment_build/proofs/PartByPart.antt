@@ -1,7 +1,7 @@
 -- One part of a stream after the other.
 use Rattle.std.proofs.Common.{◌≡◌, ℕ, zero, suc, ◌+◌, ◌-◌, ◌≤◌, ◌^◌, List, [], ◌∷◌, ◌++◌, length, drop, true, false}
 use Rattle.std.proofs.Common.{cond, refl, ap, sym, ◌∙◌, subst, arith, append-nil, length-append}
-use Rattle.std.specs.Prelude.{Option, Some, None, IfSome, is_some}
+use Rattle.std.specs.Prelude.{Option, Some, None, IfSome}
 use Rattle.std.specs.Option.{option_to_list, option_or}
 use Rattle.std.specs.List.{AllByRecursion, sum_by}
 use Rattle.std.proofs.lemmas.List.Sums.{sum_by-cons, sum_by-append}
@@ -18,15 +18,16 @@ use Rattle.busdma_machine.specs.Machine.Entry.{part_bytes, unmapped_of}
 use Rattle.busdma_machine.specs.Tags.Tag.{IsEffective}
 use Rattle.busdma_machine.specs.Tags.TagFlags.{keep_pg_offset}
 use Rattle.segment_build.specs.declared.cutter.Cutter.{Cutter}
-use Rattle.segment_build.specs.Building.{IsPlaceable, placed_pieces}
-use Rattle.segment_build.specs.Chunks.{chunks_of, need_of}
+use Rattle.busdma_rules.specs.Segments.Building.{IsPlaceable, placed_pieces}
+use Rattle.busdma_rules.specs.Segments.Chunks.{chunks_of, need_of}
 use Rattle.segment_build.specs.Cutting.{after, after_part, closed, closed_part, opened, uncut}
-use Rattle.segment_build.specs.Pieces.{chunk_pieces, piece_len, pieces_of}
-use Rattle.segment_build.specs.Trace.{bus_addresses, chunk_len, first_page, in_page, page_offset, placed}
+use Rattle.busdma_rules.specs.Segments.Pieces.{chunk_pieces, piece_len, pieces_of}
+use Rattle.busdma_rules.specs.Segments.Trace.{bus_addresses, chunk_len, first_page, in_page, page_offset, placed}
 use Rattle.segment_build.proofs.Chunking.{after_append, chunks_are, closed_append, cut_at}
-use Rattle.segment_build.proofs.Counting.{chunk_bytes, chunks_bytes, need_small, pieces_append}
-use Rattle.segment_build.proofs.Places.{pieces_from, pieces_are_from}
-use Rattle.segment_build.proofs.Sound.{chunks_sound}
+use Rattle.busdma_rules.proofs.Segments.Counting.{chunk_bytes, chunks_bytes, need_small, pieces_append}
+use Rattle.busdma_rules.proofs.Segments.Places.{pieces_from, pieces_are_from}
+use Rattle.busdma_rules.proofs.Segments.Sound.{chunks_sound}
+use Rattle.busdma_rules.proofs.Segments.PartByPart.{own_run}
 
 -- ---- parts
 
@@ -177,20 +178,6 @@ from_few (suc n) t a (suc l) = omega (arith, from_few n t (a + piece_len t a (su
 
 run_few : (t : TagLimits) (a n : ℕ) → IsEffective t → length (pieces_of t (run_of a n)) ≤ n
 run_few t a n eff = omega (arith, ap length (pieces_are_from t a n eff.maxsegsz), from_few n t a n)
-
--- a chunk that is not bounced lies on the bus where its bytes are
-pub own_run : (t : TagLimits) (c : Chunk) → IsPlaceable t c → c.bounced ≡ false →
-    bus_addresses c ≡ run_of c.first.pa.0 (chunk_len c)
-own_run t c h b =
-    let own = h.own b in
-    let len : chunk_len c ≡ c.first.len =
-    ap (λ r. byte_count (c.first ∷ option_to_list r)) (own.single b) ∙ omega arith in
-    rw (no_page c.page (own.paged ∙ b), own.single b, append-nil (run_of c.first.pa.0 c.first.len))
-    (ap (λ n. run_of c.first.pa.0 n) (omega arith))
-  where
-    no_page : (o : Option Pa) → is_some o ≡ false → o ≡ None
-    no_page None e = refl
-    no_page (Some x) e = absurd cc
 
 -- no more pieces than bytes
 pub pieces_few : (t : TagLimits) (cs : List Chunk) (pages : List Pa) → IsEffective t → AllByRecursion (IsPlaceable t)

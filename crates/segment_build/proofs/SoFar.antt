@@ -7,12 +7,14 @@ use Rattle.busdma_machine.specs.declared.machine.address.Segment.{Segment}
 use Rattle.busdma_machine.specs.declared.machine.chunk.Chunk.{Chunk}
 use Rattle.busdma_machine.specs.declared.tags.tag.TagLimits.{TagLimits}
 use Rattle.busdma_machine.specs.Tags.TagFlags.{keep_pg_offset}
-use Rattle.segment_build.specs.Building.{IsSoFar, placed_pieces, tag_placed}
-use Rattle.segment_build.specs.Chunks.{bounced_of, need_of}
+use Rattle.segment_build.specs.Building.{IsSoFar}
+use Rattle.busdma_rules.specs.Segments.Building.{placed_pieces, tag_placed}
+use Rattle.busdma_rules.specs.Segments.Chunks.{bounced_of, need_of}
 use Rattle.segment_build.specs.Joining.{added_all}
-use Rattle.segment_build.specs.Segmentation.{IsSegmentation, segmentation}
-use Rattle.segment_build.proofs.Counting.{bounced_append, need_append, pieces_append, placed_need}
-use Rattle.segment_build.proofs.Cuts.{added_all_longer, cut_all, cut_is, cut_shorter, one_segmentation}
+use Rattle.busdma_rules.specs.Segments.Segmentation.{IsSegmentation, segmentation}
+use Rattle.busdma_rules.proofs.Segments.Counting.{bounced_append, need_append, pieces_append, placed_need}
+use Rattle.segment_build.proofs.Cuts.{added_all_longer, cut_all, cut_shorter, one_segmentation}
+use Rattle.busdma_rules.proofs.Segments.Cuts.{cut_is}
 
 -- so many chunks are in their pages
 pub used_pages : (t : TagLimits) (pages : List Pa) (cs : List Chunk) (segs : List Segment) (bounced : List Chunk) →

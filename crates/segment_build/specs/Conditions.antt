@@ -9,10 +9,10 @@ use Rattle.busdma_machine.specs.declared.machine.chunk.Part.{Part}
 use Rattle.busdma_machine.specs.declared.tags.tag.TagLimits.{TagLimits}
 use Rattle.busdma_machine.specs.Machine.Entry.{IsStream}
 use Rattle.busdma_machine.specs.Room.{Roomy}
-use Rattle.segment_build.specs.Building.{placed_pieces}
-use Rattle.segment_build.specs.Chunks.{need_of}
+use Rattle.busdma_rules.specs.Segments.Building.{placed_pieces}
+use Rattle.busdma_rules.specs.Segments.Chunks.{need_of}
 use Rattle.segment_build.specs.Streams.{stream_chunks}
-use Rattle.segment_build.specs.Trace.{IsPage}
+use Rattle.busdma_rules.specs.Segments.Trace.{IsPage}
 
 -- parts are a stream that has pages for its need, and room for its segments and for its bounced chunks
 pub record HasRooms (t : TagLimits) (maxmem : ℕ) (pages : List Pa) (room bounced_room : ℕ)

@@ -8,19 +8,9 @@ use Rattle.busdma_machine.specs.declared.machine.chunk.Chunk.{Chunk}
 use Rattle.busdma_machine.specs.declared.machine.chunk.Part.{Part}
 use Rattle.busdma_machine.specs.declared.machine.chunk.Part.TheVariants.{Of, Unmapped}
 use Rattle.busdma_machine.specs.declared.tags.tag.TagLimits.{TagLimits}
-use Rattle.busdma_machine.specs.Tags.Tag.{needs_bounce}
 use Rattle.segment_build.specs.declared.cutter.Cutter.{Cutter}
-use Rattle.segment_build.specs.Chunks.{chunk_limit}
-
--- a chunk that begins with n bytes from an address on
-abbrev pub begun_chunk : TagLimits → ℕ → ℕ → ℕ → ℕ → Chunk
-begun_chunk t maxmem at a n = record {
-  at = at;
-  first = record { pa = record { 0 = a }; len = n };
-  rest = None;
-  bounced = needs_bounce t maxmem a;
-  page = None;
-}
+use Rattle.busdma_rules.specs.Segments.Chunks.{chunk_limit}
+use Rattle.busdma_rules.specs.Segments.Begun.{begun_chunk}
 
 -- the last chunk with n bytes more, from an address on
 abbrev pub with_rest : Option Chunk → ℕ → ℕ → Option Chunk

@@ -3,7 +3,7 @@
 use Rattle.std.specs.Prelude.{if◌then◌else◌, List, [], ◌∷◌, Option, Some, None}
 use Rattle.busdma_machine.specs.declared.machine.address.Segment.{Segment}
 use Rattle.busdma_machine.specs.declared.tags.tag.TagLimits.{TagLimits}
-use Rattle.segment_build.specs.Segmentation.{joint, may_join}
+use Rattle.busdma_rules.specs.Segments.Segmentation.{joint, may_join}
 
 -- segments with a piece more behind them
 abbrev pub added : TagLimits → List Segment → Segment → List Segment

@@ -1,11 +1,6 @@
 pub mod Building
 pub mod Built
-pub mod Chunks
 pub mod Conditions
 pub mod Cutting
 pub mod Joining
-pub mod Obeying
-pub mod Pieces
-pub mod Segmentation
 pub mod Streams
-pub mod Trace

@@ -11,10 +11,10 @@ use Rattle.segment_build.specs.declared.measured.Measured.{Measured}
 use Rattle.segment_build.specs.declared.measured.Measured.TheVariants.{Fits, Unmapped}
 use Rattle.segment_build.specs.declared.streamed.Streamed.{Streamed}
 use Rattle.segment_build.specs.declared.streamed.Streamed.TheVariants.{Segments, TooMany}
-use Rattle.segment_build.specs.Building.{tag_placed, placed_pieces}
-use Rattle.segment_build.specs.Built.{IsFew, AreTooMany}
-use Rattle.segment_build.specs.Chunks.{bounced_of, chunks_of, need_of}
-use Rattle.segment_build.specs.Trace.{IsPage}
+use Rattle.busdma_rules.specs.Segments.Building.{tag_placed, placed_pieces}
+use Rattle.busdma_rules.specs.Segments.Built.{IsFew, AreTooMany}
+use Rattle.busdma_rules.specs.Segments.Chunks.{bounced_of, chunks_of, need_of}
+use Rattle.busdma_rules.specs.Segments.Trace.{IsPage}
 
 -- the chunks of the entries of a stream
 abbrev pub stream_chunks : TagLimits → ℕ → List Part → List Chunk

@@ -2,10 +2,10 @@
 
 ghost use Rattle.std.specs.Prelude.{◌≡◌, ◌+◌, ◌<◌, ◌≤◌, [], ◌∷◌, ◌++◌, drop, length, min, true, false, Ok, OnOk, IsOk};
 ghost use Rattle.std.specs.List.{AllByRecursion};
-ghost use Rattle.segment_build.specs.Building.{IsPlaceable, placed_pieces, tag_placed};
-ghost use Rattle.segment_build.specs.Chunks.{bounced_of, need_of};
+ghost use Rattle.busdma_rules.specs.Segments.Building.{IsPlaceable, placed_pieces, tag_placed};
+ghost use Rattle.busdma_rules.specs.Segments.Chunks.{bounced_of, need_of};
 ghost use Rattle.segment_build.specs.Joining.{added_all};
-ghost use Rattle.segment_build.specs.Trace.{IsPage, IsPlaced};
+ghost use Rattle.busdma_rules.specs.Segments.Trace.{IsPage, IsPlaced};
 
 use crate::built::bus_run;
 use crate::chunk::in_page;

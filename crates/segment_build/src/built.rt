@@ -4,8 +4,8 @@ ghost use Rattle.std.specs.Prelude.{◌≡◌, ◌+◌, ◌^◌, ◌<◌, ◌≤
 ghost use Rattle.std.specs.List.{AllByRecursion};
 ghost use Rattle.busdma_machine.specs.Runs.{run_of};
 ghost use Rattle.segment_build.specs.Built.{IsBuilt};
-ghost use Rattle.segment_build.specs.Pieces.{chunk_pieces, pieces_of};
-ghost use Rattle.segment_build.specs.Trace.{IsPlaced, bus_addresses, chunk_len};
+ghost use Rattle.busdma_rules.specs.Segments.Pieces.{chunk_pieces, pieces_of};
+ghost use Rattle.busdma_rules.specs.Segments.Trace.{IsPlaced, bus_addresses, chunk_len};
 
 use crate::joining::add_piece;
 use crate::pieces::piece_len;
@@ -50,7 +50,7 @@ pub fn chunk_pieces(alloc: Global, tag: &Tag, chunks: &[Chunk]) -> Result<Segmen
 }
 
 // Adds the pieces of the bus bytes of a chunk.
-#[tactic(auto, using(crate::proofs::Places::pieces_step, crate::proofs::Places::no_pieces))]
+#[tactic(auto, using(busdma_rules::proofs::Segments::Places::pieces_step, busdma_rules::proofs::Segments::Places::no_pieces))]
 fn push_pieces(
     limits: &TagLimits,
     run: Segment,

@@ -4,9 +4,9 @@ ghost use Rattle.std.specs.Prelude.{◌≡◌, ◌+◌, ◌^◌, ◌<◌, ◌≤
 ghost use Rattle.std.specs.List.{AllByRecursion};
 ghost use Rattle.busdma_machine.specs.Machine.Entry.{IsEntry, entries_bytes, entry_parts};
 ghost use Rattle.busdma_machine.specs.Runs.{byte_count};
-ghost use Rattle.segment_build.specs.Chunks.{chunks_of, need_of};
+ghost use Rattle.busdma_rules.specs.Segments.Chunks.{chunks_of, need_of};
 ghost use Rattle.segment_build.specs.Cutting.{after, closed};
-ghost use Rattle.segment_build.specs.Trace.{IsPage, in_page, placed};
+ghost use Rattle.busdma_rules.specs.Segments.Trace.{IsPage, in_page, placed};
 
 use crate::cutter::Cutter;
 use crate::laws::tag_is_effective;

@@ -5,7 +5,7 @@ ghost use Rattle.busdma_machine.specs.Machine.Entry.{IsPart, part_bytes};
 ghost use Rattle.busdma_machine.specs.Runs.{IsExtent};
 ghost use Rattle.busdma_machine.specs.Tags.Tag.{needs_bounce};
 ghost use Rattle.busdma_machine.specs.Tags.TagFlags.{keep_pg_offset};
-ghost use Rattle.segment_build.specs.Chunks.{chunk_limit};
+ghost use Rattle.busdma_rules.specs.Segments.Chunks.{chunk_limit};
 ghost use Rattle.segment_build.specs.Cutting.{after_part, closed_part, cut_by, closed_by, uncut, with_rest};
 
 use bitflags::Flags;

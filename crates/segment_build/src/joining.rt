@@ -1,7 +1,7 @@
 //! How pieces join to segments one after the other.
 
 ghost use Rattle.std.specs.Prelude.{◌≡◌, ◌+◌, ◌^◌, ◌<◌, ◌≤◌, length, min, true, false, Ok, IsOk};
-ghost use Rattle.segment_build.specs.Segmentation.{joint, may_join};
+ghost use Rattle.busdma_rules.specs.Segments.Segmentation.{joint, may_join};
 ghost use Rattle.segment_build.specs.Joining.{added, joined};
 
 use busdma_machine::{Segment, SegmentRoom, TagLimits};

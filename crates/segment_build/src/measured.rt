@@ -5,8 +5,8 @@ ghost use Rattle.std.specs.Iterator.{Drains, HoldsAlong, IsFinite};
 ghost use Rattle.std.specs.Option.{option_to_list, option_or};
 ghost use Rattle.busdma_machine.specs.declared.machine.chunk.Part.{Part};
 ghost use Rattle.busdma_machine.specs.Machine.Entry.{IsStream, unmapped_of};
-ghost use Rattle.segment_build.specs.Building.{IsPlaceable, placed_pieces};
-ghost use Rattle.segment_build.specs.Chunks.{need_of};
+ghost use Rattle.busdma_rules.specs.Segments.Building.{IsPlaceable, placed_pieces};
+ghost use Rattle.busdma_rules.specs.Segments.Chunks.{need_of};
 ghost use Rattle.segment_build.specs.Streams.{IsMeasured};
 
 use crate::built::bus_run;

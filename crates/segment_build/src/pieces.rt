@@ -2,7 +2,7 @@
 
 ghost use Rattle.std.specs.Prelude.{◌≡◌, ◌+◌, ◌^◌, ◌<◌, ◌≤◌, length, min, true, false, Ok, IsOk};
 ghost use Rattle.busdma_machine.specs.Runs.{run_of};
-ghost use Rattle.segment_build.specs.Pieces.{piece_len, pieces_of};
+ghost use Rattle.busdma_rules.specs.Segments.Pieces.{piece_len, pieces_of};
 ghost use Rattle.segment_build.specs.Joining.{added_all};
 
 use crate::joining::add_piece;
@@ -11,7 +11,7 @@ use std::alloc::AllocError;
 
 /// Adds the pieces of the bus bytes of a chunk behind segments, and answers whether they are few
 /// enough with them.
-#[tactic(auto, using(crate::proofs::Places::pieces_step, crate::proofs::Cuts::added_all_longer))]
+#[tactic(auto, using(busdma_rules::proofs::Segments::Places::pieces_step, crate::proofs::Cuts::added_all_longer))]
 pub(crate) fn add_run(
     limits: &TagLimits,
     list: &mut SegmentRoom,
@@ -43,7 +43,7 @@ pub(crate) fn add_run(
 }
 
 /// The number of pieces of the bus bytes of a chunk.
-#[tactic(auto, using(crate::proofs::Places::pieces_step, crate::proofs::Places::no_pieces))]
+#[tactic(auto, using(busdma_rules::proofs::Segments::Places::pieces_step, busdma_rules::proofs::Segments::Places::no_pieces))]
 pub(crate) fn piece_count(limits: &TagLimits, run: Segment) -> u64
     requires size { 0 < limits.now.maxsegsz }
     requires fits { run.addr.0 + run.len ≤ 2 ^ 64 }

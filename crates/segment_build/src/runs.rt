@@ -3,8 +3,8 @@
 ghost use Rattle.std.specs.Prelude.{◌≡◌, ◌+◌, ◌^◌, ◌≤◌, ◌++◌, length, min, true, false, List};
 ghost use Rattle.busdma_machine.specs.declared.machine.address.Segment.{Segment as Piece};
 ghost use Rattle.busdma_machine.specs.Runs.{run_of};
-ghost use Rattle.segment_build.specs.Built.{AreTooMany, IsFew};
-ghost use Rattle.segment_build.specs.Pieces.{pieces_of};
+ghost use Rattle.busdma_rules.specs.Segments.Built.{AreTooMany, IsFew};
+ghost use Rattle.busdma_rules.specs.Segments.Pieces.{pieces_of};
 
 use crate::pieces::{add_run, piece_count};
 use busdma_machine::{Segment, SegmentRoom};

@@ -8,11 +8,12 @@ ghost use Rattle.std.specs.Option.{option_to_list};
 ghost use Rattle.busdma_machine.specs.declared.machine.chunk.Chunk.{Chunk};
 ghost use Rattle.busdma_machine.specs.declared.machine.chunk.Part.{Part};
 ghost use Rattle.busdma_machine.specs.Machine.Entry.{IsStream};
-ghost use Rattle.segment_build.specs.Building.{IsSoFar, IsPlaceable, placed_pieces};
-ghost use Rattle.segment_build.specs.Chunks.{need_of};
+ghost use Rattle.segment_build.specs.Building.{IsSoFar};
+ghost use Rattle.busdma_rules.specs.Segments.Building.{IsPlaceable, placed_pieces};
+ghost use Rattle.busdma_rules.specs.Segments.Chunks.{need_of};
 ghost use Rattle.segment_build.specs.Conditions.{CanBuild};
 ghost use Rattle.segment_build.specs.Streams.{IsBuiltFrom, IsStreamed, OverflowsFrom, stream_chunks};
-ghost use Rattle.segment_build.specs.Trace.{IsPage};
+ghost use Rattle.busdma_rules.specs.Segments.Trace.{IsPage};
 
 use crate::adding::add_chunk;
 use crate::cutter::Cutter;

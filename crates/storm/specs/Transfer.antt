@@ -7,7 +7,7 @@ use Rattle.busdma_base.specs.declared.scenarios.script.Item.TheVariants as item
 use Rattle.busdma_base.specs.declared.scenarios.script.Op.{Op}
 use Rattle.busdma_base.specs.declared.scenarios.script.Op.TheVariants as op
 use Rattle.busdma_base.specs.declared.scenarios.script.Place.TheVariants.{At}
-use Rattle.dma_tag.specs.SyncOps.{preread_bit, postread_bit, prewrite_bit, postwrite_bit}
+use Rattle.busdma_rules.specs.Tags.SyncOps.{preread_bit, postread_bit, prewrite_bit, postwrite_bit}
 use Rattle.storm.specs.declared.transfer.Transfer.{Transfer}
 
 -- how many bytes a round with the numbers p and q loads

@@ -10,7 +10,7 @@ use Rattle.busdma_machine.specs.declared.bounce.hold.HubReply.TheVariants.{Nothi
 use Rattle.busdma_machine.specs.declared.bounce.zone.Waiter.{Waiter}
 use Rattle.busdma_machine.specs.Bounce.Account.{Account}
 use Rattle.busdma_machine.specs.Bounce.AccountStep.{called_from}
-use Rattle.lane_tables.specs.declared.queued.QueuedItem.{QueuedItem}
+use Rattle.busdma_base.specs.declared.scenarios.queued.QueuedItem.{QueuedItem}
 use Rattle.lane_agreement.specs.View.{Return}
 use Rattle.ideal_lane.specs.Asking.{Gives, goes_on}
 use Rattle.ideal_lane.specs.Sends.{Send, due_send}

@@ -3,8 +3,8 @@
 ghost use Rattle.std.specs.Prelude.{◌≡◌, ◌<◌, ◌≤◌, ◌^◌, length};
 ghost use Rattle.std.specs.List.{AllByRecursion};
 ghost use Rattle.busdma_machine.specs.Tags.TagFlags.{keep_pg_offset};
-ghost use Rattle.segment_build.specs.Building.{IsPlaceable};
-ghost use Rattle.segment_build.specs.Trace.{IsPage};
+ghost use Rattle.busdma_rules.specs.Segments.Building.{IsPlaceable};
+ghost use Rattle.busdma_rules.specs.Segments.Trace.{IsPage};
 
 use super::memory::{span, two_pages};
 use bitflags::Flags;

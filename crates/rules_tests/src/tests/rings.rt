@@ -1,7 +1,8 @@
 //! Descriptors, and ranges of bus addresses.
 
 use busdma_machine::{Pa, Segment};
-use ring_device::{Descriptor, address_of, find};
+use busdma_rules::Descriptor;
+use ring_device::{address_of, descriptor_bytes, descriptor_of, find};
 
 /// A load of 15 bytes, of which the first two and the last four have the same bus addresses.
 const SEGMENTS: [Segment; 4] = [
@@ -36,8 +37,8 @@ fn a_descriptor_is_little_endian(rt: HostRuntime) {
         owner: 1,
         status: 0xff,
     };
-    assert!(rt; Descriptor::of(&bytes) == descriptor);
-    assert!(rt; descriptor.bytes() == bytes);
+    assert!(rt; descriptor_of(&bytes) == descriptor);
+    assert!(rt; descriptor_bytes(&descriptor) == bytes);
 }
 
 /// Where the first segment that has a whole range has it, and none where two segments share it.

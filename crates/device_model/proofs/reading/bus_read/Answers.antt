@@ -7,7 +7,7 @@ use Rattle.busdma_machine.specs.Machine.Wire.{with_bytes_of}
 use Rattle.busdma_machine.specs.Runs.{run_of}
 use Rattle.phys_memory.specs.Memory.{wire}
 use Rattle.phys_memory.proofs.Writing.{part_read}
-use Rattle.segment_build.specs.Segmentation.{segment_bytes}
+use Rattle.busdma_rules.specs.Segments.Segmentation.{segment_bytes}
 use Rattle.device_model.specs.Access.{IsThere}
 use Rattle.device_model.specs.Walking.{rest_of}
 use Rattle.device_model.proofs.Accessing.{all_behind, first_of_run, rest_length, slice_size, split_run}

@@ -1,6 +1,6 @@
 use Rattle.std.proofs.Common.{subst, rules}
 use Rattle.busdma_machine.specs.Tags.Tag.{IsEffective}
-use Rattle.dma_tag.proofs.Effective.{IsEffective-inherit}
+use Rattle.busdma_rules.proofs.Tags.Effective.{IsEffective-inherit}
 use Rattle.dma_tag.proofs.limits.inherit.Goals as goal
 
 pub returns-clause-effective : goal.returns-clause-effective

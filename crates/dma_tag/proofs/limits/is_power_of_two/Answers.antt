@@ -1,5 +1,5 @@
 use Rattle.std.proofs.Common.{◌∙◌, arith}
-use Rattle.dma_tag.proofs.Powers.{one_bit-is_power_of_two}
+use Rattle.busdma_rules.proofs.Tags.Powers.{one_bit-is_power_of_two}
 use Rattle.dma_tag.proofs.limits.is_power_of_two.Goals as goal
 
 pub returns : goal.returns

@@ -1,7 +1,7 @@
 use Rattle.std.proofs.Common.{◌∙◌, sym, subst, rules, arith, refl}
 use Rattle.std.proofs.lemmas.Bool.{false≢true}
 use Rattle.busdma_machine.specs.Tags.Tag.{IsEffective}
-use Rattle.dma_tag.proofs.Effective.{IsEffective-rounded, is_accepted_decides}
+use Rattle.busdma_rules.proofs.Tags.Effective.{IsEffective-rounded, is_accepted_decides}
 use Rattle.dma_tag.proofs.limits.normal.Goals as goal
 
 pub returns-then-not-is_accepted-clause-accepted :

@@ -1,13 +1,13 @@
 use Rattle.std.proofs.Common.{Some, map, ap, ◌∙◌}
-use Rattle.iommu_map.specs.Space.{entered, translated}
-use Rattle.segment_build.specs.Pieces.{chunk_pieces}
-use Rattle.segment_build.specs.Segmentation.{segmentation}
-use Rattle.segment_build.proofs.Bytes.{pieces_bytes, segmentation_bytes}
-use Rattle.segment_build.proofs.Cuts.{cut_is}
-use Rattle.iommu_load.specs.Device.{device_chunks, load_frames}
-use Rattle.iommu_load.proofs.Carrying.{device-rises, entries-carried}
-use Rattle.iommu_load.proofs.Obeying.{device-obeys}
-use Rattle.iommu_load.proofs.Spaces.{entered-carries}
+use Rattle.busdma_rules.specs.Iommu.Space.{entered, translated}
+use Rattle.busdma_rules.specs.Segments.Pieces.{chunk_pieces}
+use Rattle.busdma_rules.specs.Segments.Segmentation.{segmentation}
+use Rattle.busdma_rules.proofs.Segments.Bytes.{pieces_bytes, segmentation_bytes}
+use Rattle.busdma_rules.proofs.Segments.Cuts.{cut_is}
+use Rattle.busdma_rules.specs.Iommu.Device.{device_chunks, load_frames}
+use Rattle.busdma_rules.proofs.Iommu.Carrying.{device-rises, entries-carried}
+use Rattle.busdma_rules.proofs.Iommu.DeviceObeying.{device-obeys}
+use Rattle.busdma_rules.proofs.Iommu.Spaces.{entered-carries}
 use Rattle.iommu_load.proofs.laws.device_segments_are_the_load.Goals as goal
 
 pub returns-clause-bytes : goal.returns-clause-bytes

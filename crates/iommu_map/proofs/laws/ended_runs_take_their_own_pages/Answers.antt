@@ -1,5 +1,5 @@
-use Rattle.iommu_map.proofs.Entering.{frame-left}
-use Rattle.iommu_map.proofs.Members.{left-others, place-in}
+use Rattle.busdma_rules.proofs.Iommu.Entering.{frame-left}
+use Rattle.busdma_rules.proofs.Iommu.Members.{left-others, place-in}
 use Rattle.iommu_map.proofs.laws.ended_runs_take_their_own_pages.Goals as goal
 
 pub returns-clause-others : goal.returns-clause-others

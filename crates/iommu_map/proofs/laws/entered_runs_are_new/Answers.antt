@@ -1,6 +1,6 @@
 use Rattle.std.proofs.Common.{length, refl}
-use Rattle.iommu_map.proofs.Members.{gap-new}
-use Rattle.iommu_map.proofs.Runs.{taken-gap}
+use Rattle.busdma_rules.proofs.Iommu.Members.{gap-new}
+use Rattle.busdma_rules.proofs.Iommu.Runs.{taken-gap}
 use Rattle.iommu_map.proofs.laws.entered_runs_are_new.Goals as goal
 
 pub returns : goal.returns

@@ -1,7 +1,7 @@
 use Rattle.std.proofs.Common.{length, ap}
-use Rattle.iommu_map.proofs.Entering.{entered-live, frame-other, frame-own, left-entered}
-use Rattle.iommu_map.proofs.Members.{put-in, put-others}
-use Rattle.iommu_map.proofs.Runs.{taken-gap}
+use Rattle.busdma_rules.proofs.Iommu.Entering.{entered-live, frame-other, frame-own, left-entered}
+use Rattle.busdma_rules.proofs.Iommu.Members.{put-in, put-others}
+use Rattle.busdma_rules.proofs.Iommu.Runs.{taken-gap}
 use Rattle.iommu_map.proofs.laws.entered_runs_take_their_own_pages.Goals as goal
 
 pub returns-clause-live : goal.returns-clause-live

@@ -2,9 +2,9 @@ use Rattle.std.proofs.Common.{◌≡◌, false, map, Some, refl, ap, sym, ◌∙
 use Rattle.std.specs.FinMap.{get, insert}
 use Rattle.busdma_base.specs.declared.journals.answer.Answer.TheVariants as answer
 use Rattle.busdma_machine.specs.declared.name.MapId.{MapId}
-use Rattle.loan_table.specs.Access.{dev_read_answer}
+use Rattle.busdma_rules.specs.Lending.Access.{dev_read_answer}
 use Rattle.busdma_machine.specs.Runs.{addresses}
-use Rattle.loan_table.specs.Loans.{load_bytes, loan_of}
+use Rattle.busdma_rules.specs.Lending.Loans.{load_bytes, loan_of}
 use Rattle.loan_table.specs.Table.{AreIn, is_known}
 use Rattle.phys_memory.specs.Frames.{Lie}
 use Rattle.phys_memory.specs.Memory.{wire}

@@ -4,8 +4,8 @@ use Rattle.busdma_base.specs.declared.journals.answer.Answer.TheVariants.{Done}
 use Rattle.busdma_machine.specs.declared.name.MapId.{MapId}
 use Rattle.busdma_machine.specs.Machine.Wire.{put}
 use Rattle.busdma_machine.specs.Runs.{addresses}
-use Rattle.loan_table.specs.Access.{dev_write_answer}
-use Rattle.loan_table.specs.Loans.{load_bytes, loan_of}
+use Rattle.busdma_rules.specs.Lending.Access.{dev_write_answer}
+use Rattle.busdma_rules.specs.Lending.Loans.{load_bytes, loan_of}
 use Rattle.loan_table.specs.Table.{AreIn, buffer_of, set_all}
 use Rattle.loan_table.proofs.Extending.{length-range}
 use Rattle.phys_memory.specs.Frames.{Lie}

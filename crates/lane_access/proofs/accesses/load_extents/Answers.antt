@@ -2,7 +2,7 @@ use Rattle.std.proofs.Common.{◌≡◌, ◌-◌, ◌++◌, [], ◌∷◌, sym, 
 use Rattle.std.specs.List.{AllByRecursion}
 use Rattle.busdma_machine.specs.declared.name.MapId.{MapId}
 use Rattle.busdma_machine.specs.Runs.{addresses, run_of}
-use Rattle.loan_table.specs.Loans.{load_bytes, loan_of}
+use Rattle.busdma_rules.specs.Lending.Loans.{load_bytes, loan_of}
 use Rattle.loan_table.proofs.Extending.{addresses-push}
 use Rattle.lane_access.specs.Raw.{IsInFrame}
 use Rattle.lane_access.proofs.OwnExtents.{load-more}

@@ -1,7 +1,7 @@
 use Rattle.std.proofs.Common.{◌≡◌, ◌-◌, ◌≤◌}
 use Rattle.std.specs.List.{AllByRecursion}
 use Rattle.busdma_machine.specs.Runs.{addresses}
-use Rattle.loan_table.specs.Loans.{load_bytes}
+use Rattle.busdma_rules.specs.Lending.Loans.{load_bytes}
 use Rattle.lane_access.specs.Raw.{IsInFrame}
 use Rattle.lane_access.proofs.accesses.load_extents.Given as goal
 

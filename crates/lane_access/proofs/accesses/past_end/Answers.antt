@@ -1,6 +1,6 @@
 use Rattle.std.proofs.Common.{subst}
 use Rattle.busdma_machine.specs.declared.name.MapId.{MapId}
-use Rattle.loan_table.specs.Loans.{addresses_of}
+use Rattle.busdma_rules.specs.Lending.Loans.{addresses_of}
 use Rattle.loan_table.specs.Table.{AreIn, buffer_of}
 use Rattle.loan_table.proofs.Marking.{AreIn-range}
 use Rattle.lane_access.proofs.accesses.past_end.Goals as goal

@@ -3,7 +3,7 @@ use Rattle.std.proofs.lemmas.List.{length-map}
 use Rattle.busdma_machine.specs.declared.report.Judged.TheVariants.{Fine}
 use Rattle.busdma_machine.specs.Judging.{judged}
 use Rattle.busdma_machine.specs.Runs.{addresses, run_of}
-use Rattle.iommu_map.specs.Space.{translated}
+use Rattle.busdma_rules.specs.Iommu.Space.{translated}
 use Rattle.loan_table.specs.Table.{AreIn}
 use Rattle.loan_table.proofs.Judgement.{length-run_of}
 use Rattle.phys_memory.specs.Frames.{Lie}

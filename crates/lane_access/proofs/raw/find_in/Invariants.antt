@@ -1,5 +1,5 @@
 use Rattle.std.proofs.Common.{◌≡◌, ℕ, ◌+◌, ◌<◌, ◌≤◌, drop}
-use Rattle.segment_build.specs.Obeying.{segments_bytes}
+use Rattle.busdma_rules.specs.Segments.Obeying.{segments_bytes}
 use Rattle.ideal_lane.specs.Accesses.{place_in}
 use Rattle.lane_access.proofs.raw.find_in.Given as goal
 

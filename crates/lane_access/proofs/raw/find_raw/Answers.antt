@@ -2,7 +2,7 @@ use Rattle.std.proofs.Common.{◌≡◌, ◌+◌, ◌/◌, ◌<◌, ◌≤◌, �
 use Rattle.std.proofs.Common.{arith}
 use Rattle.std.specs.FinMap.{entries}
 use Rattle.busdma_machine.specs.declared.machine.address.Segment.{Segment}
-use Rattle.segment_build.specs.Obeying.{segments_bytes}
+use Rattle.busdma_rules.specs.Segments.Obeying.{segments_bytes}
 use Rattle.ideal_lane.specs.Accesses.{place_in}
 use Rattle.lane_access.specs.Raw.{last_of}
 use Rattle.lane_access.proofs.RawOwners.{last-short, last-tag, last-there, position-last, position-none}

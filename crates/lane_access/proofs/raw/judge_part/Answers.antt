@@ -1,7 +1,7 @@
 use Rattle.std.proofs.Common.{◌≡◌, true, option_map, is_some, sym, ap, ◌∙◌, arith}
 use Rattle.busdma_machine.specs.declared.machine.address.Pa.{Pa}
 use Rattle.busdma_machine.specs.declared.report.Judged.TheVariants.{Refused}
-use Rattle.iommu_map.specs.Space.{translated}
+use Rattle.busdma_rules.specs.Iommu.Space.{translated}
 use Rattle.lane_state.specs.Ideal.{ideal_of}
 use Rattle.lane_access.specs.Raw.{IsStanding}
 use Rattle.lane_access.proofs.RawLoads.{short-of, stands-there}

@@ -4,7 +4,7 @@ use Rattle.std.specs.FinMap.{entries}
 use Rattle.busdma_machine.specs.declared.report.ReportName.TheVariants.{Untranslated}
 use Rattle.busdma_machine.specs.Judging.{judged}
 use Rattle.busdma_machine.specs.Runs.{run_of}
-use Rattle.iommu_map.specs.Space.{translated}
+use Rattle.busdma_rules.specs.Iommu.Space.{translated}
 use Rattle.loan_table.proofs.Judgement.{length-run_of}
 use Rattle.ideal_lane.specs.Accesses.{position_in, unless_unlent}
 use Rattle.lane_state.specs.Ideal.{ideal_of}

@@ -4,7 +4,7 @@ use Rattle.std.specs.List.{AllByRecursion}
 use Rattle.busdma_machine.specs.declared.machine.address.Extent.{Extent}
 use Rattle.busdma_machine.specs.declared.machine.address.Pa.{Pa}
 use Rattle.busdma_machine.specs.Runs.{addresses}
-use Rattle.iommu_map.specs.Space.{translated}
+use Rattle.busdma_rules.specs.Iommu.Space.{translated}
 use Rattle.lane_state.specs.Ideal.{ideal_of}
 use Rattle.lane_access.specs.Raw.{IsInFrame}
 use Rattle.lane_access.proofs.RawRuns.{all-push, raw-more, raw-offset}

@@ -1,6 +1,6 @@
 use Rattle.std.proofs.Common.{ap, sym, ◌∙◌, ◌&&◌, ◌||◌}
 use Rattle.std.specs.List.{list_any}
-use Rattle.dma_tag.specs.SyncOps.{postread, prewrite}
+use Rattle.busdma_rules.specs.Tags.SyncOps.{postread, prewrite}
 use Rattle.dma_map.specs.MapView.{chunks_of}
 use Rattle.ideal_lane.specs.Syncs.{has_byte_of}
 use Rattle.lane_state.specs.Held.{device_view}

@@ -6,9 +6,9 @@ use Rattle.busdma_machine.specs.declared.report.Judged.TheVariants.{Fine}
 use Rattle.busdma_machine.specs.declared.name.MapId.{MapId}
 use Rattle.busdma_machine.specs.declared.name.ZoneId.{ZoneId}
 use Rattle.dma_map.specs.MapView.{chunks_of}
-use Rattle.dma_tag.specs.SyncOps.{is_mixed, postread, prewrite}
-use Rattle.loan_table.specs.Lending.{lost, sync_answer}
-use Rattle.loan_table.specs.Lending as lending
+use Rattle.busdma_rules.specs.Tags.SyncOps.{is_mixed, postread, prewrite}
+use Rattle.busdma_rules.specs.Lending.Syncing.{lost, sync_answer}
+use Rattle.busdma_rules.specs.Lending.Syncing as lending
 use Rattle.loan_table.specs.Table.{AreIn, IsSynced, set_all}
 use Rattle.ideal_lane.specs.Syncs.{counted, has_byte_of, sync_part}
 use Rattle.ideal_wire.specs.WireStep as wires

@@ -1,7 +1,7 @@
 use Rattle.std.proofs.Common.{◌≡◌, ◌==◌, ℕ, List, Some, None, true, false, is_some, length, refl, ap, sym, ◌∙◌}
 use Rattle.std.proofs.Common.{unwrap_or, if◌then◌else◌}
 use Rattle.std.specs.FinMap.{get, insert}
-use Rattle.iommu_map.specs.Space.{Space, entered, first_free}
+use Rattle.busdma_rules.specs.Iommu.Space.{Space, entered, first_free}
 use Rattle.ideal_lane.specs.State.{no_space}
 use Rattle.ideal_lane.specs.Tags.{with_space}
 use Rattle.lane_state.specs.declared.kept.KeptTag.{KeptTag}

@@ -8,7 +8,7 @@ use Rattle.busdma_machine.specs.declared.machine.chunk.Entry.{Entry}
 use Rattle.busdma_machine.specs.declared.machine.chunk.Part.{Part}
 use Rattle.busdma_machine.specs.declared.tags.tag.TagLimits.{TagLimits}
 use Rattle.busdma_machine.specs.Machine.Entry.{entries_of}
-use Rattle.iommu_load.specs.Device.{load_frames}
+use Rattle.busdma_rules.specs.Iommu.Device.{load_frames}
 use Rattle.iommu_load.specs.DeviceStreams.{stream_frames}
 use Rattle.ideal_lane.specs.Loads.{limits_of, load_entries, loaded, no_limits}
 use Rattle.ideal_lane.specs.Standing.{Stands}

@@ -3,7 +3,7 @@ use Rattle.busdma_machine.specs.declared.machine.address.Segment.{Segment}
 use Rattle.busdma_machine.specs.declared.machine.chunk.Entry.{Entry}
 use Rattle.busdma_machine.specs.declared.tags.tag.TagLimits.{TagLimits}
 use Rattle.busdma_machine.specs.Machine.Entry.{entries_of}
-use Rattle.iommu_load.specs.Device.{load_frames}
+use Rattle.busdma_rules.specs.Iommu.Device.{load_frames}
 use Rattle.iommu_load.specs.DeviceStreams.{device_pieces}
 use Rattle.segment_build.proofs.Cuts.{one_segmentation}
 use Rattle.ideal_lane.specs.Loads.{load_entries}

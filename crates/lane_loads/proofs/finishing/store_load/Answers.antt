@@ -7,7 +7,7 @@ use Rattle.ideal_lane.proofs.Weights.{weigh-put}
 use Rattle.busdma_machine.specs.declared.name.MapId.{MapId}
 use Rattle.busdma_machine.specs.Machine.PageList.{page_addresses}
 use Rattle.dma_map.specs.MapView.{loaded}
-use Rattle.loan_table.specs.Loans.{loan_of, new_loan, no_loan}
+use Rattle.busdma_rules.specs.Lending.Loans.{loan_of, new_loan, no_loan}
 use Rattle.ideal_lane.specs.State.{LaneMap, Loaded}
 use Rattle.lane_state.specs.declared.kept.KeptMap.{KeptMap}
 use Rattle.lane_state.specs.Covered.{has_load, is_idle_map, pages_due}

@@ -9,9 +9,9 @@ use Rattle.busdma_machine.specs.Machine.Page.{FrameBytes}
 use Rattle.busdma_machine.specs.Machine.PageList.{page_addresses}
 use Rattle.dma_map.specs.declared.room.LoadRoom.{LoadRoom}
 use Rattle.memory_load.specs.MemoryLoad.{run_pieces, run_segments}
-use Rattle.segment_build.specs.Building.{placed_pieces}
-use Rattle.segment_build.specs.Chunks.{need_of}
-use Rattle.segment_build.specs.Trace.{IsPage}
+use Rattle.busdma_rules.specs.Segments.Building.{placed_pieces}
+use Rattle.busdma_rules.specs.Segments.Chunks.{need_of}
+use Rattle.busdma_rules.specs.Segments.Trace.{IsPage}
 use Rattle.segment_build.specs.Streams.{stream_chunks}
 use Rattle.ideal_lane.specs.Loads.{limits_of}
 use Rattle.ideal_lane.specs.State.{LaneMap}

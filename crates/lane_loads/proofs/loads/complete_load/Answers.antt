@@ -13,11 +13,11 @@ use Rattle.ideal_lane.proofs.Falling.{queued-from}
 use Rattle.ideal_lane.proofs.Lookups.{get_put}
 use Rattle.busdma_machine.specs.Machine.Entry.{entries_addresses}
 use Rattle.busdma_machine.specs.Machine.PageList.{page_addresses}
-use Rattle.lane_tables.specs.Queues.{queued}
-use Rattle.loan_table.specs.Loans.{loan_of, new_loan, no_loan}
-use Rattle.segment_build.specs.Building.{placed_pieces, tag_placed}
-use Rattle.segment_build.specs.Chunks.{bounced_of}
-use Rattle.segment_build.specs.Segmentation.{segmentation}
+use Rattle.busdma_base.specs.Scenarios.Queues.{queued}
+use Rattle.busdma_rules.specs.Lending.Loans.{loan_of, new_loan, no_loan}
+use Rattle.busdma_rules.specs.Segments.Building.{placed_pieces, tag_placed}
+use Rattle.busdma_rules.specs.Segments.Chunks.{bounced_of}
+use Rattle.busdma_rules.specs.Segments.Segmentation.{segmentation}
 use Rattle.ideal_lane.specs.Loads.{is_coherent, limits_of, load_entries, loaded, staged, unpaged}
 use Rattle.ideal_lane.specs.State.{LaneState, Loaded}
 use Rattle.ideal_lane.specs.Unloads.{unlent}

@@ -2,8 +2,8 @@ use Rattle.std.proofs.Common.{◌≡◌, ◌<◌, ◌≤◌, length, sym, ap, �
 use Rattle.busdma_machine.specs.declared.tags.tag.TagLimits.{TagLimits}
 use Rattle.busdma_machine.specs.Machine.Entry.{unmapped_of}
 use Rattle.memory_load.specs.MemoryLoad.{run_pieces}
-use Rattle.segment_build.specs.Building.{placed_pieces}
-use Rattle.segment_build.specs.Chunks.{need_of}
+use Rattle.busdma_rules.specs.Segments.Building.{placed_pieces}
+use Rattle.busdma_rules.specs.Segments.Chunks.{need_of}
 use Rattle.segment_build.specs.Streams.{stream_chunks}
 use Rattle.ideal_lane.specs.Loads.{limits_of}
 use Rattle.ideal_lane.specs.State.{LaneMap}

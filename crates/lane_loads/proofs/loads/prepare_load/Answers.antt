@@ -3,7 +3,7 @@ use Rattle.std.specs.FinMap.{contains_key, get, insert}
 use Rattle.busdma_machine.specs.declared.machine.address.Extent.{Extent}
 use Rattle.busdma_machine.specs.Machine.Entry.{entries_addresses}
 use Rattle.busdma_machine.specs.Runs.{addresses, byte_count}
-use Rattle.loan_table.specs.Loans.{Loans, new_loan}
+use Rattle.busdma_rules.specs.Lending.Loans.{Loans, new_loan}
 use Rattle.loan_table.specs.Table.{AreIn}
 use Rattle.ideal_lane.specs.Loads.{is_coherent, load_entries}
 use Rattle.lane_state.specs.Ideal.{ideal_of}

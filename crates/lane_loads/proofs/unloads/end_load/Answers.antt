@@ -6,7 +6,7 @@ use Rattle.busdma_machine.specs.declared.name.MapId.{MapId}
 use Rattle.busdma_machine.specs.declared.name.ZoneId.{ZoneId}
 use Rattle.lane_agreement.specs.View.{queued_back}
 use Rattle.lane_tables.specs.Queues.{queued_pages}
-use Rattle.loan_table.specs.Lending.{lost_by_forgetting}
+use Rattle.busdma_rules.specs.Lending.Syncing.{lost_by_forgetting}
 use Rattle.loan_table.specs.Table.{AreIn, set_all}
 use Rattle.ideal_lane.specs.Loads.{emptied, unpaged}
 use Rattle.ideal_lane.specs.State.{LaneState}

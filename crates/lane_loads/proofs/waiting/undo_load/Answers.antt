@@ -7,7 +7,7 @@ use Rattle.lane_state.proofs.Keeping.{idle-unloaded}
 use Rattle.lane_state.proofs.OfMaps.{of-maps-less}
 use Rattle.lane_state.specs.Covered.{AreOwn, AreReturning}
 use Rattle.lane_tables.specs.Schedule.{Schedule}
-use Rattle.loan_table.specs.Loans.{Loans}
+use Rattle.busdma_rules.specs.Lending.Loans.{Loans}
 use Rattle.lane_loads.proofs.waiting.undo_load.Goals as goal
 
 pub drop_prepared-requires : goal.drop_prepared-requires

@@ -1,6 +1,6 @@
 use Rattle.std.proofs.Common.{◌≡◌, Option, Some, true, is_some, refl, ap, sym, ◌∙◌, subst}
 use Rattle.std.specs.FinMap.{get, insert}
-use Rattle.iommu_map.specs.Space.{Space}
+use Rattle.busdma_rules.specs.Iommu.Space.{Space}
 use Rattle.lane_state.specs.declared.kept.KeptTag.{KeptTag}
 use Rattle.lane_state.specs.Ideal.{ideal_of}
 use Rattle.lane_state.specs.Kept.{space_of, spaces_of, tag_of}

@@ -10,7 +10,7 @@ use Rattle.busdma_machine.specs.declared.name.MapId.{MapId}
 use Rattle.busdma_machine.specs.Bounce.Door.{Holds, IsRow, memory_reply}
 use Rattle.busdma_machine.specs.Bounce.MemoryRuns.{frames_from}
 use Rattle.busdma_machine.specs.Machine.PageList.{RoomyPages, page_address, page_addresses}
-use Rattle.dma_tag.specs.MemFlags.{zero_filled}
+use Rattle.busdma_rules.specs.Tags.MemFlags.{zero_filled}
 use Rattle.ideal_lane.specs.Asking.{Asks}
 use Rattle.ideal_lane.specs.Memories as memories
 use Rattle.ideal_lane.specs.Memories.{dmamem, with_memory}

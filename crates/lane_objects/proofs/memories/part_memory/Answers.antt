@@ -17,7 +17,7 @@ use Rattle.lane_state.proofs.Awaiting.{awaiting-ready, idle-unkept, less-other}
 use Rattle.lane_state.specs.Awaiting.{AreOfMaps}
 use Rattle.lane_state.proofs.OfMaps.{of-maps-part}
 use Rattle.busdma_machine.specs.declared.name.MapId.{MapId}
-use Rattle.loan_table.specs.Loans.{Loans}
+use Rattle.busdma_rules.specs.Lending.Loans.{Loans}
 use Rattle.std.specs.Ordering.{nat_cmp}
 use Rattle.std.specs.FinMap.{FinMap}
 use Rattle.std.proofs.Common.{ℕ, Bool}

@@ -1,7 +1,7 @@
 use Rattle.std.proofs.Common.{◌≡◌, ◌+◌, ◌/◌, false, Some, [], ap, sym, ◌∙◌, subst}
 use Rattle.std.specs.FinMap.{get, insert}
 use Rattle.busdma_base.specs.declared.journals.answer.Answer.TheVariants.{Done}
-use Rattle.iommu_map.specs.Space.{Space}
+use Rattle.busdma_rules.specs.Iommu.Space.{Space}
 use Rattle.ideal_lane.specs.Outcomes.{gives}
 use Rattle.ideal_lane.specs.Tags.{with_space}
 use Rattle.lane_state.specs.declared.kept.KeptTag.{KeptTag}

@@ -3,7 +3,7 @@ use Rattle.std.proofs.lemmas.Bool.{lt-ltb}
 use Rattle.std.specs.FinMap.{get}
 use Rattle.std.specs.Option.{option_map}
 use Rattle.busdma_machine.specs.declared.machine.address.Pa.{Pa}
-use Rattle.ring_device.specs.Ranges.{address_of}
+use Rattle.busdma_rules.specs.Rings.Ranges.{address_of}
 use Rattle.ideal_lane.specs.Loads.{is_device}
 use Rattle.ideal_lane.specs.Rings.{is_work}
 use Rattle.ideal_lane.specs.Unloads.{segments_in}

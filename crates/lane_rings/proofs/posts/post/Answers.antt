@@ -2,7 +2,7 @@ use Rattle.std.proofs.Common.{◌≡◌, length, refl, rules, ap, sym, ◌∙◌
 use Rattle.std.specs.FinMap.{get}
 use Rattle.busdma_base.specs.declared.journals.answer.Answer.{Answer}
 use Rattle.busdma_base.specs.declared.journals.answer.Answer.TheVariants as answer
-use Rattle.ring_device.specs.Descriptors.{descriptor_bytes}
+use Rattle.busdma_rules.specs.Rings.Descriptors.{descriptor_bytes}
 use Rattle.busdma_machine.specs.declared.report.Errno.TheVariants.{EINVAL}
 use Rattle.busdma_machine.specs.declared.report.ReportName.TheVariants.{Absent}
 use Rattle.ideal_lane.specs.Accesses.{cpu_write}
@@ -162,9 +162,9 @@ returns-clause-done c =
     let d = c.in-Some-descriptor_of.descriptor in
     let posted = c.in-Some-descriptor_of.ensures.posted in
     ok-map c.cpu_write.result
-    (λ a. Gives (given c.cpu_write.new.holdings a) ≡ cpu_write (slot_place (ring_of q) p.slot) c.bytes.result l)
+    (λ a. Gives (given c.cpu_write.new.holdings a) ≡ cpu_write (slot_place (ring_of q) p.slot) c.descriptor_bytes.result l)
     (λ a. Gives (given c.cpu_write.new.holdings a) ≡ ring_post k p.slot p.map p.off p.len p.kind p.fill l)
-    (λ a e. e ∙ ap (λ vs. cpu_write (slot_place (ring_of q) p.slot) vs l) c.bytes.ensures.bytes
+    (λ a e. e ∙ ap (λ vs. cpu_write (slot_place (ring_of q) p.slot) vs l) c.descriptor_bytes.ensures.bytes
     ∙ sym (post-write l k p (ring_of q) ring x memory (map_of o.0) there o.2 c.in_default-past_end.ensures.range d posted))
     c.cpu_write.ensures.done
 
@@ -185,10 +185,10 @@ returns-clause-wire c =
     let size : length (descriptor_bytes d) ≡ 16 = search rules in
     ok-map c.cpu_write.result
     (λ (a : Answer). wire_of c.cpu_write.new.holdings
-    ≡ wires.cpu_write (slot_place (ring_of q) p.slot) c.bytes.result l (wire_of h))
+    ≡ wires.cpu_write (slot_place (ring_of q) p.slot) c.descriptor_bytes.result l (wire_of h))
     (λ (a : Answer). wire_of c.cpu_write.new.holdings
     ≡ wires.ring_post k p.slot p.map p.off p.len p.kind p.fill l (wire_of h))
-    (λ a e. e ∙ ap (λ vs. wires.cpu_write (slot_place (ring_of q) p.slot) vs l (wire_of h)) c.bytes.ensures.bytes
+    (λ a e. e ∙ ap (λ vs. wires.cpu_write (slot_place (ring_of q) p.slot) vs l (wire_of h)) c.descriptor_bytes.ensures.bytes
     ∙ post-wire l k p (ring_of q) ring x memory (map_of o.0) there o.2 c.in_default-past_end.ensures.range d posted
     (wire_of h) size)
     c.cpu_write.ensures.wire

@@ -1,7 +1,7 @@
 use Rattle.std.proofs.Common.{◌≡◌, false, Some}
 use Rattle.std.proofs.Common.{ap, sym, ◌∙◌}
 use Rattle.dma_map.specs.MapView as held
-use Rattle.ring_device.specs.Ranges.{place_of}
+use Rattle.busdma_rules.specs.Rings.Ranges.{place_of}
 use Rattle.ideal_lane.specs.Rings.{is_left_out}
 use Rattle.lane_state.specs.Ideal.{ideal_of}
 use Rattle.lane_state.specs.Kept.{map_of}

@@ -5,10 +5,10 @@ use Rattle.busdma_base.specs.declared.journals.answer.Answer.TheVariants as answ
 use Rattle.busdma_machine.specs.declared.report.Errno.TheVariants.{EINVAL}
 use Rattle.busdma_machine.specs.declared.report.ReportName.TheVariants.{Absent}
 use Rattle.busdma_machine.specs.Runs.{run_of}
-use Rattle.loan_table.specs.Loans.{loan_of}
+use Rattle.busdma_rules.specs.Lending.Loans.{loan_of}
 use Rattle.phys_memory.specs.Memory.{has_frame, wire}
-use Rattle.ring_device.specs.declared.descriptor.Descriptor.{Descriptor}
-use Rattle.ring_device.specs.Descriptors.{descriptor_of}
+use Rattle.busdma_rules.specs.declared.descriptor.Descriptor.{Descriptor}
+use Rattle.busdma_rules.specs.Rings.Descriptors.{descriptor_of}
 use Rattle.ideal_lane.specs.Outcomes.{gives}
 use Rattle.ideal_lane.specs.Rings.{candidates_in, head_at, head_of, is_work}
 use Rattle.lane_state.specs.Ideal.{ideal_of}

@@ -1,8 +1,8 @@
 use Rattle.std.proofs.Common.{ap, sym, ◌∙◌}
 use Rattle.std.specs.FinMap.{get}
 use Rattle.busdma_machine.specs.declared.name.MapId.{MapId}
-use Rattle.loan_table.specs.Access.{dev_read_answer}
-use Rattle.loan_table.specs.Loans.{loan_of}
+use Rattle.busdma_rules.specs.Lending.Access.{dev_read_answer}
+use Rattle.busdma_rules.specs.Lending.Loans.{loan_of}
 use Rattle.loan_table.specs.Table.{is_known}
 use Rattle.lane_state.specs.Held.{devices_of}
 use Rattle.lane_state.specs.Ideal.{ideal_of}

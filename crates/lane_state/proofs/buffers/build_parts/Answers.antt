@@ -7,7 +7,7 @@ use Rattle.segment_build.specs.Conditions.{HasRooms}
 use Rattle.segment_build.specs.Streams.{IsBuiltFrom, OverflowsFrom}
 use Rattle.segment_build.proofs.Iterating.{along_first, drained_first}
 use Rattle.segment_build.proofs.FrontsAsk.{HasRooms-front}
-use Rattle.segment_build.specs.Trace.{IsPage}
+use Rattle.busdma_rules.specs.Segments.Trace.{IsPage}
 use Rattle.lane_state.proofs.buffers.build_parts.Goals as goal
 
 on-true : (P Q : Type 0) (b : Bool) → b ≡ true → MatchBool b P Q → P

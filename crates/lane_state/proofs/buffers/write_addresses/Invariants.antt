@@ -2,7 +2,7 @@ use Rattle.std.proofs.Common.{◌≡◌, ◌+◌, ◌≤◌, length, take}
 use Rattle.std.specs.List.{AllByRecursion}
 use Rattle.busdma_machine.specs.Bounce.AccountStep.{as_pages}
 use Rattle.busdma_machine.specs.Machine.PageList.{page_addresses}
-use Rattle.segment_build.specs.Trace.{IsPage}
+use Rattle.busdma_rules.specs.Segments.Trace.{IsPage}
 use Rattle.lane_state.proofs.buffers.write_addresses.Given as goal
 
 abbrev pub invariant-loop-page : goal.invariant-loop-page

@@ -1,5 +1,5 @@
 use Rattle.std.proofs.Common.{◌≡◌, ◌+◌, ◌≤◌, sym, ◌∙◌, arith, ◌⊎◌}
-use Rattle.dmamem.specs.Memory.{virtual_of}
+use Rattle.busdma_rules.specs.Memory.Memories.{virtual_of}
 use Rattle.lane_state.proofs.Foreign.{first-within, none-within}
 use Rattle.lane_state.proofs.judging.judge_inside.Goals as goal
 use Rattle.lane_state.proofs.judging.judge_inside.Goals.{else-first-end-via-then-first-end+else-first-from}

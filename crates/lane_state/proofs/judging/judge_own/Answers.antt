@@ -2,7 +2,7 @@ use Rattle.std.proofs.Common.{◌≡◌, ◌+◌, ◌≤◌, ◌<◌, sym, ap, �
 use Rattle.std.specs.List.{enumerate_from}
 use Rattle.busdma_machine.specs.Judging.{judged}
 use Rattle.busdma_machine.specs.Runs.{run_of}
-use Rattle.dmamem.specs.Memory.{virtual_of}
+use Rattle.busdma_rules.specs.Memory.Memories.{virtual_of}
 use Rattle.lane_state.specs.Judging.{foreign_at}
 use Rattle.lane_state.proofs.Foreign.{away-off, max-off, none-past, off_place}
 use Rattle.lane_state.proofs.judging.judge_own.Goals as goal

@@ -1,5 +1,5 @@
 use Rattle.std.proofs.Common.{◌≡◌, ◌+◌, drop}
-use Rattle.lane_tables.specs.Queues.{script_items}
+use Rattle.busdma_base.specs.Scenarios.Queues.{script_items}
 use Rattle.lane_tables.proofs.agenda.script_items.Given as goal
 
 -- what is counted and what is left to count are all

@@ -1,5 +1,5 @@
 use Rattle.std.proofs.Common.{ap, sym, ◌∙◌, ◌||◌}
-use Rattle.lane_tables.specs.Queues.{queue_names}
+use Rattle.busdma_base.specs.Scenarios.Queues.{queue_names}
 use Rattle.lane_state.specs.Ideal.{ideal_of}
 use Rattle.lane_state.specs.Kept.{map_of}
 use Rattle.lane_turns.proofs.AwaitedMaps.{awaits-none, awaits-some, state-goes, state-waits}

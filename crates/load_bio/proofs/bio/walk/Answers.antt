@@ -8,10 +8,12 @@ use Rattle.busdma_machine.specs.Machine.Spans.{bio_spans, one_span, span_address
 use Rattle.busdma_machine.specs.Runs.{run_of}
 use Rattle.phys_memory.specs.declared.entries.Entries.{Entries}
 use Rattle.phys_memory.specs.Memory.{physical}
-use Rattle.phys_memory.specs.Translation.{physical_or_0}
+use Rattle.busdma_rules.specs.Memory.Translation.{physical_or_0}
 use Rattle.phys_memory.specs.Vector.{IfAll, spans_walk}
-use Rattle.load_bio.specs.Bio.{IsBio, LiesInBio, bio_translation, bio_walk}
-use Rattle.load_bio.specs.Frames.{LiesInOneOf, in_frames}
+use Rattle.load_bio.specs.Bio.{IsBio, LiesInBio, bio_walk}
+use Rattle.busdma_rules.specs.Memory.Bios.{bio_translation}
+use Rattle.load_bio.specs.Frames.{LiesInOneOf}
+use Rattle.busdma_rules.specs.Memory.BioFrames.{in_frames}
 use Rattle.load_bio.proofs.FrameWalks.{frame_bytes, frame_entries, frame_lie}
 use Rattle.load_bio.proofs.bio.walk.Goals as goal
 

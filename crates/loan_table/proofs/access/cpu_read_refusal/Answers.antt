@@ -1,7 +1,7 @@
 use Rattle.std.proofs.Common.{Some, None, cond, sym, ap, ◌∙◌, arith}
 use Rattle.busdma_machine.specs.declared.report.ReportName.TheVariants.{CpuReadLent, StaleByte}
 use Rattle.loan_table.specs.declared.row.Way.TheVariants.{ToWrite}
-use Rattle.loan_table.specs.Loans.{to_write}
+use Rattle.busdma_rules.specs.Lending.Loans.{to_write}
 use Rattle.loan_table.specs.Table.{is_marked}
 use Rattle.loan_table.proofs.Totals.{is_lent, not_lent}
 use Rattle.loan_table.proofs.access.cpu_read_refusal.Goals as goal

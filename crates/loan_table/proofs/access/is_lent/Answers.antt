@@ -1,6 +1,6 @@
 use Rattle.std.proofs.Common.{◌||◌, nat_lt, sym, ap, ◌∙◌, arith}
 use Rattle.loan_table.specs.declared.row.Way.TheVariants.{ToRead, ToWrite}
-use Rattle.loan_table.specs.Loans.{lent, to_read, to_write}
+use Rattle.busdma_rules.specs.Lending.Loans.{lent, to_read, to_write}
 use Rattle.loan_table.proofs.Totals.{is_lent, lent_any, lent_counted, not_lent}
 use Rattle.loan_table.proofs.access.is_lent.Goals as goal
 

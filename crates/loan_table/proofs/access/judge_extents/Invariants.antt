@@ -4,7 +4,7 @@ use Rattle.busdma_machine.specs.Runs.{addresses, byte_count}
 use Rattle.loan_table.specs.Kinds.{cpu_refusal}
 use Rattle.loan_table.specs.Table.{is_marked}
 use Rattle.loan_table.specs.Counted.{AreUnlent, IsCounted}
-use Rattle.loan_table.specs.Loans.{Loans}
+use Rattle.busdma_rules.specs.Lending.Loans.{Loans}
 use Rattle.loan_table.proofs.access.judge_extents.Given as goal
 
 abbrev pub invariant-loop-extent : goal.invariant-loop-extent

@@ -2,7 +2,7 @@ use Rattle.std.proofs.Common.{◌≡◌, ◌+◌, ◌-◌, ℕ, None, ap, sym, �
 use Rattle.busdma_machine.specs.Judging.{judged}
 use Rattle.busdma_machine.specs.Machine.Wire.{stretch}
 use Rattle.loan_table.specs.declared.access.Access.TheVariants.{Read}
-use Rattle.loan_table.specs.Access.{dev_read_refusal}
+use Rattle.busdma_rules.specs.Lending.Access.{dev_read_refusal}
 use Rattle.loan_table.specs.Table.{is_marked}
 use Rattle.loan_table.proofs.Pieces.{first_refused, lent_as, none_refused, nothing, shorter, whole}
 use Rattle.loan_table.proofs.SameRefusals.{same_for_device}

@@ -1,7 +1,7 @@
 use Rattle.std.proofs.Common.{◌≡◌, ◌-◌, ◌≤◌}
 use Rattle.busdma_machine.specs.Judging.{judged}
 use Rattle.busdma_machine.specs.Machine.Wire.{stretch}
-use Rattle.loan_table.specs.Access.{dev_read_refusal}
+use Rattle.busdma_rules.specs.Lending.Access.{dev_read_refusal}
 use Rattle.loan_table.specs.Table.{is_marked}
 use Rattle.loan_table.proofs.access.judge_read.Given as goal
 

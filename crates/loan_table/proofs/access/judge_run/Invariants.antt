@@ -4,7 +4,7 @@ use Rattle.busdma_machine.specs.Runs.{run_of}
 use Rattle.loan_table.specs.Kinds.{cpu_refusal}
 use Rattle.loan_table.specs.Table.{is_marked}
 use Rattle.loan_table.specs.Counted.{IsCounted}
-use Rattle.loan_table.specs.Loans.{Loans}
+use Rattle.busdma_rules.specs.Lending.Loans.{Loans}
 use Rattle.loan_table.proofs.access.judge_run.Given as goal
 
 abbrev pub invariant-loop-pa : goal.invariant-loop-pa

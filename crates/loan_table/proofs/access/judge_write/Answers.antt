@@ -1,6 +1,6 @@
 use Rattle.std.proofs.Common.{◌||◌, if◌then◌else◌, Some, None, sym, ap}
 use Rattle.busdma_machine.specs.declared.report.ReportName.TheVariants.{DeviceWriteUnlent}
-use Rattle.loan_table.specs.Access.{dev_write_refusal}
+use Rattle.busdma_rules.specs.Lending.Access.{dev_write_refusal}
 use Rattle.loan_table.proofs.Judgement.{judged-none}
 use Rattle.loan_table.proofs.access.judge_write.Goals as goal
 

@@ -2,7 +2,7 @@ use Rattle.std.proofs.Common.{ℕ, ◌+◌, ◌-◌, ◌∙◌, ap, cond, arith}
 use Rattle.busdma_machine.specs.Machine.Wire.{stretch}
 use Rattle.run_set.specs.Counts.{changed, count}
 use Rattle.run_set.specs.Edges.{in_run}
-use Rattle.loan_table.specs.Loans.{addresses_of}
+use Rattle.busdma_rules.specs.Lending.Loans.{addresses_of}
 use Rattle.loan_table.specs.Rows.{stands}
 use Rattle.loan_table.proofs.Places.{counted_on, held_on, stands_ahead, stands_here}
 use Rattle.loan_table.proofs.lent.count_range.Goals as goal

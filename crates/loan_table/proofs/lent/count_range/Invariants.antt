@@ -1,7 +1,7 @@
 use Rattle.std.proofs.Common.{◌≡◌, ℕ, ◌+◌, ◌-◌, ◌≤◌, if◌then◌else◌, false}
 use Rattle.busdma_machine.specs.Machine.Wire.{stretch}
 use Rattle.run_set.specs.Counts.{count}
-use Rattle.loan_table.specs.Loans.{addresses_of}
+use Rattle.busdma_rules.specs.Lending.Loans.{addresses_of}
 use Rattle.loan_table.specs.Rows.{stands}
 use Rattle.loan_table.proofs.lent.count_range.Given as goal
 

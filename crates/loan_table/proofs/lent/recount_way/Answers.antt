@@ -1,7 +1,7 @@
 use Rattle.std.proofs.Common.{◌≡◌, ◌∙◌, ap, cond, arith}
 use Rattle.busdma_machine.specs.Machine.Wire.{stretch}
 use Rattle.loan_table.specs.Kinds.{test_of}
-use Rattle.loan_table.specs.Loans.{addresses_of}
+use Rattle.busdma_rules.specs.Lending.Loans.{addresses_of}
 use Rattle.loan_table.specs.Rows.{stands}
 use Rattle.loan_table.proofs.Pieces.{alike_marked_of, alike_places_of}
 use Rattle.loan_table.proofs.lent.recount_way.Goals as goal

@@ -2,7 +2,7 @@ use Rattle.std.proofs.Common.{◌≡◌, ◌+◌, ◌-◌, ◌≤◌, false}
 use Rattle.std.specs.List.{filter}
 use Rattle.busdma_machine.specs.Machine.Wire.{stretch}
 use Rattle.loan_table.specs.Table.{AreIn, set_all}
-use Rattle.loan_table.specs.Loans.{addresses_of}
+use Rattle.busdma_rules.specs.Lending.Loans.{addresses_of}
 use Rattle.loan_table.specs.Kinds.{losing_test}
 use Rattle.loan_table.proofs.losing.lose.Given as goal
 

@@ -3,9 +3,9 @@ use Rattle.std.specs.List.{filter}
 use Rattle.busdma_machine.specs.Machine.Wire.{stretch}
 use Rattle.loan_table.specs.declared.losing.Losing.{Losing}
 use Rattle.loan_table.specs.declared.losing.Losing.TheVariants.{Call, Forgetting}
-use Rattle.loan_table.specs.declared.position.Position.{Position}
+use Rattle.busdma_rules.specs.declared.position.Position.{Position}
 use Rattle.loan_table.specs.Kinds.{losing_test}
-use Rattle.loan_table.specs.Loans.{addresses_of}
+use Rattle.busdma_rules.specs.Lending.Loans.{addresses_of}
 use Rattle.loan_table.specs.Rows.{lent_like}
 use Rattle.loan_table.specs.Table.{set_all}
 use Rattle.loan_table.proofs.Pieces.{filter-like, lent_as}

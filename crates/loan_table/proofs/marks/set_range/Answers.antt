@@ -1,6 +1,6 @@
 use Rattle.std.proofs.Common.{ap, sym, refl, ◌∙◌, arith}
 use Rattle.busdma_machine.specs.Runs.{run_of}
-use Rattle.loan_table.specs.Loans.{addresses_of}
+use Rattle.busdma_rules.specs.Lending.Loans.{addresses_of}
 use Rattle.loan_table.specs.Table.{set_all}
 use Rattle.loan_table.proofs.Addresses.{AreIn-set_all}
 use Rattle.loan_table.proofs.Pieces.{marked_front, nothing, there_back, there_front, whole}

@@ -1,5 +1,5 @@
 use Rattle.std.proofs.Common.{sym, ap, ◌∙◌}
-use Rattle.loan_table.specs.Loans.{Loan}
+use Rattle.busdma_rules.specs.Lending.Loans.{Loan}
 use Rattle.loan_table.specs.Trees.{opened}
 use Rattle.loan_table.proofs.Recounting.{held_range, counted_synced}
 use Rattle.loan_table.proofs.sync.count.Goals as goal

@@ -3,7 +3,7 @@ use Rattle.std.proofs.lemmas.Bool.{leb-true, leb-false}
 use Rattle.busdma_machine.specs.Judging.{judged}
 use Rattle.busdma_machine.specs.Machine.Wire.{stretch}
 use Rattle.loan_table.specs.Counted.{IsPlaced}
-use Rattle.loan_table.specs.Lending.{sync_refusal}
+use Rattle.busdma_rules.specs.Lending.Syncing.{sync_refusal}
 use Rattle.loan_table.proofs.Marking.{no_position}
 use Rattle.loan_table.proofs.Pieces.{first_refused, in_piece, lent_as, none_refused, shorter}
 use Rattle.loan_table.proofs.Recounting.{all_placed}

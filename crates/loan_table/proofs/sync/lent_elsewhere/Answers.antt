@@ -2,7 +2,7 @@ use Rattle.std.proofs.Common.{◌≡◌, nat_lt, sym, ap, ◌∙◌, arith}
 use Rattle.std.proofs.lemmas.Bool.{le-ltb}
 use Rattle.loan_table.specs.Counted.{places, lent_places}
 use Rattle.loan_table.specs.Kinds.{test_of}
-use Rattle.loan_table.specs.Loans.{Loan, loan_of}
+use Rattle.busdma_rules.specs.Lending.Loans.{Loan, loan_of}
 use Rattle.loan_table.proofs.Totals.{elsewhere_counted}
 use Rattle.loan_table.proofs.sync.lent_elsewhere.Goals as goal
 

@@ -1,5 +1,5 @@
 use Rattle.std.proofs.Common.{◌||◌, sym, ap, ◌∙◌}
-use Rattle.loan_table.specs.Loans.{lent_elsewhere, to_write}
+use Rattle.busdma_rules.specs.Lending.Loans.{lent_elsewhere, to_write}
 use Rattle.loan_table.proofs.Totals.{elsewhere_any}
 use Rattle.loan_table.proofs.sync.lent_in_any_way_elsewhere.Goals as goal
 

@@ -2,7 +2,7 @@ use Rattle.std.proofs.Common.{◌≡◌, ◌+◌, ◌-◌, min, length, map, ap,
 use Rattle.std.proofs.lemmas.List.{length-map}
 use Rattle.busdma_machine.specs.Runs.{run_of}
 use Rattle.phys_memory.specs.Memory.{wire}
-use Rattle.segment_build.proofs.Places.{run_length}
+use Rattle.busdma_rules.proofs.Segments.Places.{run_length}
 use Rattle.map_sync.proofs.Extents.{extent_written, nothing_written}
 use Rattle.map_sync.proofs.into_pages.copy_extent_in.Goals as goal
 

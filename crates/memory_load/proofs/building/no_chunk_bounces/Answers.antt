@@ -1,6 +1,6 @@
 use Rattle.std.proofs.Common.{length, [], ap, ◌∙◌}
 use Rattle.busdma_machine.specs.Tags.TagFlags.{keep_pg_offset}
-use Rattle.segment_build.specs.Chunks.{bounced_of}
+use Rattle.busdma_rules.specs.Segments.Chunks.{bounced_of}
 use Rattle.memory_load.specs.MemoryLoad.{run_chunks, run_entries}
 use Rattle.memory_load.proofs.Unbounced.{none_bounced, stay_placed, unbounced}
 use Rattle.memory_load.proofs.building.no_chunk_bounces.Goals as goal

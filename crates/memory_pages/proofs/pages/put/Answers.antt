@@ -3,7 +3,7 @@ use Rattle.std.proofs.Common.{Bool, ◌-◌, rules}
 use Rattle.std.specs.Vec.Iter.{into_iter_items}
 use Rattle.busdma_machine.specs.Machine.Page.{FrameBytes}
 use Rattle.busdma_machine.specs.Machine.Wire.{with_bytes_of}
-use Rattle.dmamem.specs.Memory.{virtual_of}
+use Rattle.busdma_rules.specs.Memory.Memories.{virtual_of}
 use Rattle.phys_memory.specs.Memory.{Memory, wire, with_page}
 use Rattle.memory_pages.specs.Bytes.{all_filled, filled}
 use Rattle.memory_pages.proofs.Coming.{IsPart, IsWhole, all_put, next_fresh, next_put, no_row, others_stay}

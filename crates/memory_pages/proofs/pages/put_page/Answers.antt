@@ -1,5 +1,5 @@
 use Rattle.std.proofs.Common.{◌*◌, cond, ap, ◌∙◌}
-use Rattle.dmamem.specs.Memory.{virtual_of}
+use Rattle.busdma_rules.specs.Memory.Memories.{virtual_of}
 use Rattle.phys_memory.specs.Memory.{added, with_page}
 use Rattle.memory_pages.specs.Bytes.{filled}
 use Rattle.memory_pages.proofs.Coming.{no_page}

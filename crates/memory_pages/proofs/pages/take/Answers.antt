@@ -4,7 +4,7 @@ use Rattle.std.specs.Option.{IsSome}
 use Rattle.busdma_machine.specs.Bounce.MemoryRuns.{frames_from}
 use Rattle.busdma_machine.specs.Machine.Page.{FrameBytes}
 use Rattle.busdma_machine.specs.Machine.PageList.{RoomyPages, page_addresses}
-use Rattle.dmamem.specs.Memory.{virtual_of}
+use Rattle.busdma_rules.specs.Memory.Memories.{virtual_of}
 use Rattle.phys_memory.specs.Memory.{page_at, without_page}
 use Rattle.memory_pages.specs.Bytes.{page_of, pages_of}
 use Rattle.memory_pages.specs.Placed.{Goes}

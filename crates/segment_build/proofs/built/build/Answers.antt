@@ -3,7 +3,7 @@ use Rattle.std.specs.Prelude.{Ok, false}
 use Rattle.busdma_machine.specs.declared.machine.address.Segment.{Segment}
 use Rattle.busdma_machine.specs.declared.tags.tag.TagLimits.{TagLimits}
 use Rattle.segment_build.specs.Joining.{added}
-use Rattle.segment_build.specs.Built.{IsFew, AreTooMany}
+use Rattle.busdma_rules.specs.Segments.Built.{IsFew, AreTooMany}
 use Rattle.segment_build.proofs.Cuts.{are_few, are_many}
 use Rattle.segment_build.proofs.built.build.Goals as goal
 

@@ -1,7 +1,7 @@
 use Rattle.std.proofs.Common.{◌≡◌, ◌++◌, drop}
 use Rattle.std.specs.List.{AllByRecursion}
-use Rattle.segment_build.specs.Pieces.{chunk_pieces}
-use Rattle.segment_build.specs.Trace.{IsPlaced}
+use Rattle.busdma_rules.specs.Segments.Pieces.{chunk_pieces}
+use Rattle.busdma_rules.specs.Segments.Trace.{IsPlaced}
 use Rattle.segment_build.proofs.built.chunk_pieces.Given as goal
 
 abbrev pub invariant-loop-chunk : goal.invariant-loop-chunk

@@ -1,7 +1,7 @@
 use Rattle.std.proofs.Common.{◌+◌, ◌-◌, [], ◌∷◌, ◌++◌, ap, sym, ◌∙◌, append_assoc, arith}
 use Rattle.busdma_machine.specs.Runs.{run_of}
-use Rattle.segment_build.specs.Pieces.{pieces_of}
-use Rattle.segment_build.proofs.Places.{piece_at, pieces_step}
+use Rattle.busdma_rules.specs.Segments.Pieces.{pieces_of}
+use Rattle.busdma_rules.proofs.Segments.Places.{piece_at, pieces_step}
 use Rattle.segment_build.proofs.built.push_pieces.Goals as goal
 
 pub loop-left-preserved : goal.loop-left-preserved

@@ -8,7 +8,7 @@ use Rattle.busdma_machine.specs.declared.machine.chunk.Chunk.{Chunk}
 use Rattle.busdma_machine.specs.declared.machine.chunk.Entry.{Entry}
 use Rattle.busdma_machine.specs.Machine.Entry.{IsEntry, entries_bytes, entry_parts, parts_of}
 use Rattle.busdma_machine.specs.Runs.{byte_count}
-use Rattle.segment_build.specs.Chunks.{chunks_of}
+use Rattle.busdma_rules.specs.Segments.Chunks.{chunks_of}
 use Rattle.segment_build.specs.Cutting.{after, closed, uncut}
 use Rattle.segment_build.proofs.Chunking.{after_append, closed_append, entries_cut, with_last}
 use Rattle.segment_build.proofs.chunk.chunks.Goals as goal

@@ -1,5 +1,5 @@
 use Rattle.std.proofs.Common.{◌≡◌, ◌+◌, ◌≤◌, drop}
-use Rattle.segment_build.specs.Chunks.{need_of}
+use Rattle.busdma_rules.specs.Segments.Chunks.{need_of}
 use Rattle.segment_build.proofs.chunk.need.Given as goal
 
 abbrev pub invariant-loop-chunk : goal.invariant-loop-chunk

@@ -1,6 +1,6 @@
-use Rattle.segment_build.proofs.Covering.{chunks_at, chunks_cover}
-use Rattle.segment_build.proofs.Sound.{chunks_sound, placed_are}
-use Rattle.segment_build.specs.Chunks.{chunks_of}
+use Rattle.busdma_rules.proofs.Segments.Covering.{chunks_at, chunks_cover}
+use Rattle.busdma_rules.proofs.Segments.Sound.{chunks_sound, placed_are}
+use Rattle.busdma_rules.specs.Segments.Chunks.{chunks_of}
 use Rattle.segment_build.proofs.laws.chunks_cover.Goals as goal
 
 pub returns : goal.returns

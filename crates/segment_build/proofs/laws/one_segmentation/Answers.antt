@@ -1,8 +1,9 @@
 use Rattle.std.proofs.Common.{◌∙◌}
-use Rattle.segment_build.specs.Pieces.{chunk_pieces}
-use Rattle.segment_build.specs.Segmentation.{segmentation}
-use Rattle.segment_build.proofs.Bytes.{pieces_bytes, segmentation_bytes}
-use Rattle.segment_build.proofs.Cuts.{cut_is, one_segmentation}
+use Rattle.busdma_rules.specs.Segments.Pieces.{chunk_pieces}
+use Rattle.busdma_rules.specs.Segments.Segmentation.{segmentation}
+use Rattle.busdma_rules.proofs.Segments.Bytes.{pieces_bytes, segmentation_bytes}
+use Rattle.busdma_rules.proofs.Segments.Cuts.{cut_is}
+use Rattle.segment_build.proofs.Cuts.{one_segmentation}
 use Rattle.segment_build.proofs.laws.one_segmentation.Goals as goal
 
 pub returns : goal.returns

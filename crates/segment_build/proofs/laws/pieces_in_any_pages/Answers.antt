@@ -1,6 +1,6 @@
 use Rattle.segment_build.proofs.Frames.{as_many}
-use Rattle.segment_build.proofs.Sound.{chunks_sound}
-use Rattle.segment_build.specs.Chunks.{chunks_of}
+use Rattle.busdma_rules.proofs.Segments.Sound.{chunks_sound}
+use Rattle.busdma_rules.specs.Segments.Chunks.{chunks_of}
 use Rattle.segment_build.proofs.laws.pieces_in_any_pages.Goals as goal
 
 pub returns : goal.returns

@@ -1,10 +1,10 @@
 use Rattle.std.proofs.Common.{◌∙◌}
-use Rattle.segment_build.specs.Building.{placed_pieces, tag_placed}
-use Rattle.segment_build.specs.Chunks.{chunks_of}
-use Rattle.segment_build.specs.Segmentation.{segmentation}
-use Rattle.segment_build.proofs.Bytes.{all_rise, pieces_bytes, segmentation_bytes}
-use Rattle.segment_build.proofs.Cuts.{cut_is}
-use Rattle.segment_build.proofs.Sound.{chunks_sound, placed_are}
+use Rattle.busdma_rules.specs.Segments.Building.{placed_pieces, tag_placed}
+use Rattle.busdma_rules.specs.Segments.Chunks.{chunks_of}
+use Rattle.busdma_rules.specs.Segments.Segmentation.{segmentation}
+use Rattle.busdma_rules.proofs.Segments.Bytes.{all_rise, pieces_bytes, segmentation_bytes}
+use Rattle.busdma_rules.proofs.Segments.Cuts.{cut_is}
+use Rattle.busdma_rules.proofs.Segments.Sound.{chunks_sound, placed_are}
 use Rattle.segment_build.proofs.laws.segments_are_the_trace.Goals as goal
 
 pub returns : goal.returns

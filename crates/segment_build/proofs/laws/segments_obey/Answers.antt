@@ -1,4 +1,4 @@
-use Rattle.segment_build.proofs.Obeys.{obeys}
+use Rattle.busdma_rules.proofs.Segments.Obeys.{obeys}
 use Rattle.segment_build.proofs.laws.segments_obey.Goals as goal
 
 pub returns : goal.returns

@@ -5,13 +5,13 @@ use Rattle.busdma_machine.specs.declared.machine.chunk.Chunk.{Chunk}
 use Rattle.busdma_machine.specs.declared.tags.tag.TagLimits.{TagLimits}
 use Rattle.busdma_machine.specs.Machine.Entry.{IsStream, entries_of}
 use Rattle.segment_build.specs.declared.cutter.Cutter.{Cutter}
-use Rattle.segment_build.specs.Building.{IsPlaceable, placed_pieces}
-use Rattle.segment_build.specs.Chunks.{chunks_of, need_of}
+use Rattle.busdma_rules.specs.Segments.Building.{IsPlaceable, placed_pieces}
+use Rattle.busdma_rules.specs.Segments.Chunks.{chunks_of, need_of}
 use Rattle.segment_build.specs.Cutting.{after, after_part, closed, closed_part, uncut}
-use Rattle.segment_build.proofs.Counting.{need_append}
+use Rattle.busdma_rules.proofs.Segments.Counting.{need_append}
 use Rattle.segment_build.proofs.Frames.{as_many}
 use Rattle.segment_build.proofs.Iterating.{holds_so_far, holds_seen, drained}
-use Rattle.segment_build.proofs.Sound.{chunks_sound}
+use Rattle.busdma_rules.proofs.Segments.Sound.{chunks_sound}
 use Rattle.segment_build.proofs.PartByPart.{holds, holds_at, pieces_few, pieces_more, unmapped_last}
 use Rattle.segment_build.proofs.measured.measure.Goals as goal
 

@@ -1,7 +1,7 @@
 use Rattle.std.proofs.Common.{◌≡◌, [], length}
 use Rattle.busdma_machine.specs.Machine.Entry.{unmapped_of}
-use Rattle.segment_build.specs.Building.{placed_pieces}
-use Rattle.segment_build.specs.Chunks.{need_of}
+use Rattle.busdma_rules.specs.Segments.Building.{placed_pieces}
+use Rattle.busdma_rules.specs.Segments.Chunks.{need_of}
 use Rattle.segment_build.specs.Cutting.{after, closed, uncut}
 use Rattle.segment_build.proofs.measured.measure.Given as goal
 

@@ -1,10 +1,10 @@
 use Rattle.std.proofs.Common.{◌≡◌, ◌+◌, ◌-◌, length, true, false, Ok, ap, sym, ◌∙◌, arith}
 use Rattle.busdma_machine.specs.Runs.{run_of}
-use Rattle.segment_build.specs.Pieces.{pieces_of}
+use Rattle.busdma_rules.specs.Segments.Pieces.{pieces_of}
 use Rattle.segment_build.specs.Joining.{added, added_all}
 use Rattle.segment_build.proofs.Cuts.{added_all_longer}
 use Rattle.segment_build.proofs.Joins.{not_refused}
-use Rattle.segment_build.proofs.Places.{piece_at, pieces_step}
+use Rattle.busdma_rules.proofs.Segments.Places.{piece_at, pieces_step}
 use Rattle.segment_build.proofs.pieces.add_run.Goals as goal
 
 pub returns-in_err-add_piece-clause-within : goal.returns-in_err-add_piece-clause-within

@@ -1,7 +1,7 @@
 use Rattle.std.proofs.Common.{◌≡◌, ◌+◌, ◌-◌, ◌≤◌, length}
 use Rattle.busdma_machine.specs.Runs.{run_of}
 use Rattle.segment_build.specs.Joining.{added_all}
-use Rattle.segment_build.specs.Pieces.{pieces_of}
+use Rattle.busdma_rules.specs.Segments.Pieces.{pieces_of}
 use Rattle.segment_build.proofs.pieces.add_run.Given as goal
 
 abbrev pub invariant-loop-left : goal.invariant-loop-left

@@ -1,7 +1,7 @@
 use Rattle.std.proofs.Common.{◌≡◌, ◌+◌, ◌-◌, length, ap, arith}
 use Rattle.busdma_machine.specs.Runs.{run_of}
-use Rattle.segment_build.specs.Pieces.{pieces_of}
-use Rattle.segment_build.proofs.Places.{pieces_step}
+use Rattle.busdma_rules.specs.Segments.Pieces.{pieces_of}
+use Rattle.busdma_rules.proofs.Segments.Places.{pieces_step}
 use Rattle.segment_build.proofs.pieces.piece_count.Goals as goal
 
 pub loop-left-preserved : goal.loop-left-preserved

@@ -1,8 +1,8 @@
 use Rattle.std.proofs.Common.{◌++◌, Ok, length, ap, sym, ◌∙◌, subst, arith}
 use Rattle.busdma_machine.specs.declared.tags.tag.TagLimits.{TagLimits}
 use Rattle.busdma_machine.specs.Runs.{run_of}
-use Rattle.segment_build.specs.Built.{AreTooMany, IsFew}
-use Rattle.segment_build.specs.Pieces.{pieces_of}
+use Rattle.busdma_rules.specs.Segments.Built.{AreTooMany, IsFew}
+use Rattle.busdma_rules.specs.Segments.Pieces.{pieces_of}
 use Rattle.segment_build.proofs.MorePieces.{added_all_shorter, few_with, many_with}
 use Rattle.segment_build.proofs.runs.add_pieces.Goals as goal
 

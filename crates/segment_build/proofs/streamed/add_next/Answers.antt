@@ -2,9 +2,10 @@ use Rattle.std.proofs.Common.{◌≡◌, [], ◌∷◌, ◌++◌, Bool, length, 
 use Rattle.std.specs.Prelude.{Option, IfOk}
 use Rattle.std.specs.Option.{option_to_list}
 use Rattle.busdma_machine.specs.declared.machine.chunk.Chunk.{Chunk}
-use Rattle.segment_build.specs.Building.{IsSoFar, placed_pieces}
-use Rattle.segment_build.specs.Chunks.{need_of}
-use Rattle.segment_build.proofs.Counting.{need_append, need_first}
+use Rattle.segment_build.specs.Building.{IsSoFar}
+use Rattle.busdma_rules.specs.Segments.Building.{placed_pieces}
+use Rattle.busdma_rules.specs.Segments.Chunks.{need_of}
+use Rattle.busdma_rules.proofs.Segments.Counting.{need_append, need_first}
 use Rattle.segment_build.proofs.SoFar.{added_so_far, segments_fit, still_many, used_pages}
 use Rattle.segment_build.proofs.streamed.add_next.Goals as goal
 

@@ -5,8 +5,9 @@ use Rattle.busdma_machine.specs.declared.machine.chunk.Chunk.{Chunk}
 use Rattle.busdma_machine.specs.declared.tags.tag.TagLimits.{TagLimits}
 use Rattle.busdma_machine.specs.Machine.Entry.{IsStream}
 use Rattle.segment_build.specs.declared.cutter.Cutter.{Cutter}
-use Rattle.segment_build.specs.Building.{IsSoFar, IsPlaceable, placed_pieces}
-use Rattle.segment_build.specs.Chunks.{need_of}
+use Rattle.segment_build.specs.Building.{IsSoFar}
+use Rattle.busdma_rules.specs.Segments.Building.{IsPlaceable, placed_pieces}
+use Rattle.busdma_rules.specs.Segments.Chunks.{need_of}
 use Rattle.segment_build.specs.Cutting.{after_part, closed, closed_part, uncut}
 use Rattle.segment_build.specs.Streams.{IsBuiltFrom, OverflowsFrom, stream_chunks}
 use Rattle.segment_build.proofs.Fronts.{front_need, front_pieces}

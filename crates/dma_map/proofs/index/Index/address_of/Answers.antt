@@ -2,7 +2,7 @@ use Rattle.std.proofs.Common.{◌≡◌, ◌+◌, ◌-◌, ◌<◌, ◌∙◌, [
 use Rattle.std.proofs.lemmas.List.{take_min, drop_min, drop_more}
 use Rattle.std.specs.List.{AllByRecursion}
 use Rattle.ring_device.specs.Ends.{EndsLow}
-use Rattle.ring_device.specs.Ranges.{address_of, byte_count}
+use Rattle.busdma_rules.specs.Rings.Ranges.{address_of, byte_count}
 use Rattle.dma_map.specs.declared.part.Part.{Part}
 use Rattle.dma_map.specs.Parts.{ArePartsOf}
 use Rattle.dma_map.proofs.Parts.{address-behind-part, address-in-part, bytes-cut, low-behind}

@@ -1,7 +1,7 @@
 use Rattle.std.proofs.Common.{◌≡◌, ◌^◌, ◌<◌, [], drop}
 use Rattle.std.specs.List.{AllByRecursion}
 use Rattle.ring_device.specs.Ends.{EndsLow}
-use Rattle.ring_device.specs.Ranges.{address_of, byte_count}
+use Rattle.busdma_rules.specs.Rings.Ranges.{address_of, byte_count}
 use Rattle.dma_map.specs.Parts.{ArePartsOf}
 use Rattle.dma_map.proofs.index.Index.address_of.Given as goal
 

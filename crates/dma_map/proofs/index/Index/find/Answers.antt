@@ -1,7 +1,7 @@
 use Rattle.std.proofs.Common.{◌≡◌, ◌+◌, ◌<◌, ◌≤◌, ◌∙◌, [], length, take, drop, get_or, None, sym, subst, ap, arith}
 use Rattle.std.proofs.lemmas.List.{take_min, drop_min, drop_more, drop_all}
 use Rattle.std.specs.Option.{option_map}
-use Rattle.ring_device.specs.Ranges.{byte_count, place_of}
+use Rattle.busdma_rules.specs.Rings.Ranges.{byte_count, place_of}
 use Rattle.dma_map.specs.declared.part.Part.{Part}
 use Rattle.dma_map.specs.Parts.{ArePartsOf}
 use Rattle.dma_map.proofs.Parts.{behind-part, bytes-cut, found-in-part, part-bytes, place-within}

@@ -1,6 +1,6 @@
 use Rattle.std.proofs.Common.{◌≡◌, ◌+◌, [], drop}
 use Rattle.std.specs.Option.{option_map}
-use Rattle.ring_device.specs.Ranges.{byte_count, place_of}
+use Rattle.busdma_rules.specs.Rings.Ranges.{byte_count, place_of}
 use Rattle.dma_map.specs.Parts.{ArePartsOf}
 use Rattle.dma_map.proofs.index.Index.find.Given as goal
 

@@ -1,7 +1,7 @@
 use Rattle.std.proofs.Common.{◌≡◌, length, Some, refl, ap, sym, subst, ◌∙◌, arith}
 use Rattle.std.specs.List.{insert}
-use Rattle.iommu_map.specs.Space.{AreRuns, DeviceRun, Space, first_free, gap, put_run}
-use Rattle.iommu_map.proofs.Runs.{free-is, free-none, gap-low, runs-put}
+use Rattle.busdma_rules.specs.Iommu.Space.{AreRuns, DeviceRun, Space, first_free, gap, put_run}
+use Rattle.busdma_rules.proofs.Iommu.Runs.{free-is, free-none, gap-low, runs-put}
 use Rattle.iommu_map.proofs.iommu.Iommu.enter.Goals as goal
 
 pub returns-then-self-gap-clause-first : goal.returns-then-self-gap-clause-first

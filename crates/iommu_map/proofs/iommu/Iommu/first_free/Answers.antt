@@ -1,6 +1,6 @@
 use Rattle.std.proofs.Common.{◌≡◌, Some, ap, sym, ◌∙◌, arith}
-use Rattle.iommu_map.specs.Space.{Space, first_free, gap}
-use Rattle.iommu_map.proofs.Runs.{free-is, free-none}
+use Rattle.busdma_rules.specs.Iommu.Space.{Space, first_free, gap}
+use Rattle.busdma_rules.proofs.Iommu.Runs.{free-is, free-none}
 use Rattle.iommu_map.proofs.iommu.Iommu.first_free.Goals as goal
 
 pub returns-then-end-self-clause-is : goal.returns-then-end-self-clause-is

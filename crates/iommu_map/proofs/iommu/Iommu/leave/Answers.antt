@@ -1,7 +1,9 @@
 use Rattle.std.proofs.Common.{◌≡◌, List, not, ap, sym, subst, ◌∙◌, arith}
 use Rattle.std.specs.List.{filter, remove}
-use Rattle.iommu_map.specs.Space.{AreRuns, DeviceRun, Space, begins_at, is_live, left, place_of}
-use Rattle.iommu_map.proofs.Runs.{leaves, runs-left}
+use Rattle.busdma_rules.specs.Iommu.Space.{AreRuns, DeviceRun, Space, begins_at, is_live, left}
+use Rattle.iommu_map.specs.Space.{place_of}
+use Rattle.iommu_map.proofs.Runs.{leaves}
+use Rattle.busdma_rules.proofs.Iommu.Runs.{runs-left}
 use Rattle.iommu_map.proofs.iommu.Iommu.leave.Goals as goal
 
 pub remove-requires : goal.remove-requires

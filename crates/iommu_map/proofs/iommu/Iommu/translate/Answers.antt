@@ -1,7 +1,9 @@
 use Rattle.std.proofs.Common.{◌+◌, ◌*◌, ◌/◌, ◌%◌, ◌-◌, None, option_map, slice_get, length, cond, ap, sym, ◌∙◌, arith}
 use Rattle.std.proofs.lemmas.Bool.{le-leb, lt-leb}
-use Rattle.iommu_map.specs.Space.{Space, frame_at, place_of}
-use Rattle.iommu_map.proofs.Runs.{ends-past, found, frame-found, get-at, get-past}
+use Rattle.busdma_rules.specs.Iommu.Space.{Space, frame_at}
+use Rattle.iommu_map.specs.Space.{place_of}
+use Rattle.iommu_map.proofs.Runs.{ends-past, found, frame-found, get-past}
+use Rattle.busdma_rules.proofs.Iommu.Runs.{get-at}
 use Rattle.iommu_map.proofs.iommu.Iommu.translate.Goals as goal
 
 pub returns-then-at-len-clause-is : goal.returns-then-at-len-clause-is

@@ -3,7 +3,7 @@ use Rattle.std.specs.List.{list_any}
 use Rattle.std.specs.Ordering.{nat_cmp}
 use Rattle.std.specs.FinMap.{get, get-empty}
 use Rattle.lane_tables.specs.declared.queued.QueuedPage.{QueuedPage}
-use Rattle.lane_tables.specs.Queues.{script_items}
+use Rattle.busdma_base.specs.Scenarios.Queues.{script_items}
 use Rattle.ideal_lane.specs.Ahead.{awaited_items, maps_items}
 use Rattle.ideal_lane.specs.State.{LaneMap}
 use Rattle.ideal_lane.specs.Opening.{opening_lane}

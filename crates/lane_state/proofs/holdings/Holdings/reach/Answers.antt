@@ -4,7 +4,7 @@ use Rattle.loan_table.specs.Table.{AreIn}
 use Rattle.phys_memory.specs.declared.walk.Walked.{Walked}
 use Rattle.phys_memory.specs.Frames.{Lie}
 use Rattle.phys_memory.specs.Memory.{physical}
-use Rattle.phys_memory.specs.Translation.{physical_or_0}
+use Rattle.busdma_rules.specs.Memory.Translation.{physical_or_0}
 use Rattle.phys_memory.specs.Walk.{IfParts, verdict}
 use Rattle.lane_state.proofs.Nowhere.{nowhere-bytes, nowhere-len, nowhere-parts, nowhere-verdict}
 use Rattle.lane_state.proofs.Reaching.{reach_inside, reach_len, reach_total}

@@ -1,7 +1,7 @@
 use Rattle.std.proofs.Common.{false, length, ap, sym, ◌∙◌, subst, arith}
-use Rattle.phys_memory.specs.Extents.{reached}
+use Rattle.busdma_rules.specs.Memory.Extents.{reached}
 use Rattle.phys_memory.specs.Walk.{run_stream}
-use Rattle.load_bio.specs.Frames.{AreFrames, in_frames}
+use Rattle.busdma_rules.specs.Memory.BioFrames.{AreFrames, in_frames}
 use Rattle.load_bio.proofs.InFrames.{frames_stream}
 use Rattle.load_bio.proofs.frames.FramePartsIterator.next.Goals as goal
 

@@ -3,7 +3,7 @@ use Rattle.std.proofs.lemmas.List.{take_all}
 use Rattle.busdma_machine.specs.Machine.Wire.{stretch}
 use Rattle.loan_table.specs.Counted.{places}
 use Rattle.loan_table.specs.Kinds.{test_of}
-use Rattle.loan_table.specs.Lending.{marked}
+use Rattle.busdma_rules.specs.Lending.Syncing.{marked}
 use Rattle.loan_table.proofs.Recounting.{all_back}
 use Rattle.loan_table.proofs.lent.LentCounts.forget.Goals as goal
 

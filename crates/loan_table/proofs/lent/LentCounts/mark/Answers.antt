@@ -1,7 +1,7 @@
 use Rattle.std.proofs.Common.{map, ap, arith}
 use Rattle.loan_table.specs.Counted.{places}
 use Rattle.loan_table.specs.Kinds.{test_of}
-use Rattle.loan_table.specs.Lending.{marked}
+use Rattle.busdma_rules.specs.Lending.Syncing.{marked}
 use Rattle.loan_table.proofs.Pieces.{nothing, span_marked, span_places, whole}
 use Rattle.loan_table.proofs.lent.LentCounts.mark.Goals as goal
 

@@ -4,7 +4,7 @@ use Rattle.run_set.specs.Counts.{count}
 use Rattle.loan_table.specs.declared.row.Way.{Way}
 use Rattle.loan_table.specs.Counted.{counts_of, places}
 use Rattle.loan_table.specs.Kinds.{test_of}
-use Rattle.loan_table.specs.Lending.{marked}
+use Rattle.busdma_rules.specs.Lending.Syncing.{marked}
 use Rattle.loan_table.proofs.lent.LentCounts.mark.Given as goal
 
 abbrev pub invariant-loop-at : goal.invariant-loop-at

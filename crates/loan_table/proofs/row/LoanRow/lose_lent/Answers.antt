@@ -1,6 +1,6 @@
 use Rattle.std.proofs.Common.{◌≡◌, [], false, ap, sym, ◌∙◌}
 use Rattle.std.specs.List.{filter}
-use Rattle.loan_table.specs.Loans.{addresses_of, to_write}
+use Rattle.busdma_rules.specs.Lending.Loans.{addresses_of, to_write}
 use Rattle.loan_table.specs.Table.{set_all}
 use Rattle.loan_table.proofs.PlacedBytes.{none_to_write}
 use Rattle.loan_table.proofs.row.LoanRow.lose_lent.Goals as goal

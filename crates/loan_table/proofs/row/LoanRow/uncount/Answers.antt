@@ -2,7 +2,7 @@ use Rattle.std.proofs.Common.{◌≡◌, ◌+◌, ap, subst, sym}
 use Rattle.run_set.specs.Counts.{count}
 use Rattle.loan_table.specs.Counted.{counts_of, places}
 use Rattle.loan_table.specs.Kinds.{test_of}
-use Rattle.loan_table.specs.Loans.{addresses_of}
+use Rattle.busdma_rules.specs.Lending.Loans.{addresses_of}
 use Rattle.loan_table.proofs.Recounting.{none_lent}
 use Rattle.loan_table.proofs.row.LoanRow.uncount.Goals as goal
 

@@ -1,7 +1,7 @@
 use Rattle.std.proofs.Common.{ap, sym, subst, ◌∙◌, arith}
 use Rattle.busdma_machine.specs.Runs.{run_of}
 use Rattle.loan_table.specs.Kept.{AreLow}
-use Rattle.loan_table.specs.Loans.{loan_of, addresses_of}
+use Rattle.busdma_rules.specs.Lending.Loans.{loan_of, addresses_of}
 use Rattle.loan_table.specs.Table.{AreIn, set_all}
 use Rattle.loan_table.specs.Trees.{closed, opened}
 use Rattle.loan_table.proofs.Addresses.{AreIn-set_all, AreLow-add}

@@ -1,5 +1,5 @@
 use Rattle.std.proofs.Common.{◌≤◌, length, arith}
-use Rattle.loan_table.specs.Loans.{loan_of}
+use Rattle.busdma_rules.specs.Lending.Loans.{loan_of}
 use Rattle.loan_table.specs.Trees.{opened}
 use Rattle.loan_table.proofs.Rooms.{count_bound}
 use Rattle.loan_table.proofs.table.LoanTable.buffers_are_short.Goals as goal

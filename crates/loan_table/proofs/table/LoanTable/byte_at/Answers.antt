@@ -1,7 +1,7 @@
 use Rattle.std.proofs.Common.{ap, sym, ◌∙◌, subst, slice_index, length, ◌<◌, IsSome}
 use Rattle.std.proofs.lemmas.List.{length-map}
 use Rattle.std.specs.FinMap.{get}
-use Rattle.loan_table.specs.Loans.{Loan, loan_of, addresses_of}
+use Rattle.busdma_rules.specs.Lending.Loans.{Loan, loan_of, addresses_of}
 use Rattle.loan_table.specs.Trees.{opened}
 use Rattle.loan_table.proofs.Addresses.{AreIn-at}
 use Rattle.loan_table.proofs.table.LoanTable.byte_at.Goals as goal

@@ -1,7 +1,7 @@
 use Rattle.std.proofs.Common.{◌≡◌, ◌+◌, ◌∙◌, false, refl, None, arith, sym, subst}
 use Rattle.loan_table.specs.Counted.{IsCounted, LendsNothing}
 use Rattle.loan_table.specs.Kept.{position_count}
-use Rattle.loan_table.specs.Loans.{addresses_of}
+use Rattle.busdma_rules.specs.Lending.Loans.{addresses_of}
 use Rattle.loan_table.specs.Table.{AreIn}
 use Rattle.loan_table.specs.Trees.{closed}
 use Rattle.loan_table.proofs.Marking.{take_loan}

@@ -2,7 +2,7 @@ use Rattle.std.proofs.Common.{◌<◌, ◌≤◌, ◌^◌, length, slice_index, 
 use Rattle.std.proofs.lemmas.List.{length-map}
 use Rattle.std.specs.FinMap.{get}
 use Rattle.busdma_machine.specs.Machine.Wire.{stretch}
-use Rattle.loan_table.specs.Loans.{Loan, addresses_of, loan_of}
+use Rattle.busdma_rules.specs.Lending.Loans.{Loan, addresses_of, loan_of}
 use Rattle.loan_table.specs.Trees.{opened}
 use Rattle.loan_table.proofs.Addresses.{AreIn-at}
 use Rattle.loan_table.proofs.Pieces.{begins_with}

@@ -3,7 +3,7 @@ use Rattle.loan_table.specs.Counted.{IsCounted, IsRecounted, Holds}
 use Rattle.loan_table.proofs.Recounting.{counted_without, held_loan}
 use Rattle.std.specs.List.{filter}
 use Rattle.loan_table.specs.Kept.{AreLow, position_count}
-use Rattle.loan_table.specs.Loans.{Loan, to_write, addresses_of}
+use Rattle.busdma_rules.specs.Lending.Loans.{Loan, to_write, addresses_of}
 use Rattle.loan_table.specs.Table.{AreIn, set_all}
 use Rattle.loan_table.specs.Trees.{loans_in}
 use Rattle.loan_table.proofs.Addresses.{AreIn-set_all, AreLow-set_all}

@@ -1,7 +1,7 @@
 use Rattle.std.proofs.Common.{◌+◌, ◌≤◌, length, sym, subst, arith}
 use Rattle.loan_table.specs.Kept.{AreLow}
 use Rattle.busdma_machine.specs.Machine.Wire.{stretch}
-use Rattle.loan_table.specs.Loans.{loan_of, addresses_of}
+use Rattle.busdma_rules.specs.Lending.Loans.{loan_of, addresses_of}
 use Rattle.loan_table.specs.Trees.{opened}
 use Rattle.loan_table.proofs.Addresses.{AreIn-set_all, AreLow-set_all}
 use Rattle.loan_table.proofs.Marking.{AreIn-range}

@@ -2,7 +2,7 @@ use Rattle.std.proofs.Common.{◌∙◌, sym, subst, refl, Some}
 use Rattle.loan_table.specs.Counted.{IsCounted, LendsNothing}
 use Rattle.loan_table.proofs.Recounting.{counted_with}
 use Rattle.loan_table.proofs.Trees.{not_open}
-use Rattle.loan_table.specs.Loans.{loan_of, addresses_of}
+use Rattle.busdma_rules.specs.Lending.Loans.{loan_of, addresses_of}
 use Rattle.loan_table.specs.Table.{AreIn}
 use Rattle.loan_table.specs.Trees.{closed, opened}
 use Rattle.loan_table.proofs.Marking.{put_loan, take_loan}

@@ -8,7 +8,7 @@ use Rattle.busdma_machine.specs.Runs.{addresses}
 use Rattle.loan_table.specs.declared.slot.Slot.{Slot}
 use Rattle.loan_table.specs.Kept.{AreLow, position_count}
 use Rattle.loan_table.proofs.Keeping.{kept_more}
-use Rattle.loan_table.specs.Loans.{Loan, addresses_of, no_loan}
+use Rattle.busdma_rules.specs.Lending.Loans.{Loan, addresses_of, no_loan}
 use Rattle.loan_table.specs.Table.{AreIn}
 use Rattle.loan_table.specs.Trees.{closed, opened, with_value, loan_if, loans_in}
 use Rattle.loan_table.proofs.Addresses.{AllEnd}

@@ -8,8 +8,9 @@ use Rattle.busdma_machine.specs.Runs.{IsExtent, addresses, run_of}
 use Rattle.busdma_machine.specs.declared.machine.chunk.Part.{Part}
 use Rattle.phys_memory.specs.declared.walk.Walked.{Walked}
 use Rattle.phys_memory.specs.Memory.{physical}
-use Rattle.phys_memory.specs.Extents.{LiesIn, reached}
-use Rattle.phys_memory.specs.Translation.{physical_or_0, unreached}
+use Rattle.phys_memory.specs.Extents.{LiesIn}
+use Rattle.busdma_rules.specs.Memory.Extents.{reached}
+use Rattle.busdma_rules.specs.Memory.Translation.{physical_or_0, unreached}
 use Rattle.phys_memory.specs.Walk.{IfParts, flat, verdict, walk_of, walked}
 use Rattle.phys_memory.proofs.Reached.{IsHeld, memory_paged}
 use Rattle.phys_memory.proofs.Walks.{walk_is, verdict_is, walk_addresses, walk_extents, walk_has, walk_joined}

@@ -2,8 +2,8 @@ use Rattle.std.proofs.Common.{sym, ◌∙◌, subst, ap}
 use Rattle.std.specs.List.{AllByRecursion}
 use Rattle.busdma_machine.specs.declared.tags.tag.TagLimits.{TagLimits}
 use Rattle.busdma_machine.specs.Tags.TagFlags.{keep_pg_offset}
-use Rattle.segment_build.specs.Trace.{IsPlaced, placed}
-use Rattle.segment_build.proofs.Sound.{placed_are}
+use Rattle.busdma_rules.specs.Segments.Trace.{IsPlaced, placed}
+use Rattle.busdma_rules.proofs.Segments.Sound.{placed_are}
 use Rattle.rules_tests.proofs.tests.lists.of_chunks.Goals as goal
 
 pub build-requires : goal.build-requires

@@ -6,13 +6,13 @@ use Rattle.busdma_machine.specs.Machine.Entry.{IsEntry, entries_addresses, entri
 use Rattle.busdma_machine.specs.Runs.{run_of}
 use Rattle.phys_memory.specs.declared.entries.Entries.{Entries}
 use Rattle.phys_memory.specs.Memory.{physical}
-use Rattle.phys_memory.specs.Translation.{physical_or_0}
+use Rattle.busdma_rules.specs.Memory.Translation.{physical_or_0}
 use Rattle.phys_memory.specs.Vector.{IfAll}
 use Rattle.phys_memory.proofs.Extents.{length-run_of}
-use Rattle.segment_build.specs.Building.{IsPlaceable}
-use Rattle.segment_build.specs.Chunks.{chunks_of}
-use Rattle.segment_build.proofs.Counting.{chunks_bytes, chunks_few}
-use Rattle.segment_build.proofs.Sound.{chunks_sound}
+use Rattle.busdma_rules.specs.Segments.Building.{IsPlaceable}
+use Rattle.busdma_rules.specs.Segments.Chunks.{chunks_of}
+use Rattle.busdma_rules.proofs.Segments.Counting.{chunks_bytes, chunks_few}
+use Rattle.busdma_rules.proofs.Segments.Sound.{chunks_sound}
 use Rattle.rules_tests.proofs.Entries.{entries_length}
 use Rattle.rules_tests.proofs.tests.lists.of_walk.Goals as goal
 

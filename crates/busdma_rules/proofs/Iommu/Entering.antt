@@ -1,0 +1,101 @@
+-- What a run that is entered, or ended, makes of the others.
+use Rattle.std.proofs.Common.{◌≡◌, ℕ, zero, suc, ◌+◌, ◌-◌, ◌≤◌, true, false, ◌||◌, not, cond, List, [], ◌∷◌, Some}
+use Rattle.std.proofs.Common.{slice_get, refl, ap, ◌∙◌, arith, leb, ltb, eqb}
+use Rattle.std.specs.List.{filter, list_any}
+use Rattle.std.proofs.lemmas.Bool.{leb-true, lt-ltb, le-ltb, eq-eqb, ne_eqb}
+use Rattle.std.proofs.lemmas.Bool.Decides.{nat_tests}
+use Rattle.busdma_rules.specs.Iommu.Space.{DeviceRun, AreRuns, begins_at, end_of, frame_at, gap, has_page, put_run}
+use Rattle.busdma_rules.proofs.Iommu.Runs.{all-stay, begins-behind, gap-low}
+
+-- the pages of a run that is entered stand for its frames
+pub frame-own : (low high k p : ℕ) (r : DeviceRun) (rs : List DeviceRun) → AreRuns low high rs → 1 ≤ k →
+    r.first ≡ gap low k rs → has_page p r ≡ true → frame_at (put_run r rs) p ≡ slice_get r.frames (p - r.first)
+frame-own low high k p r [] h some at has = rw has refl
+frame-own low high k p r (q ∷ qs) h some at has =
+    (elim (leb (low + k) q.first) as (λ v. leb (low + k) q.first ≡ v → r.first ≡ cond v low (gap (end_of q) k qs) →
+    frame_at (cond (ltb r.first q.first) (r ∷ q ∷ qs) (q ∷ put_run r qs)) p ≡ slice_get r.frames (p - r.first)) [
+      | true ↦ λ e at.
+          let fits : low + k ≤ q.first = leb-true (low + k) q.first e in
+          rw (lt-ltb r.first q.first (omega arith)) (rw has refl)
+      | false ↦ λ e at.
+          let past : end_of q ≤ gap (end_of q) k qs = gap-low (end_of q) high k qs h.1 in
+          let off : has_page p q ≡ false = grind (arith, nat_tests, past, at, has) in
+          rw (le-ltb r.first q.first (omega (arith, past, at)))
+          (rw off (frame-own (end_of q) high k p r qs h.1 some at has))
+    ]) refl at
+
+-- the pages of the others stand for what they stood for
+pub frame-other : (p : ℕ) (r : DeviceRun) (rs : List DeviceRun) → has_page p r ≡ false →
+    frame_at (put_run r rs) p ≡ frame_at rs p
+frame-other p r [] off = rw off refl
+frame-other p r (q ∷ qs) off =
+    (elim (ltb r.first q.first) as (λ v. frame_at (cond v (r ∷ q ∷ qs) (q ∷ put_run r qs)) p
+    ≡ frame_at (q ∷ qs) p) [
+      | true ↦ rw off refl
+      | false ↦ (elim (has_page p q) as (λ v. cond v (slice_get q.frames (p - q.first)) (frame_at (put_run r qs) p)
+          ≡ cond v (slice_get q.frames (p - q.first)) (frame_at qs p)) [
+            | true ↦ refl
+            | false ↦ frame-other p r qs off
+          ])
+    ])
+
+-- a run that is entered is live
+pub entered-live : (r : DeviceRun) (rs : List DeviceRun) → list_any (begins_at r.first) (put_run r rs) ≡ true
+entered-live r [] = rw (eq-eqb r.first r.first refl) refl
+entered-live r (q ∷ qs) =
+    (elim (ltb r.first q.first) as (λ v. list_any (begins_at r.first) (cond v (r ∷ q ∷ qs) (q ∷ put_run r qs))
+    ≡ true) [
+      | true ↦ rw (eq-eqb r.first r.first refl) refl
+      | false ↦ (elim (eqb q.first r.first) as (λ v. (v || list_any (begins_at r.first) (put_run r qs)) ≡ true) [
+        | true ↦ refl
+        | false ↦ entered-live r qs
+      ])
+    ])
+
+-- ended at once, it leaves the runs as they were
+pub left-entered : (low high k : ℕ) (r : DeviceRun) (rs : List DeviceRun) → AreRuns low high rs → 1 ≤ k →
+    r.first ≡ gap low k rs → filter (λ x. not (begins_at r.first x)) (put_run r rs) ≡ rs
+left-entered low high k r [] h some at = rw (eq-eqb r.first r.first refl) refl
+left-entered low high k r (q ∷ qs) h some at =
+    (elim (leb (low + k) q.first) as (λ v. leb (low + k) q.first ≡ v → r.first ≡ cond v low (gap (end_of q) k qs) →
+    filter (λ x. not (begins_at r.first x)) (cond (ltb r.first q.first) (r ∷ q ∷ qs) (q ∷ put_run r qs))
+    ≡ q ∷ qs) [
+      | true ↦ λ e at.
+          let fits : low + k ≤ q.first = leb-true (low + k) q.first e in
+          rw (lt-ltb r.first q.first (omega arith)) (rw (eq-eqb r.first r.first refl)
+          (all-stay q.first high r.first (q ∷ qs) (
+            record {
+              behind = omega arith;
+              some = h.0.some;
+              reached = h.0.reached;
+              numbered = h.0.numbered;
+            },
+            h.1,
+          ) (omega arith)))
+      | false ↦ λ e at.
+          let past : end_of q ≤ gap (end_of q) k qs = gap-low (end_of q) high k qs h.1 in
+          rw (le-ltb r.first q.first (omega (arith, past, at)))
+          (rw (ne_eqb q.first r.first (λ f. omega (arith, past, at, f, h.0.some)))
+          (ap (λ rs. q ∷ rs) (left-entered (end_of q) high k r qs h.1 some at)))
+    ]) refl at
+
+-- a run that ends takes its own pages alone
+pub frame-left : (low high p i : ℕ) (r : DeviceRun) (rs : List DeviceRun) → AreRuns low high rs →
+    slice_get rs i ≡ Some r → has_page p r ≡ false →
+    frame_at (filter (λ x. not (begins_at r.first x)) rs) p ≡ frame_at rs p
+frame-left low high p i r [] h e off = absurd (cc)
+frame-left low high p zero r (q ∷ qs) h e off =
+    let same : q ≡ r = cc in
+    let first : q.first ≡ r.first = ap (λ (x : DeviceRun). x.first) same in
+    let gone : has_page p q ≡ false = ap (has_page p) same ∙ off in
+    rw (eq-eqb q.first r.first first) (rw gone
+    (ap (λ xs. frame_at xs p) (all-stay (end_of q) high r.first qs h.1 (omega (arith, h.0.some, first)))))
+frame-left low high p (suc i) r (q ∷ qs) h e off =
+    let behind : end_of q ≤ r.first = begins-behind (end_of q) high qs i r h.1 e in
+    rw (ne_eqb q.first r.first (λ f. omega (arith, behind, f, h.0.some)))
+    (elim (has_page p q) as (λ v. cond v (slice_get q.frames (p - q.first))
+    (frame_at (filter (λ x. not (begins_at r.first x)) qs) p)
+    ≡ cond v (slice_get q.frames (p - q.first)) (frame_at qs p)) [
+      | true ↦ refl
+      | false ↦ frame-left (end_of q) high p i r qs h.1 e off
+    ])

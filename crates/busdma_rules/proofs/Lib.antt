@@ -1,0 +1,5 @@
+pub mod Iommu
+pub mod Lending
+pub mod Memory
+pub mod Segments
+pub mod Tags

@@ -1,0 +1,13 @@
+pub mod Aligned
+pub mod Bytes
+pub mod Chunking
+pub mod Counting
+pub mod Covering
+pub mod Cuts
+pub mod Numbers
+pub mod Obeys
+pub mod OneWindow
+pub mod PartByPart
+pub mod Places
+pub mod Positions
+pub mod Sound

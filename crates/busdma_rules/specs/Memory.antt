@@ -1,0 +1,6 @@
+pub mod BioFrames
+pub mod Bios
+pub mod Extents
+pub mod Memories
+pub mod Translation
+pub mod Vectors

@@ -1,0 +1,26 @@
+-- The extents of bytes that lie in frames.
+use Rattle.std.specs.Prelude.{ℕ, zero, suc, ◌+◌, ◌%◌, ◌==◌, if◌then◌else◌, List, [], ◌∷◌, Option, Some, None}
+use Rattle.busdma_machine.specs.declared.machine.address.Extent.{Extent}
+use Rattle.busdma_rules.specs.Memory.Translation.{Translation}
+
+-- a byte before the extents of the bytes after it: one extent with the next byte, unless a frame begins there
+abbrev pub with_byte : ℕ → List Extent → List Extent
+with_byte pa [] = record { pa = record { 0 = pa }; len = 1 } ∷ []
+with_byte pa (e ∷ es) =
+    if e.pa.0 % 4096 == 0 then record { pa = record { 0 = pa }; len = 1 } ∷ e ∷ es
+    else record { pa = record { 0 = pa }; len = 1 + e.len } ∷ es
+
+-- the extents of the bytes at these physical addresses: one begins at the first byte, and one wherever a frame begins
+abbrev pub extents_of : List ℕ → List Extent
+extents_of [] = []
+extents_of (pa ∷ pas) = with_byte pa (extents_of pas)
+
+-- a physical address and those after it, where there is one
+abbrev pub then_reached : Option ℕ → List ℕ → List ℕ
+then_reached None others = []
+then_reached (Some pa) others = pa ∷ others
+
+-- the physical addresses of n bytes from a virtual address on, up to the first that cannot be reached
+abbrev pub reached : Translation → ℕ → ℕ → List ℕ
+reached t va zero = []
+reached t va (suc n) = then_reached (t va) (reached t (va + 1) n)

@@ -1,0 +1,3 @@
+pub mod LoadFlags
+pub mod MemFlags
+pub mod SyncOps
