@@ -6,7 +6,8 @@ use Rattle.std.proofs.lemmas.List.{get_or-set_same, get_or-set_other, length-set
 use Rattle.busdma_machine.specs.declared.name.MapId.{MapId}
 use Rattle.busdma_machine.specs.declared.bounce.zone.Waiter.{Waiter}
 use Rattle.busdma_machine.specs.Bounce.Account.{Account, Zone, zone_at, free}
-use Rattle.busdma_machine.specs.Bounce.Serving.{handed, queued, returned, served, completed, left_waiting, promised}
+use Rattle.busdma_machine.specs.Bounce.Serving.{handed, waiting_at_tail as queued, returned}
+use Rattle.busdma_machine.specs.Bounce.Serving.{served, completed, left_waiting, promised}
 use Rattle.busdma_machine.specs.Bounce.Conditions.{times_held}
 use Rattle.busdma_machine.specs.Machine.Page.{FrameBytes}
 use Rattle.busdma_machine.specs.Machine.PageList.{page_addresses, page_address}

@@ -12,8 +12,9 @@ use Rattle.busdma_machine.specs.declared.bounce.hold.HubCall.TheVariants.{TakeCa
 use Rattle.busdma_machine.specs.declared.bounce.hold.HubReply.{HubReply}
 use Rattle.busdma_machine.specs.declared.bounce.hold.HubReply.TheVariants.{Granted, Queued, NoPages, Served, Called}
 use Rattle.busdma_machine.specs.Bounce.Account.{Account, Zone, no_zone, zone_at, free}
-use Rattle.busdma_machine.specs.Bounce.AccountStep.{Outcome, account_step, as_pages, grabbed, released, called_from}
-use Rattle.busdma_machine.specs.Bounce.Serving.{handed, queued, completed}
+use Rattle.busdma_machine.specs.Bounce.AccountStep.{AccountReply as Outcome, account_step, as_pages}
+use Rattle.busdma_machine.specs.Bounce.AccountStep.{grabbed, released, called_from}
+use Rattle.busdma_machine.specs.Bounce.Serving.{handed, waiting_at_tail as queued, completed}
 use Rattle.busdma_machine.specs.Bounce.Conditions.{times_held}
 use Rattle.busdma_machine.specs.Machine.PageList.{page_address}
 use Rattle.busdma_machine.specs.Bounce.WellFormed.{IsWellFormed, Lacks}

@@ -8,9 +8,10 @@ use Rattle.busdma_machine.specs.declared.tags.tag.TagLimits.{TagLimits}
 use Rattle.busdma_machine.specs.declared.bounce.hold.HubCall.TheVariants.{CreateMap}
 use Rattle.busdma_machine.specs.declared.bounce.hold.HubReply.TheVariants.{Grown}
 use Rattle.busdma_machine.specs.Bounce.Account.{Account, zone_at, total}
-use Rattle.busdma_machine.specs.Bounce.AccountStep.{Outcome, created}
-use Rattle.busdma_machine.specs.Bounce.Growth.{zone_of, with_zone_for, wanted_for, wanted_by_map, most_pages, maxpages}
-use Rattle.busdma_machine.specs.Bounce.Growth.{added, grown, with_map}
+use Rattle.busdma_machine.specs.Bounce.AccountStep.{AccountReply as Outcome, created}
+use Rattle.busdma_machine.specs.Bounce.Growth.{zone_for_tag as zone_of, with_zone_for, wanted_for}
+use Rattle.busdma_machine.specs.Bounce.Growth.{wanted_by_map, most_pages, maxpages}
+use Rattle.busdma_machine.specs.Bounce.Growth.{added, grown, with_zone_map as with_map}
 use Rattle.bounce_hub.specs.declared.hub_zone.HubZone.{HubZone}
 use Rattle.bounce_hub.specs.declared.pool.Pool.{Pool}
 use Rattle.bounce_hub.specs.Growing.{GrewBy, Grows, place_for, maps_of, pages_of}

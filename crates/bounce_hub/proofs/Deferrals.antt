@@ -13,12 +13,15 @@ use Rattle.busdma_machine.specs.declared.bounce.hold.HubCall.TheVariants.{TakeCa
 use Rattle.busdma_machine.specs.declared.bounce.hold.HubReply.TheVariants.{Nothing, Granted, Queued, NoPages, Called}
 use Rattle.busdma_machine.specs.declared.bounce.hold.HoldEntry.{HoldEntry}
 use Rattle.busdma_machine.specs.Bounce.Account.{Account, Zone, same_map, zone_at, no_zone, with_zone, free, total}
-use Rattle.busdma_machine.specs.Bounce.AccountStep.{Outcome, account_step, as_pages, created, grabbed, called_from}
-use Rattle.busdma_machine.specs.Bounce.AccountStep.{placed}
-use Rattle.busdma_machine.specs.Bounce.Growth.{zones_for, zone_of, with_zone_for, added, grown, maxpages, wanted_by_tag}
-use Rattle.busdma_machine.specs.Bounce.Growth.{wanted_by_map, with_map}
+use Rattle.busdma_machine.specs.Bounce.AccountStep.{AccountReply as Outcome, account_step, as_pages}
+use Rattle.busdma_machine.specs.Bounce.AccountStep.{created, grabbed, called_from}
+use Rattle.busdma_machine.specs.Bounce.AccountStep.{memory_placed as placed}
+use Rattle.busdma_machine.specs.Bounce.Growth.{zones_for, zone_for_tag as zone_of, with_zone_for}
+use Rattle.busdma_machine.specs.Bounce.Growth.{added, grown, maxpages, wanted_by_tag}
+use Rattle.busdma_machine.specs.Bounce.Growth.{wanted_by_map, with_zone_map as with_map}
 use Rattle.busdma_machine.specs.Bounce.History.{IsOpening, after_entry, account_of}
-use Rattle.busdma_machine.specs.Bounce.Serving.{handed, queued, returned, completed, left_waiting, served}
+use Rattle.busdma_machine.specs.Bounce.Serving.{handed, waiting_at_tail as queued, returned}
+use Rattle.busdma_machine.specs.Bounce.Serving.{completed, left_waiting, served}
 use Rattle.busdma_machine.proofs.Accounts.Names.{sum_by-zones_for}
 use Rattle.bounce_hub.specs.Pools.{deferrals}
 use Rattle.bounce_hub.proofs.Owing.{completed-length}

@@ -9,7 +9,8 @@ use Rattle.busdma_machine.specs.declared.tags.tag.TagLimits.{TagLimits}
 use Rattle.busdma_machine.specs.declared.bounce.hold.HubReply.TheVariants.{Grown}
 use Rattle.busdma_machine.specs.Bounce.Account.{Account, Zone, same_map, no_zone, zone_at, with_zone, total}
 use Rattle.busdma_machine.specs.Bounce.AccountStep.{created}
-use Rattle.busdma_machine.specs.Bounce.Growth.{zone_of, with_zone_for, added, grown, maxpages, wanted_by_map, with_map}
+use Rattle.busdma_machine.specs.Bounce.Growth.{zone_for_tag as zone_of, with_zone_for, added}
+use Rattle.busdma_machine.specs.Bounce.Growth.{grown, maxpages, wanted_by_map, with_zone_map as with_map}
 use Rattle.busdma_machine.specs.Machine.PageList.{page_addresses}
 use Rattle.busdma_machine.proofs.Accounts.KeptZones.{keeps-with_zone}
 use Rattle.bounce_hub.specs.declared.hub_zone.HubZone.{HubZone}

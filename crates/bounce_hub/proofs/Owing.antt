@@ -7,7 +7,8 @@ use Rattle.std.proofs.lemmas.List.Sums.{sum_by-cons, sum_by-append, sum_by-set}
 use Rattle.busdma_machine.specs.declared.name.MapId.{MapId}
 use Rattle.busdma_machine.specs.declared.bounce.zone.Waiter.{Waiter}
 use Rattle.busdma_machine.specs.Bounce.Account.{Account, Zone, Held, zone_at, no_zone, free}
-use Rattle.busdma_machine.specs.Bounce.Serving.{is_holding, handed, queued, returned, completed, left_waiting, served}
+use Rattle.busdma_machine.specs.Bounce.Serving.{is_holding, handed, waiting_at_tail as queued}
+use Rattle.busdma_machine.specs.Bounce.Serving.{returned, completed, left_waiting, served}
 use Rattle.busdma_machine.specs.Bounce.Conditions.{times_held}
 use Rattle.bounce_hub.specs.Pools.{entries_of, owed, waiting}
 

@@ -14,7 +14,8 @@ use Rattle.busdma_machine.specs.declared.bounce.hold.HubReply.TheVariants.{Grown
 use Rattle.busdma_machine.specs.Bounce.Account.{Account, Zone, no_zone, zone_at, reserved, total}
 use Rattle.busdma_machine.specs.Bounce.AccountStep.{attached}
 use Rattle.busdma_machine.specs.Machine.Page.{FrameBytes}
-use Rattle.busdma_machine.specs.Bounce.Growth.{serves_tag, new_zone, zones_for, zone_of, with_zone_for, added, grown}
+use Rattle.busdma_machine.specs.Bounce.Growth.{serves_tag, new_zone, zones_for}
+use Rattle.busdma_machine.specs.Bounce.Growth.{zone_for_tag as zone_of, with_zone_for, added, grown}
 use Rattle.busdma_machine.specs.Bounce.Growth.{wanted_by_tag, wanted_for, wanted_by_map, most_pages, maxpages}
 use Rattle.busdma_machine.specs.Machine.PageList.{page_addresses, page_address}
 use Rattle.busdma_machine.specs.Bounce.WellFormed.{IsWellFormed}

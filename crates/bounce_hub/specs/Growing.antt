@@ -3,7 +3,7 @@ use Rattle.std.specs.Prelude.{◌≡◌, ℕ, ◌+◌, ◌-◌, ◌==◌, ◌&&�
 use Rattle.std.specs.Prelude.{Option, Some, None, if◌then◌else◌}
 use Rattle.busdma_machine.specs.declared.tags.tag.TagLimits.{TagLimits}
 use Rattle.busdma_machine.specs.Bounce.Account.{Account}
-use Rattle.busdma_machine.specs.Bounce.Growth.{bounds_serve, first_place, zone_of, with_zone_for, added, grown}
+use Rattle.busdma_machine.specs.Bounce.Growth.{bounds_serve, first_place, zone_for_tag, with_zone_for, added, grown}
 use Rattle.bounce_hub.specs.declared.hub_zone.HubZone.{HubZone}
 use Rattle.bounce_hub.specs.declared.pool.Pool.{Pool}
 use Rattle.bounce_hub.specs.Pools.{Agrees, Fits}
@@ -45,7 +45,7 @@ pub record IsPlace (p : Pool) (t : TagLimits) (here : ℕ) : Type 0 where
   pub account : Account
   pub agrees : Agrees p account
   pub fits : Fits p account
-  pub place : here ≡ zone_of t account.zones
+  pub place : here ≡ zone_for_tag t account.zones
 
 -- the tag's zone got so many of the wanted pages
 pub record GrewBy (p : Pool) (t : TagLimits) (place wanted n : ℕ) (a : Account) (q : Pool) : Type 0 where
@@ -56,4 +56,4 @@ pub record GrewBy (p : Pool) (t : TagLimits) (place wanted n : ℕ) (a : Account
 -- the same for each account that the pool can be of
 abbrev pub Grows : Pool → TagLimits → ℕ → ℕ → ℕ → Pool → Type 0
 Grows p t place wanted n q =
-    (a : Account) → Agrees p a → Fits p a → place ≡ zone_of t a.zones → GrewBy p t place wanted n a q
+    (a : Account) → Agrees p a → Fits p a → place ≡ zone_for_tag t a.zones → GrewBy p t place wanted n a q

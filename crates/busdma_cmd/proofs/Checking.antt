@@ -20,7 +20,7 @@ use Rattle.busdma_cmd.specs.declared.outcome.Outcome.{Outcome}
 use Rattle.busdma_cmd.specs.Checks.{Checked, ChecksBy, HasVerdict, Judges, ReadsVerdict, checked_outcome, verdict_journal, verdict_line, verdict_status}
 use Rattle.busdma_cmd.specs.Edges.{Edges, NoReadFailed, WriteFailed, NoWriteFailed, WroteNothing, WroteAll, WrotePart, input_limit}
 use Rattle.busdma_cmd.specs.Ends.{CountsReads, outcome}
-use Rattle.busdma_cmd.specs.Judging.{bad_header, judged, scenario_behind_header}
+use Rattle.busdma_cmd.specs.Judging.{bad_header, command_reading as judged, scenario_behind_header}
 use Rattle.busdma_cmd.specs.Outcome.{Done, IsComplete, IsDone, Keeps, KeepsJournal, Unwritten}
 use Rattle.busdma_cmd.specs.Runs.{IsReader}
 use Rattle.busdma_cmd.proofs.Endings.{done_answers, done_of_reading, long_keeps, no_memory_keeps, none_is_some, not_done, other_of_reading, refused_keeps, unread_keeps, unwritten_answers}

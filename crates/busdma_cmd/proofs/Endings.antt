@@ -21,7 +21,7 @@ use Rattle.command_words.specs.Command.{command}
 use Rattle.busdma_cmd.specs.Edges.{Edges, ReadFailed, NoReadFailed, ReadNothing, ReadAll, ReadAtMost, ReadTooMany, input_limit}
 use Rattle.busdma_cmd.specs.Edges.{WriteFailed, NoWriteFailed, WroteNothing, WroteAll, WrotePart}
 use Rattle.busdma_cmd.specs.Ends.{OfInput, CountsReads, Makes, Stops, StopsReading, EndsBy, outcome}
-use Rattle.busdma_cmd.specs.Judging.{judged}
+use Rattle.busdma_cmd.specs.Judging.{command_reading as judged}
 use Rattle.busdma_cmd.specs.Outcome.{IsDone, IsOfReading, HasWritten, KeepsJournal, Ran, RanAndWrote, RanUnwritten, Done, Unwritten, WasRefused, AnswersInput, AnswersReading, IsComplete, Keeps}
 use Rattle.busdma_cmd.specs.Runs.{IsRead, IsReader, Runs}
 use Rattle.busdma_cmd.proofs.Taking.{AsksFor, all_at_most, if_command, is_long, not_gave_too_many, not_long, not_too_many, nothing_at_most, of_command, one_more_at_most, runs_few, runs_read, runs_unread, same_judged, some_command}

@@ -17,7 +17,7 @@ use Rattle.command_words.specs.Command.{command}
 use Rattle.busdma_cmd.specs.Edges.{Edges, ReadNothing, ReadAll, ReadAtMost, input_limit}
 use Rattle.busdma_cmd.specs.Edges.{WriteFailed, WroteNothing, WrotePart}
 use Rattle.busdma_cmd.specs.Ends.{Reads, CountsReads, Stops, StopsReading, EndsBy}
-use Rattle.busdma_cmd.specs.Judging.{judged}
+use Rattle.busdma_cmd.specs.Judging.{command_reading as judged}
 use Rattle.busdma_cmd.specs.Outcome.{GaveTooMany}
 use Rattle.busdma_cmd.specs.Runs.{IsMadeOf, IsRead, IsReader, Runs, text_of}
 

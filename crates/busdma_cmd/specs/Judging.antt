@@ -19,8 +19,8 @@ abbrev pub scenario_behind_header : List ℕ → Reading
 scenario_behind_header input = option_map_or (λ cut. scenario_of cut.scenario) (cut_of input) (Bad bad_header)
 
 -- what a command judges the bytes of its input to be; a storm has none
-abbrev pub judged : Command → List ℕ → Reading
-judged Replay input = scenario_of input
-judged Run input = scenario_of input
-judged (Storm n seed) input = scenario_of input
-judged Check input = scenario_behind_header input
+abbrev pub command_reading : Command → List ℕ → Reading
+command_reading Replay input = scenario_of input
+command_reading Run input = scenario_of input
+command_reading (Storm n seed) input = scenario_of input
+command_reading Check input = scenario_behind_header input

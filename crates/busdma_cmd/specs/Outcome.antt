@@ -12,7 +12,7 @@ use Rattle.command_words.specs.declared.command.Command.{Command}
 use Rattle.command_words.specs.declared.command.Command.TheVariants.{Replay, Run, Storm, Check}
 use Rattle.command_words.specs.Command.{command}
 use Rattle.busdma_cmd.specs.Checks.{CheckedAndWrote, CheckedUnwritten}
-use Rattle.busdma_cmd.specs.Judging.{judged}
+use Rattle.busdma_cmd.specs.Judging.{command_reading}
 use Rattle.busdma_cmd.specs.Edges.{Edges, ReadFailed, NoReadFailed, ReadNothing, ReadAll, ReadTooMany, ReadAtMost}
 use Rattle.busdma_cmd.specs.Edges.{input_limit}
 use Rattle.busdma_cmd.specs.Edges.{WriteFailed, NoWriteFailed, WroteNothing, WroteAll, WrotePart}
@@ -78,7 +78,7 @@ pub record WasRefused (c : Command) (e : Edges) (o : Outcome) : Type 0 where
   pub bytes : List ℕ
   pub refusal : Refusal
   pub read : ReadAll bytes e
-  pub bad : judged c bytes ≡ Bad refusal
+  pub bad : command_reading c bytes ≡ Bad refusal
   pub kept : o.fault ≡ Some refusal
 
 -- memory may run out at any time
@@ -95,11 +95,11 @@ AnswersReading o (Bad r) = (o.status ≡ 65) × (o.fault ≡ Some r)
 pub record AnswersInput (c : Command) (e : Edges) (o : Outcome) : Type 0 where
   pub short : (input : List ℕ) → e.left ≡ Some input → length input ≤ input_limit
       → (ReadFailed e → ⊥) → (WriteFailed e → ⊥)
-      → OrNoMemory o (AnswersReading o (judged c input))
+      → OrNoMemory o (AnswersReading o (command_reading c input))
   pub long : (input : List ℕ) → e.left ≡ Some input → input_limit < length input
       → (ReadFailed e → ⊥) → OrNoMemory o (o.status ≡ 66)
   pub refused : (input : List ℕ) (r : Refusal) → e.left ≡ Some input → length input ≤ input_limit
-      → judged c input ≡ Bad r → (ReadFailed e → ⊥)
+      → command_reading c input ≡ Bad r → (ReadFailed e → ⊥)
       → OrNoMemory o ((o.status ≡ 65) × (o.fault ≡ Some r))
 
 -- where nothing failed that the command calls, and there was memory, the outcome is that of the command

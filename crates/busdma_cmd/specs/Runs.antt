@@ -6,7 +6,7 @@ use Rattle.scenario_read.specs.declared.reading.Reading.TheVariants.{Good}
 use Rattle.scenario_read.specs.Scenario.{scenario_of}
 use Rattle.ideal_world.specs.Legal.{IsLegal, IsReplayed}
 use Rattle.report_text.specs.Report.{report}
-use Rattle.storm.specs.Scenario.{storm}
+use Rattle.storm.specs.Scenario.{storm_scenario}
 use Rattle.storm.specs.Summary.{summary}
 use Rattle.command_words.specs.declared.command.Command.{Command}
 use Rattle.command_words.specs.declared.command.Command.TheVariants.{Replay, Run, Storm, Check}
@@ -21,7 +21,7 @@ pub record IsRead (e : Edges) (scenario : Scenario) : Type 0 where
 -- nothing was read, and the scenario is the storm of n rounds and this seed
 pub record IsStorm (n seed : ℕ) (e : Edges) (scenario : Scenario) : Type 0 where
   pub read : ReadNothing e
-  pub made : scenario ≡ storm n seed
+  pub made : scenario ≡ storm_scenario n seed
 
 -- the scenario is the one that the command runs; a check runs none
 abbrev pub Runs : Command → Edges → Scenario → Type 0

@@ -26,8 +26,8 @@ storm_of (Some n) None = None
 storm_of None seed = None
 
 -- the storm that two words ask for: 1 to 256 rounds, and a seed of 64 bits that is not 0
-abbrev pub storm : List ℕ → List ℕ → Option Command
-storm n seed = storm_of (number 256 n) (number (2 ^ 64 - 1) seed)
+abbrev pub storm_command : List ℕ → List ℕ → Option Command
+storm_command n seed = storm_of (number 256 n) (number (2 ^ 64 - 1) seed)
 
 -- the words of a run on threads
 abbrev pub run_words : List (List ℕ)
@@ -45,5 +45,5 @@ abbrev pub command : List (List ℕ) → Option Command
 command [] = None
 command (word ∷ []) = alone word
 command (word ∷ n ∷ []) = None
-command (word ∷ n ∷ seed ∷ []) = if bytes_eq word (codes "storm") then storm n seed else None
+command (word ∷ n ∷ seed ∷ []) = if bytes_eq word (codes "storm") then storm_command n seed else None
 command (word ∷ n ∷ seed ∷ next ∷ more) = None

@@ -4,7 +4,7 @@ use Rattle.std.specs.Str.{bytes_eq}
 use Rattle.clap.specs.Words.{App, Row, Rule, Text, first_of, new_app, new_rule, with_rule, with_subcommand}
 use Rattle.command_words.specs.declared.command.Command.{Command}
 use Rattle.command_words.specs.declared.command.Command.TheVariants.{Replay, Run, Check}
-use Rattle.command_words.specs.Command.{storm}
+use Rattle.command_words.specs.Command.{storm_command}
 
 -- the word begins with a hyphen
 abbrev pub is_flag : Text → Bool
@@ -40,7 +40,7 @@ line = with_subcommand
 
 -- the storm of two words that may have been given
 abbrev pub storm_asked : Option Text → Option Text → Option Command
-storm_asked (Some n) (Some seed) = storm n seed
+storm_asked (Some n) (Some seed) = storm_command n seed
 storm_asked (Some n) None = None
 storm_asked None seed = None
 

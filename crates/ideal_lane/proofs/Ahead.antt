@@ -11,7 +11,7 @@ use Rattle.busdma_base.specs.declared.scenarios.scenario.Driver.{Driver}
 use Rattle.busdma_base.specs.declared.scenarios.script.Op.{Op}
 use Rattle.busdma_base.specs.Scenarios.Operations.{items_of}
 use Rattle.lane_agreement.specs.View as view
-use Rattle.busdma_base.specs.Scenarios.Queues.{queued}
+use Rattle.busdma_base.specs.Scenarios.Queues.{queued_items as queued}
 use Rattle.ideal_lane.specs.State.{LaneState, LaneMap, Idle, Waiting, Loaded, Returning}
 use Rattle.ideal_lane.specs.Ahead.{awaited_items, items_ahead}
 use Rattle.ideal_lane.specs.Asking.{by_reply}

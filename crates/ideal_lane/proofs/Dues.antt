@@ -36,7 +36,8 @@ use Rattle.lane_agreement.specs.View.{Return, queued_back, returning}
 use Rattle.ideal_lane.specs.Asking.{Asking, Gives, Asks, by_reply, goes_on}
 use Rattle.ideal_lane.specs.Due.{DueStands, IsBare, IsDue, is_of_map, is_unfit, is_unfit_turn}
 use Rattle.ideal_lane.specs.IdealMemory.{is_known}
-use Rattle.ideal_lane.specs.Loads.{emptied, limits_of, is_foreign_in, load_judged, load_refusal, load_translation, no_limits, zone_of}
+use Rattle.ideal_lane.specs.Loads.{emptied, limits_of, is_foreign_in, load_judged}
+use Rattle.ideal_lane.specs.Loads.{load_refusal, load_translation, no_limits, zone_of_map as zone_of}
 use Rattle.ideal_lane.specs.Opening.{opening_lane}
 use Rattle.ideal_lane.specs.Outcomes.{Outcome, is_idle, unless_refused}
 use Rattle.ideal_lane.specs.Sends.{HaveClusters, Send, chain_bytes, cluster_bytes, copied, due_send, is_too_big, load_again}

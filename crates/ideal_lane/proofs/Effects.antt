@@ -44,12 +44,12 @@ use Rattle.busdma_base.specs.Journals.Reports.{is_report}
 use Rattle.busdma_base.specs.Scenarios.Operations.{bytes_of}
 use Rattle.busdma_machine.specs.Tags.Tag.{effective, could_bounce, space_limits}
 use Rattle.busdma_machine.specs.Tags.TagFlags.{allocnow}
-use Rattle.busdma_rules.specs.Tags.LoadFlags.{nowait_bit}
+use Rattle.busdma_rules.specs.Tags.LoadFlags.{load_nowait_bit as nowait_bit}
 use Rattle.busdma_rules.specs.Tags.SyncOps.{is_mixed}
-use Rattle.lane_agreement.specs.After.{addresses}
+use Rattle.lane_agreement.specs.After.{addresses_of_pages as addresses}
 use Rattle.lane_agreement.specs.View.{Return}
 use Rattle.busdma_base.specs.declared.scenarios.queued.QueuedItem.{QueuedItem}
-use Rattle.busdma_base.specs.Scenarios.Queues.{queued}
+use Rattle.busdma_base.specs.Scenarios.Queues.{queued_items as queued}
 use Rattle.busdma_rules.specs.Lending.Access.{cpu_read_answer, cpu_write_answer, dev_read_answer, dev_write_answer}
 use Rattle.busdma_rules.specs.Lending.Access.{dev_write_refusal}
 use Rattle.busdma_rules.specs.Lending.Syncing.{sync_answer, synced, lost}
@@ -64,20 +64,20 @@ use Rattle.ideal_lane.specs.State.{no_space}
 use Rattle.ideal_lane.specs.Accesses.{raw_bytes, raw_refusal}
 use Rattle.ideal_lane.specs.IdealMemory.{is_known, written, forgotten}
 use Rattle.ideal_lane.specs.Loads.{Asked, are_few, asked, limits_of, chunks_for, granted, is_device, ended}
-use Rattle.ideal_lane.specs.Loads.{load_judged, unpaged, waiting_load, with_run, with_spaces, zone_of}
+use Rattle.ideal_lane.specs.Loads.{load_judged, unpaged, waiting_load, with_run, with_spaces, zone_of_map as zone_of}
 use Rattle.ideal_lane.specs.Maps.{bounces, with_map, without_map}
-use Rattle.ideal_lane.specs.Memories.{placed, without_memory}
+use Rattle.ideal_lane.specs.Memories.{memory_by_reply as placed, without_memory}
 use Rattle.ideal_lane.specs.Outcomes.{Outcome, is_idle, is_loaded}
 use Rattle.ideal_lane.specs.Outcomes.{load_length}
-use Rattle.ideal_lane.specs.Places.{virtual_at, reached, bytes_at}
+use Rattle.ideal_lane.specs.Places.{virtual_at, first_unreached as reached, bytes_at}
 use Rattle.ideal_lane.specs.Rings.{Candidate, allowed, candidates, fetched, fits_in, head_at, head_of, is_work, may_post}
 use Rattle.ideal_lane.specs.Rings.{moved_on, posted, retired, slot_place, stored, told, used, with_ring}
 use Rattle.ideal_lane.specs.Sends.{Send, chain_bytes, cluster_bytes, copied, due_send, is_too_big, send_of}
 use Rattle.ideal_lane.specs.Syncs.{copies, counted}
 use Rattle.ideal_lane.specs.Tags.{with_tag, with_device_tag, has_maps, with_space}
 use Rattle.ideal_lane.specs.Turns.{Turn, Turned, Blocked, Ended, stays, stepped, bio_at}
-use Rattle.ideal_lane.specs.Turns.{never_waits, waits, advanced, kept, resent, served, left_queue}
-use Rattle.ideal_lane.specs.Unloads.{unlent, unmapped, pages_of, segments_in, restaged, after_return}
+use Rattle.ideal_lane.specs.Turns.{never_waits, waits, advanced, kept, resent, maps_completed as served, left_queue}
+use Rattle.ideal_lane.specs.Unloads.{loan_forgotten as unlent, unmapped, pages_of, segments_in, restaged, after_return}
 use Rattle.ideal_lane.proofs.Endings.{fits, fitting, too_big}
 
 -- what a step does: an operation, an item, or the callback of a map

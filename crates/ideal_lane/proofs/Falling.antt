@@ -21,19 +21,19 @@ use Rattle.busdma_base.specs.declared.scenarios.script.Op.TheVariants as op
 use Rattle.busdma_machine.specs.Machine.Spans.{span_bytes}
 use Rattle.lane_agreement.specs.View as view
 use Rattle.lane_agreement.specs.View.{Return, queued_back}
-use Rattle.lane_agreement.specs.After.{addresses}
+use Rattle.lane_agreement.specs.After.{addresses_of_pages as addresses}
 use Rattle.lane_agreement.specs.Agreement.{Agrees, IsFit}
 use Rattle.lane_agreement.proofs.Left.{addresses-length, queued-length}
 use Rattle.lane_agreement.proofs.Whole.{granted-length, called-length}
 use Rattle.busdma_base.specs.declared.scenarios.queued.QueuedItem.{QueuedItem}
-use Rattle.busdma_base.specs.Scenarios.Queues.{queued, queued_from}
+use Rattle.busdma_base.specs.Scenarios.Queues.{queued_items as queued, queued_from}
 use Rattle.busdma_rules.specs.Segments.Chunks.{need_of}
 use Rattle.ideal_lane.specs.State.{LaneState, LaneMap, Stage, Idle, Waiting, Loaded, Returning, WaitingLoad, named}
 use Rattle.ideal_lane.specs.Asking.{Asking, Gives, Asks, call_of, by_reply}
 use Rattle.ideal_lane.specs.Outcomes.{Outcome}
 use Rattle.ideal_lane.specs.Standing.{Stands}
 use Rattle.ideal_lane.specs.Maps.{with_map}
-use Rattle.ideal_lane.specs.Loads.{zone_of, unpaged, emptied, with_spaces}
+use Rattle.ideal_lane.specs.Loads.{zone_of_map as zone_of, unpaged, emptied, with_spaces}
 use Rattle.ideal_lane.specs.Unloads.{pages_of, after_return}
 use Rattle.ideal_lane.specs.Turns.{never_waits, lane_step, Turned}
 use Rattle.ideal_lane.specs.View.{view_of}

@@ -14,7 +14,7 @@ use Rattle.busdma_machine.specs.Tags.Tag.{could_bounce}
 use Rattle.busdma_machine.specs.Tags.TagFlags.{allocnow}
 use Rattle.busdma_rules.specs.Segments.Chunks.{need_of}
 use Rattle.lane_agreement.specs.View as view
-use Rattle.lane_agreement.specs.After.{IsLike, after, addresses}
+use Rattle.lane_agreement.specs.After.{IsLike, after, addresses_of_pages as addresses}
 use Rattle.lane_agreement.specs.After as calls
 use Rattle.lane_agreement.specs.Agreement.{Agrees}
 use Rattle.lane_agreement.proofs.Left.{agrees-like}
@@ -26,7 +26,7 @@ use Rattle.ideal_lane.specs.Standing.{Stands, IsPageless}
 use Rattle.ideal_lane.specs.View.{view_of, own_map, own_frames, in_zone, stage_of}
 use Rattle.ideal_lane.specs.Tags.{with_tag}
 use Rattle.ideal_lane.specs.Maps.{with_map, without_map}
-use Rattle.ideal_lane.specs.Loads.{Asked, zone_of, staged, unpaged, emptied}
+use Rattle.ideal_lane.specs.Loads.{Asked, zone_of_map as zone_of, staged, unpaged, emptied}
 use Rattle.ideal_lane.specs.Unloads.{pages_of}
 use Rattle.std.proofs.Common.{not}
 use Rattle.busdma_rules.specs.Iommu.Device.{device_chunks}

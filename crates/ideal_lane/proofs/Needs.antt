@@ -17,7 +17,7 @@ use Rattle.busdma_machine.specs.Machine.Spans.{bio_spans, span_bytes}
 use Rattle.busdma_machine.specs.Runs.{addresses, byte_count, run_of}
 use Rattle.busdma_base.specs.Scenarios.Buffers.{buffer_bytes, counted_bytes}
 use Rattle.busdma_rules.specs.Memory.Bios.{is_rounded}
-use Rattle.busdma_rules.specs.Memory.Extents.{extents_of, with_byte, reached, then_reached}
+use Rattle.busdma_rules.specs.Memory.Extents.{extents_of, with_byte, reached_addresses as reached, then_reached}
 use Rattle.busdma_rules.specs.Memory.Translation.{Translation}
 use Rattle.busdma_rules.specs.Memory.Vectors.{entries_of, with_entry}
 use Rattle.busdma_rules.specs.Segments.Chunks.{chunk_limit, chunks_within, chunks_of_bytes, chunks_from, chunks_of}

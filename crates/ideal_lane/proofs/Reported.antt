@@ -13,7 +13,7 @@ use Rattle.busdma_base.specs.declared.journals.journal.Side.TheVariants as side
 use Rattle.busdma_base.specs.Journals.Reports.{is_report}
 use Rattle.busdma_base.specs.Scenarios.Operations.{items_of}
 use Rattle.busdma_base.specs.declared.scenarios.queued.QueuedItem.{QueuedItem}
-use Rattle.busdma_base.specs.Scenarios.Queues.{queued}
+use Rattle.busdma_base.specs.Scenarios.Queues.{queued_items as queued}
 use Rattle.busdma_rules.specs.Lending.Loans.{load_bytes}
 use Rattle.busdma_rules.specs.declared.descriptor.Descriptor.{Descriptor}
 use Rattle.ideal_lane.specs.Asking.{by_reply, call_of}

@@ -34,7 +34,7 @@ use Rattle.busdma_machine.specs.Tags.TagFlags.{allocnow}
 use Rattle.busdma_rules.specs.Tags.SyncOps.{is_mixed}
 use Rattle.busdma_rules.specs.Iommu.Device.{device_chunks, load_frames}
 use Rattle.busdma_rules.specs.Iommu.Space.{first_free, translated}
-use Rattle.lane_agreement.specs.After.{addresses}
+use Rattle.lane_agreement.specs.After.{addresses_of_pages as addresses}
 use Rattle.busdma_rules.specs.declared.position.Position.{Position}
 use Rattle.busdma_rules.specs.Memory.Bios.{bio_translation, is_rounded}
 use Rattle.busdma_rules.specs.Memory.Translation.{physical_or_0, unreached}
@@ -45,11 +45,13 @@ use Rattle.ideal_lane.specs.Accesses as accesses
 use Rattle.ideal_lane.specs.Accesses.{position_in, place_in, raw_refusal, unless_unlent}
 use Rattle.ideal_lane.specs.Asking.{Asking, Gives, Asks, goes_on}
 use Rattle.ideal_lane.specs.Loads.{Asked, asked, is_foreign_in, is_foreign_to, load_entries, load_judged}
-use Rattle.ideal_lane.specs.Loads.{are_few, chunks_for, device_load, ended, finished, granted, is_device, limits_of, load}
-use Rattle.ideal_lane.specs.Loads.{load_chunks, load_refusal, load_translation, taken, with_run, with_spaces, zone_of}
+use Rattle.ideal_lane.specs.Loads.{are_few, chunks_for, device_load, ended}
+use Rattle.ideal_lane.specs.Loads.{finished, granted, is_device, limits_of, load}
+use Rattle.ideal_lane.specs.Loads.{load_chunks, load_refusal, load_translation}
+use Rattle.ideal_lane.specs.Loads.{taken, with_run, with_spaces, zone_of_map as zone_of}
 use Rattle.ideal_lane.specs.Outcomes.{Outcome, is_idle, is_loaded, refused, unless_absent, unless_refused, load_length}
 use Rattle.ideal_lane.specs.Outcomes.{unless_busy, unless_unloaded, unless_past}
-use Rattle.ideal_lane.specs.Places.{bytes_at, or_in_memory, physical, reached, virtual_at}
+use Rattle.ideal_lane.specs.Places.{bytes_at, or_in_memory, physical, first_unreached as reached, virtual_at}
 use Rattle.ideal_lane.specs.Loads.{load_addresses}
 use Rattle.ideal_lane.specs.Scripts.{LooksSame, looks_same, outcome_under, turned_under, with_script}
 use Rattle.ideal_lane.specs.Sends as sends
@@ -82,7 +84,8 @@ use Rattle.ideal_lane.specs.Memories as memories
 use Rattle.ideal_lane.specs.Outcomes.{gives}
 use Rattle.ideal_lane.specs.Rings as rings
 use Rattle.ideal_lane.specs.Syncs as syncs
-use Rattle.ideal_lane.specs.Tags.{attached, device_tag, has_maps, tag, tag_destroy, tag_or_invalid, with_tag}
+use Rattle.ideal_lane.specs.Tags.{tag_by_reply as attached, device_tag, has_maps}
+use Rattle.ideal_lane.specs.Tags.{tag, tag_destroy, tag_or_invalid, with_tag}
 use Rattle.ideal_lane.specs.Unloads as unloads
 use Rattle.ideal_lane.specs.Unloads.{segments_in}
 use Rattle.ideal_lane.proofs.Endings.{fits, fitting, too_big}
@@ -285,7 +288,7 @@ module _ (script : List Op) (l : LaneState) where
       grown o z true = refl
       grown o z false = refl
 
-      by : (o : LaneTag) (r : HubReply) → maps.created t o n r ≡ other (maps.created t o l r)
+      by : (o : LaneTag) (r : HubReply) → maps.map_by_reply t o n r ≡ other (maps.map_by_reply t o l r)
       by o (reply.Grown g) = (λ j. record { lane = grown o g.zone.0 g.made j; answer = answer.Grown g })
       by o _ = refl
 
@@ -303,7 +306,7 @@ module _ (script : List Op) (l : LaneState) where
   dmamem-same t flags =
       absent (get l.tags t) _ _ (λ o. (λ j. Asks (hold.MemAlloc (named l l.place) o.limits) (λ r. by o r j)))
     where
-      by : (o : LaneTag) (r : HubReply) → memories.placed t o.limits flags n r ≡ other (memories.placed t o.limits flags l r)
+      by : (o : LaneTag) (r : HubReply) → memories.memory_by_reply t o.limits flags n r ≡ other (memories.memory_by_reply t o.limits flags l r)
       by o (reply.Run first count) = refl
       by o _ = refl
 
@@ -571,7 +574,7 @@ module _ (script : List Op) where
             unless_refused j k (
             unless_refused (cpu_read_answer (is_known k.memory) k.loans from) k (
             unless_refused (cpu_write_answer k.loans to) k (
-            sends.load_again s (sends.with_memory (written to (accesses.values k from) k.memory) k))))
+            sends.load_again s (sends.with_bytes (written to (accesses.values k from) k.memory) k))))
 
         m' : LaneState
         m' = with_script script (sends.copied s l)
@@ -600,7 +603,7 @@ module _ (script : List Op) where
             turns.stepped side.Script (did.Release (named k r.map) page)
             (record {
               lane = record (unloads.restaged r.map o (unloads.after_return r.map rest) k) { returns = rest };
-              answer = answer.Served (turns.served got);
+              answer = answer.Served (turns.maps_completed got);
             }))
 
         by : (o : Option LaneMap) → released o m ≡ goes_on under (released o l)

@@ -14,7 +14,7 @@ use Rattle.busdma_machine.specs.declared.bounce.hold.HubReply.TheVariants as rep
 use Rattle.busdma_machine.specs.declared.name.MapId.{MapId}
 use Rattle.busdma_machine.specs.declared.name.ZoneId.{ZoneId}
 use Rattle.busdma_machine.specs.Bounce.Account.{Account, free, zone_at}
-use Rattle.busdma_machine.specs.Bounce.AccountStep.{account_step, as_pages, Outcome}
+use Rattle.busdma_machine.specs.Bounce.AccountStep.{account_step, as_pages, AccountReply as Outcome}
 use Rattle.busdma_machine.specs.Bounce.Serving.{handed}
 use Rattle.ideal_lane.specs.Sends.{HaveClusters, Send, due_send, send_of}
 use Rattle.ideal_lane.specs.State.{LaneState}

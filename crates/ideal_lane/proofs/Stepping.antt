@@ -38,9 +38,9 @@ use Rattle.busdma_base.specs.Journals.Reports.{is_report}
 use Rattle.busdma_base.specs.Scenarios.Operations.{bytes_of}
 use Rattle.busdma_machine.specs.Tags.Tag.{effective, could_bounce, space_limits}
 use Rattle.busdma_machine.specs.Tags.TagFlags.{allocnow}
-use Rattle.busdma_rules.specs.Tags.LoadFlags.{nowait_bit}
+use Rattle.busdma_rules.specs.Tags.LoadFlags.{load_nowait_bit as nowait_bit}
 use Rattle.busdma_rules.specs.Tags.SyncOps.{is_mixed}
-use Rattle.lane_agreement.specs.After.{addresses}
+use Rattle.lane_agreement.specs.After.{addresses_of_pages as addresses}
 use Rattle.lane_agreement.specs.View.{Return}
 use Rattle.busdma_base.specs.declared.scenarios.queued.QueuedItem.{QueuedItem}
 use Rattle.busdma_rules.specs.Lending.Access.{cpu_read_answer, cpu_write_answer, dev_read_answer, dev_write_answer}
@@ -58,17 +58,19 @@ use Rattle.ideal_lane.specs.Asking.{Asking, Gives, Asks, call_of, by_reply, goes
 use Rattle.ideal_lane.specs.IdealMemory.{is_known}
 use Rattle.ideal_lane.specs.Loads.{asked, device_load, is_device, limits_of, finished, granted, load_chunks, load}
 use Rattle.ideal_lane.specs.Loads.{ended, load_judged, taken, with_spaces}
-use Rattle.ideal_lane.specs.Maps.{bounces, with_map, without_map, created, map, end_map, map_destroy, await}
-use Rattle.ideal_lane.specs.Memories.{placed, dmamem, dmamem_free}
+use Rattle.ideal_lane.specs.Maps.{bounces, with_map, without_map, map_by_reply as created}
+use Rattle.ideal_lane.specs.Maps.{map, end_map, map_destroy, await}
+use Rattle.ideal_lane.specs.Memories.{memory_by_reply as placed, dmamem, dmamem_free}
 use Rattle.ideal_lane.specs.Outcomes.{Outcome, gives, refused, unless_absent, unless_busy, unless_past, unless_refused}
 use Rattle.ideal_lane.specs.Outcomes.{is_idle, is_loaded, load_length}
-use Rattle.ideal_lane.specs.Places.{virtual_at, reached, bytes_at}
+use Rattle.ideal_lane.specs.Places.{virtual_at, first_unreached as reached, bytes_at}
 use Rattle.ideal_lane.specs.Rings.{Candidate, allowed, at_first, blame, candidates, fetch, fits_in, head_at, head_of, is_work}
 use Rattle.ideal_lane.specs.Rings.{kick, may_post, ring, ring_post, ring_step, slot_place, told}
 use Rattle.ideal_lane.specs.Sends.{Send, chain_bytes, cluster_bytes, copied, due_send, is_kept, is_too_big, load_again}
 use Rattle.ideal_lane.specs.Sends.{resend, send_of}
 use Rattle.ideal_lane.specs.Syncs.{sync_part, sync, sync_range}
-use Rattle.ideal_lane.specs.Tags.{with_tag, attached, tag_or_invalid, tag, device_tag, iommu_tag, tag_destroy, has_maps}
+use Rattle.ideal_lane.specs.Tags.{with_tag, tag_by_reply as attached, tag_or_invalid, tag}
+use Rattle.ideal_lane.specs.Tags.{device_tag, iommu_tag, tag_destroy, has_maps}
 use Rattle.ideal_lane.specs.Turns.{Turned, Blocked, Ended, stays, operation, bio_at, load_buffer}
 use Rattle.ideal_lane.specs.Turns.{never_waits, transfer, waits, advanced, due_turn, kept, left_queue, next_operation}
 use Rattle.ideal_lane.specs.Turns.{resent, went_on}

@@ -12,7 +12,7 @@ use Rattle.busdma_machine.specs.Bounce.Account.{Account}
 use Rattle.busdma_machine.specs.Bounce.AccountStep.{account_step}
 use Rattle.lane_agreement.specs.View as view
 use Rattle.lane_agreement.specs.View.{Return, OwnMap}
-use Rattle.lane_agreement.specs.After.{IsLike, after, addresses, IsFront}
+use Rattle.lane_agreement.specs.After.{IsLike, after, addresses_of_pages as addresses, IsFront}
 use Rattle.lane_agreement.specs.After as calls
 use Rattle.lane_agreement.specs.Agreement.{Agrees, IsFit}
 use Rattle.lane_agreement.proofs.Asking.{agrees-may}

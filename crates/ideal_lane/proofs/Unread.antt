@@ -21,7 +21,7 @@ use Rattle.busdma_base.specs.declared.scenarios.script.Item.{Item}
 use Rattle.busdma_base.specs.Scenarios.PageRuns.{physical_in}
 use Rattle.busdma_rules.specs.Iommu.Device.{device_chunks, load_frames}
 use Rattle.busdma_rules.specs.Iommu.Space.{first_free}
-use Rattle.lane_agreement.specs.After.{addresses}
+use Rattle.lane_agreement.specs.After.{addresses_of_pages as addresses}
 use Rattle.busdma_rules.specs.Memory.Bios.{bio_translation, is_rounded}
 use Rattle.busdma_rules.specs.Memory.Translation.{physical_or_0}
 use Rattle.busdma_rules.specs.Memory.Vectors.{entries_of}
@@ -29,12 +29,15 @@ use Rattle.busdma_rules.specs.Segments.Chunks.{need_of}
 use Rattle.ideal_lane.specs.State.{LaneState, LaneMap, LaneMemory, named}
 use Rattle.ideal_lane.specs.Asking.{Asking, Gives, Asks, goes_on}
 use Rattle.ideal_lane.specs.IdealMemory.{IdealMemory}
-use Rattle.ideal_lane.specs.Loads.{Asked, asked, is_foreign_in, is_foreign_to, load_addresses, load_entries, load_judged}
-use Rattle.ideal_lane.specs.Loads.{are_few, chunks_for, device_load, ended, finished, granted, is_device, limits_of, load}
-use Rattle.ideal_lane.specs.Loads.{load_chunks, load_refusal, load_translation, taken, with_run, with_spaces, zone_of}
+use Rattle.ideal_lane.specs.Loads.{Asked, asked, is_foreign_in}
+use Rattle.ideal_lane.specs.Loads.{is_foreign_to, load_addresses, load_entries, load_judged}
+use Rattle.ideal_lane.specs.Loads.{are_few, chunks_for, device_load, ended}
+use Rattle.ideal_lane.specs.Loads.{finished, granted, is_device, limits_of, load}
+use Rattle.ideal_lane.specs.Loads.{load_chunks, load_refusal, load_translation}
+use Rattle.ideal_lane.specs.Loads.{taken, with_run, with_spaces, zone_of_map as zone_of}
 use Rattle.ideal_lane.specs.Outcomes.{Outcome, is_idle, refused, unless_absent, unless_refused}
 use Rattle.ideal_lane.specs.Places.{or_in_memory, physical}
-use Rattle.ideal_lane.specs.Sends.{outcome_with, with_memory}
+use Rattle.ideal_lane.specs.Sends.{outcome_with, with_bytes as with_memory}
 use Rattle.ideal_lane.proofs.Endings.{fits, fitting, too_big}
 
 module _ (w : IdealMemory) (l : LaneState) where

@@ -19,7 +19,7 @@ use Rattle.ideal_lane.specs.State.{LaneState, LaneMap}
 use Rattle.ideal_lane.specs.Unloads.{segments_in}
 use Rattle.ideal_lane.specs.Asking.{Asking}
 use Rattle.ideal_lane.specs.Outcomes.{Outcome, gives, unless_absent, unless_refused, unless_unloaded, unless_past}
-use Rattle.ideal_lane.specs.Places.{virtual_at, reached, bytes_at}
+use Rattle.ideal_lane.specs.Places.{virtual_at, first_unreached, bytes_at}
 
 -- the values of bytes
 abbrev pub values : LaneState → List ℕ → List ℕ
@@ -29,7 +29,7 @@ values l bytes = map (λ a. value (l.memory a)) bytes
 abbrev pub cpu_read : Place → ℕ → LaneState → Asking Outcome
 cpu_read place len l =
     unless_absent (virtual_at l place) l (λ va.
-    unless_refused (reached l va len) l (
+    unless_refused (first_unreached l va len) l (
     unless_refused (cpu_read_answer (is_known l.memory) l.loans (bytes_at l (run_of va len))) l (
     gives l (Bytes (values l (bytes_at l (run_of va len)))))))
 
@@ -37,7 +37,7 @@ cpu_read place len l =
 abbrev pub cpu_write : Place → List ℕ → LaneState → Asking Outcome
 cpu_write place vs l =
     unless_absent (virtual_at l place) l (λ va.
-    unless_refused (reached l va (length vs)) l (
+    unless_refused (first_unreached l va (length vs)) l (
     unless_refused (cpu_write_answer l.loans (bytes_at l (run_of va (length vs)))) l (
     gives (record l { memory = written (bytes_at l (run_of va (length vs))) vs l.memory }) Done)))
 

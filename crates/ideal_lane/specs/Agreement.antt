@@ -1,7 +1,7 @@
 -- How a driver and the account of all drivers agree, and what a step makes of that.
 use Rattle.std.specs.Prelude.{ℕ}
 use Rattle.busdma_machine.specs.Bounce.Account.{Account}
-use Rattle.busdma_machine.specs.Bounce.AccountStep.{Outcome, account_step}
+use Rattle.busdma_machine.specs.Bounce.AccountStep.{AccountReply, account_step}
 use Rattle.busdma_machine.specs.Bounce.Conditions.{MayCall}
 use Rattle.lane_agreement.specs.Agreement.{Agrees}
 use Rattle.ideal_lane.specs.State.{LaneState}
@@ -22,4 +22,4 @@ IsAllowed lane a (Asks c k) = MayCall lane c a
 abbrev pub KeepsAgreement : ℕ → Account → Asking Turned → Type 0
 KeepsAgreement lane a (Gives t) = AgreesWith t.lane a
 KeepsAgreement lane a (Asks c k) =
-    let o : Outcome = account_step lane c a in AgreesWith (k o.reply).lane o.account
+    let o : AccountReply = account_step lane c a in AgreesWith (k o.reply).lane o.account

@@ -28,8 +28,8 @@ use Rattle.busdma_machine.specs.Machine.Spans.{bio_spans, span_addresses, span_b
 use Rattle.busdma_rules.specs.Iommu.Device.{device_chunks, load_frames}
 use Rattle.busdma_rules.specs.Iommu.Space.{Space, entered, first_free}
 use Rattle.lane_agreement.specs.View.{queued_back}
-use Rattle.lane_agreement.specs.After.{addresses}
-use Rattle.busdma_base.specs.Scenarios.Queues.{queued}
+use Rattle.lane_agreement.specs.After.{addresses_of_pages}
+use Rattle.busdma_base.specs.Scenarios.Queues.{queued_items}
 use Rattle.busdma_rules.specs.Memory.Bios.{bio_translation, is_rounded}
 use Rattle.busdma_rules.specs.Lending.Loans.{new_loan}
 use Rattle.busdma_rules.specs.Memory.Translation.{Translation, physical_or_0}
@@ -151,7 +151,7 @@ is_coherent (Some x) = x.coherent
 abbrev pub loaded : ℕ → LaneMap → ℕ → Asked → List Chunk → List Segment → List ℕ → LaneState → LaneState
 loaded m o load_at x placed segments pages l = record (staged m o (Loaded (bounced_of placed) segments pages) l) {
   loans = insert l.loans m (new_loan (is_coherent (get l.mems m)) (entries_addresses x.entries));
-  queue = l.queue ++ queued load_at x.items;
+  queue = l.queue ++ queued_items load_at x.items;
 }
 
 -- where a map stands whose pages are on their way back
@@ -160,12 +160,12 @@ emptied [] = Idle
 emptied (p ∷ ps) = Returning
 
 -- the zone of a map, or 0 where it has none and so no pages
-abbrev pub zone_of : LaneMap → ℕ
-zone_of o = unwrap_or o.zone 0
+abbrev pub zone_of_map : LaneMap → ℕ
+zone_of_map o = unwrap_or o.zone 0
 
 -- the pages of a map leave it for the return queue
 abbrev pub unpaged : ℕ → LaneMap → List ℕ → LaneState → LaneState
-unpaged m o pages l = record (staged m o (emptied pages) l) { returns = l.returns ++ queued_back m (zone_of o) pages }
+unpaged m o pages l = record (staged m o (emptied pages) l) { returns = l.returns ++ queued_back m (zone_of_map o) pages }
 
 -- a load that has its pages ends with the segments of its chunks, or with EFBIG where they are more than the tag
 -- allows
@@ -186,7 +186,7 @@ waiting_load l x chunks = record { load_at = l.place; bio = x.bio; items = x.ite
 
 -- the reply to a load's wish for pages: it gets them, or waits, or is refused
 abbrev pub granted : ℕ → LaneMap → Asked → List Chunk → LaneState → HubReply → Outcome
-granted m o x chunks l (reply.Granted pages) = finished m o l.place x chunks (addresses pages) l
+granted m o x chunks l (reply.Granted pages) = finished m o l.place x chunks (addresses_of_pages pages) l
 granted m o x chunks l (reply.Queued have) = record {
   lane = staged m o (Waiting (waiting_load l x chunks)) l;
   answer = InProgress have (need_of chunks);
@@ -197,7 +197,7 @@ granted m o x chunks l _ = ended m o (Refused ENOMEM) l
 abbrev pub load_chunks : ℕ → LaneMap → Asked → List Chunk → LaneState → Asking Outcome
 load_chunks m o x chunks l =
     if need_of chunks == 0 then Gives (finished m o l.place x chunks [] l)
-    else Asks (Grab (named l m) (record { 0 = zone_of o }) (need_of chunks) x.nowait) (granted m o x chunks l)
+    else Asks (Grab (named l m) (record { 0 = zone_of_map o }) (need_of chunks) x.nowait) (granted m o x chunks l)
 
 -- the map is one of an IOMMU tag
 abbrev pub is_device : LaneState → LaneMap → Bool

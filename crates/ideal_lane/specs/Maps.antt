@@ -20,12 +20,12 @@ with_map t zone l =
 
 -- a map of a tag that could bounce was to be made; where the first allocation of the tag wanted more pages than came,
 -- it was not
-abbrev pub created : ℕ → LaneTag → LaneState → HubReply → Outcome
-created t o l (reply.Grown g) = record {
+abbrev pub map_by_reply : ℕ → LaneTag → LaneState → HubReply → Outcome
+map_by_reply t o l (reply.Grown g) = record {
   lane = if g.made then with_tag t o.limits true (with_map t (Some g.zone.0) l) else l;
   answer = Grown g;
 }
-created t o l _ = record { lane = l; answer = Refused ENOMEM }
+map_by_reply t o l _ = record { lane = l; answer = Refused ENOMEM }
 
 -- the loads of a tag's maps could bounce; those of an IOMMU tag never do
 abbrev pub bounces : ℕ → LaneTag → Bool
@@ -35,7 +35,7 @@ bounces maxmem t = not t.device && could_bounce t.limits maxmem
 abbrev pub map : ℕ → LaneState → Asking Outcome
 map t l =
     unless_absent (get l.tags t) l (λ o.
-    if bounces l.maxmem o then Asks (CreateMap (named l l.place) o.limits o.first_done) (created t o l)
+    if bounces l.maxmem o then Asks (CreateMap (named l l.place) o.limits o.first_done) (map_by_reply t o l)
     else gives (with_map t None l) Done)
 
 -- the driver without a map

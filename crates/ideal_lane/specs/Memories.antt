@@ -23,19 +23,19 @@ with_memory x zero l = record l {
 }
 
 -- a run of frames was asked for
-abbrev pub placed : ℕ → TagLimits → ℕ → LaneState → HubReply → Outcome
-placed t limits flags l (reply.Run first count) = record {
+abbrev pub memory_by_reply : ℕ → TagLimits → ℕ → LaneState → HubReply → Outcome
+memory_by_reply t limits flags l (reply.Run first count) = record {
   lane =
       with_memory (record { tag = t; first = first.0; count = count; len = limits.maxsize; coherent = coherent flags })
       (zero_filled flags) l;
   answer = Placed first;
 }
-placed t limits flags l _ = record { lane = l; answer = Refused ENOMEM }
+memory_by_reply t limits flags l _ = record { lane = l; answer = Refused ENOMEM }
 
 -- dmamem: a memory of a tag, named by this place
 abbrev pub dmamem : ℕ → ℕ → LaneState → Asking Outcome
 dmamem t flags l =
-    unless_absent (get l.tags t) l (λ o. Asks (MemAlloc (named l l.place) o.limits) (placed t o.limits flags l))
+    unless_absent (get l.tags t) l (λ o. Asks (MemAlloc (named l l.place) o.limits) (memory_by_reply t o.limits flags l))
 
 -- the driver without a memory, its map and its bytes
 abbrev pub without_memory : ℕ → LaneMemory → LaneState → LaneState

@@ -49,5 +49,5 @@ abbrev pub bytes_at : LaneState → List ℕ → List ℕ
 bytes_at l vas = map (physical_or_0 (physical l)) vas
 
 -- the first of `len` bytes from a virtual address on that the driver does not reach
-abbrev pub reached : LaneState → ℕ → ℕ → Judged
-reached l va len = judged (unreached (physical l)) 0 (run_of va len)
+abbrev pub first_unreached : LaneState → ℕ → ℕ → Judged
+first_unreached l va len = judged (unreached (physical l)) 0 (run_of va len)

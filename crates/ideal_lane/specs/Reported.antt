@@ -11,7 +11,7 @@ use Rattle.busdma_base.specs.declared.scenarios.script.Op.{Op}
 use Rattle.busdma_base.specs.Journals.Reports.{is_report}
 use Rattle.busdma_base.specs.Scenarios.Operations.{items_of}
 use Rattle.busdma_base.specs.declared.scenarios.queued.QueuedItem.{QueuedItem}
-use Rattle.busdma_base.specs.Scenarios.Queues.{queued}
+use Rattle.busdma_base.specs.Scenarios.Queues.{queued_items}
 use Rattle.ideal_lane.specs.State.{LaneState, LaneMap, Stage, Idle, Waiting, Loaded, Returning}
 use Rattle.ideal_lane.specs.Turns.{Turn, Stepped, Blocked, Ended}
 
@@ -40,12 +40,12 @@ remaining _ _ queue = queue
 -- the items of an operation at a place
 abbrev pub items_at : ℕ → Option Op → List QueuedItem
 items_at place None = []
-items_at place (Some o) = queued place (items_of o)
+items_at place (Some o) = queued_items place (items_of o)
 
 -- the items of the load for which a map waits that stands so
 abbrev pub items_awaited : Stage → List QueuedItem
 items_awaited Idle = []
-items_awaited (Waiting v) = queued v.load_at v.items
+items_awaited (Waiting v) = queued_items v.load_at v.items
 items_awaited (Loaded bounced segments pages) = []
 items_awaited Returning = []
 

@@ -15,7 +15,7 @@ use Rattle.busdma_machine.specs.declared.report.Judged.{Judged}
 use Rattle.busdma_machine.specs.declared.report.Judged.TheVariants.{Fine, Refused}
 use Rattle.busdma_machine.specs.declared.report.Report.{Report}
 use Rattle.busdma_machine.specs.declared.report.ReportName.TheVariants.{Untranslated}
-use Rattle.busdma_base.specs.Scenarios.Queues.{queued}
+use Rattle.busdma_base.specs.Scenarios.Queues.{queued_items}
 use Rattle.busdma_rules.specs.Lending.Access.{dev_read_answer, dev_write_answer}
 use Rattle.busdma_rules.specs.Lending.Loans.{loan_of, load_bytes}
 use Rattle.busdma_rules.specs.declared.descriptor.Descriptor.{Descriptor}
@@ -90,7 +90,7 @@ ring_post k slot m off len kind fill l =
 abbrev pub kick : ℕ → List Item → LaneState → Asking Outcome
 kick k steps l =
     unless_absent (get l.rings k) l (λ r.
-    gives (record l { queue = l.queue ++ queued l.place steps }) answer.Done)
+    gives (record l { queue = l.queue ++ queued_items l.place steps }) answer.Done)
 
 -- The device
 

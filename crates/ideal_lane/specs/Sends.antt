@@ -98,16 +98,16 @@ abbrev pub cluster_bytes : Send → LaneState → List ℕ
 cluster_bytes s l = load_addresses l (Vector s.clusters)
 
 -- the driver with these bytes
-abbrev pub with_memory : IdealMemory → LaneState → LaneState
-with_memory memory l = record l { memory = memory }
+abbrev pub with_bytes : IdealMemory → LaneState → LaneState
+with_bytes memory l = record l { memory = memory }
 
 -- the outcome with these bytes of the driver
 abbrev pub outcome_with : IdealMemory → Outcome → Outcome
-outcome_with memory o = record { lane = with_memory memory o.lane; answer = o.answer }
+outcome_with memory o = record { lane = with_bytes memory o.lane; answer = o.answer }
 
 -- the clusters have the bytes of the chain, in order
 abbrev pub copied : Send → LaneState → LaneState
-copied s l = with_memory (written (cluster_bytes s l) (values l (chain_bytes s l)) l.memory) l
+copied s l = with_bytes (written (cluster_bytes s l) (values l (chain_bytes s l)) l.memory) l
 
 -- the load of the clusters, which never waits
 abbrev pub load_again : Send → LaneState → Asking Outcome

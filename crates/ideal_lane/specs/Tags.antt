@@ -21,15 +21,15 @@ abbrev pub with_tag : ℕ → TagLimits → Bool → LaneState → LaneState
 with_tag k t first_done l = record l { tags = insert l.tags k (record { limits = t; first_done = first_done; device = false }) }
 
 -- a tag's first allocation has grown its zone; where too few pages came there is no tag
-abbrev pub attached : TagLimits → LaneState → HubReply → Outcome
-attached t l (reply.Grown g) = record { lane = if g.made then with_tag l.place t true l else l; answer = Grown g }
-attached t l _ = record { lane = l; answer = Refused ENOMEM }
+abbrev pub tag_by_reply : TagLimits → LaneState → HubReply → Outcome
+tag_by_reply t l (reply.Grown g) = record { lane = if g.made then with_tag l.place t true l else l; answer = Grown g }
+tag_by_reply t l _ = record { lane = l; answer = Refused ENOMEM }
 
 -- the effective tag of this place, or EINVAL where there is none
 abbrev pub tag_or_invalid : Option TagLimits → LaneState → Asking Outcome
 tag_or_invalid None l = gives l (Refused EINVAL)
 tag_or_invalid (Some t) l =
-    if could_bounce t l.maxmem && allocnow t.flags then Asks (AttachTag t) (attached t l)
+    if could_bounce t l.maxmem && allocnow t.flags then Asks (AttachTag t) (tag_by_reply t l)
     else gives (with_tag l.place t false l) Done
 
 -- tag: named by this place, perhaps below a parent

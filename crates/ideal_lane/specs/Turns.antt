@@ -23,8 +23,8 @@ use Rattle.busdma_base.specs.declared.scenarios.script.Item.TheVariants as item
 use Rattle.busdma_base.specs.declared.scenarios.script.Op.{Op}
 use Rattle.busdma_base.specs.declared.scenarios.script.Op.TheVariants as op
 use Rattle.busdma_base.specs.Scenarios.Operations.{bytes_of}
-use Rattle.busdma_rules.specs.Tags.LoadFlags.{nowait}
-use Rattle.lane_agreement.specs.After.{addresses}
+use Rattle.busdma_rules.specs.Tags.LoadFlags.{load_nowait}
+use Rattle.lane_agreement.specs.After.{addresses_of_pages}
 use Rattle.lane_agreement.specs.View.{Return}
 use Rattle.busdma_base.specs.declared.scenarios.queued.QueuedItem.{QueuedItem}
 use Rattle.busdma_base.specs.Scenarios.Queues.{queue_names}
@@ -81,10 +81,10 @@ bio_at l (buffer.Send chain clusters) = Some (bio.Vector chain)
 
 -- the load of a buffer with these flags is refused where it would have to wait, as those of chains always are
 abbrev pub never_waits : Buffer → ℕ → Bool
-never_waits (buffer.Flat place len) flags = nowait flags
-never_waits (buffer.Vector spans) flags = nowait flags
+never_waits (buffer.Flat place len) flags = load_nowait flags
+never_waits (buffer.Vector spans) flags = load_nowait flags
 never_waits (buffer.Mbuf chain) flags = true
-never_waits (buffer.Bio b) flags = nowait flags
+never_waits (buffer.Bio b) flags = load_nowait flags
 never_waits (buffer.Send chain clusters) flags = true
 
 -- a load of a buffer
@@ -178,9 +178,9 @@ due_turn None l = next_operation (slice_get l.script l.place) l
 due_turn (Some s) l = goes_on (resent l.place) (sends.resend s l)
 
 -- how many maps a release made complete
-abbrev pub served : HubReply → ℕ
-served (reply.Served n) = n
-served _ = 0
+abbrev pub maps_completed : HubReply → ℕ
+maps_completed (reply.Served n) = n
+maps_completed _ = 0
 
 -- the first page of the return queue goes back to its zone
 abbrev pub release : Return → List Return → LaneState → Asking Turned
@@ -188,7 +188,7 @@ release r rest l =
     let page : Pa = record { 0 = r.page } in
     Asks (hold.Release (named l r.map) (record { 0 = r.zone }) page) (λ got.
     stepped side.Script (did.Release (named l r.map) page)
-    (record { lane = unloads.given_back r rest l; answer = answer.Served (served got) }))
+    (record { lane = unloads.given_back r rest l; answer = answer.Served (maps_completed got) }))
 
 -- the turn of the script: pages go back first, and a resend stands before the next operation
 abbrev pub script_turn : List Return → LaneState → Asking Turned
@@ -245,7 +245,7 @@ called m (Some o) pages l = called_in m o o.stage pages l
 -- the turn by the reply to the taking of a callback
 abbrev pub called_back : LaneState → HubReply → Turned
 called_back l (reply.Called m pages) =
-    stepped side.Callback (did.Callback m) (called m.made_at (get l.maps m.made_at) (addresses pages) l)
+    stepped side.Callback (did.Callback m) (called m.made_at (get l.maps m.made_at) (addresses_of_pages pages) l)
 called_back l _ = stays Blocked l
 
 -- the turn of the callbacks: the head of the callback list, where it is this driver's

@@ -3,7 +3,7 @@ use Rattle.std.specs.Prelude.{ℕ, ◌==◌, ◌/◌, List, [], ◌∷◌, Optio
 use Rattle.std.specs.FinMap.{get, insert, remove}
 use Rattle.busdma_base.specs.declared.journals.answer.Answer.TheVariants.{Done}
 use Rattle.busdma_machine.specs.declared.machine.address.Segment.{Segment}
-use Rattle.busdma_rules.specs.Iommu.Space.{left}
+use Rattle.busdma_rules.specs.Iommu.Space.{run_unmapped}
 use Rattle.lane_agreement.specs.View.{Return, returning}
 use Rattle.busdma_rules.specs.Lending.Syncing.{lost_by_forgetting}
 use Rattle.ideal_lane.specs.IdealMemory.{forgotten}
@@ -21,8 +21,8 @@ pages_of (Loaded bounced segments pages) = pages
 pages_of Returning = []
 
 -- the map lends nothing any more, and what it lent to write is Unknown
-abbrev pub unlent : ℕ → LaneState → LaneState
-unlent m l = record l {
+abbrev pub loan_forgotten : ℕ → LaneState → LaneState
+loan_forgotten m l = record l {
   loans = remove l.loans m;
   memory = forgotten (lost_by_forgetting l.loans m) l.memory;
 }
@@ -42,11 +42,11 @@ first_of (s ∷ ss) = s.addr.0 / 4096
 -- the live run of a map's load ends, where it has one
 abbrev pub unmapped : LaneMap → LaneState → LaneState
 unmapped o l =
-    record l { spaces = with_space o.tag (left (first_of (segments_in o.stage)) (l.spaces o.tag)) l.spaces }
+    record l { spaces = with_space o.tag (run_unmapped (first_of (segments_in o.stage)) (l.spaces o.tag)) l.spaces }
 
 -- unload: the map's lending ends, and its pages join the return queue
 abbrev pub unload : ℕ → LaneState → Asking Outcome
-unload m l = unless_unloaded m l (λ o. gives (unmapped o (unpaged m o (pages_of o.stage) (unlent m l))) Done)
+unload m l = unless_unloaded m l (λ o. gives (unmapped o (unpaged m o (pages_of o.stage) (loan_forgotten m l))) Done)
 
 -- where a map stands of which a page left the return queue
 abbrev pub after_return : ℕ → List Return → Stage

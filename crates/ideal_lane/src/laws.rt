@@ -35,7 +35,7 @@ ghost use Rattle.ideal_lane.specs.Opening.{opening_lane};
 ghost use Rattle.ideal_lane.specs.Reported.{gone_on, is_reported, joining, remaining};
 ghost use Rattle.ideal_lane.specs.Resends.{is_operation, is_resend, times_done};
 ghost use Rattle.ideal_lane.specs.Scripts.{AreBelow, LooksSame, NoneEnded, made_under, turned_under, with_script};
-ghost use Rattle.ideal_lane.specs.Sends.{HaveClusters, Send, due_send, outcome_with, with_memory};
+ghost use Rattle.ideal_lane.specs.Sends.{HaveClusters, Send, due_send, outcome_with, with_bytes};
 ghost use Rattle.ideal_lane.specs.Standing.{KeepsStanding, Stands};
 ghost use Rattle.ideal_lane.specs.Rings.{Candidate, allowed, candidates, head_of, judged_at};
 ghost use Rattle.ideal_lane.specs.State.{LaneRing, LaneState};
@@ -110,11 +110,11 @@ pub fn no_send_has_a_third_load()
 /// entries, makes the same call, and leaves the same driver but for these bytes, whatever the reply.
 pub fn loads_look_at_no_byte()
     ensures judged { (map : ℕ) (bio : Bio) (memory : IdealMemory) (l : LaneState) →
-        load_judged (with_memory memory l) map bio ≡ load_judged l map bio }
+        load_judged (with_bytes memory l) map bio ≡ load_judged l map bio }
     ensures entries { (bio : Bio) (memory : IdealMemory) (l : LaneState) →
-        load_entries (with_memory memory l) bio ≡ load_entries l bio }
+        load_entries (with_bytes memory l) bio ≡ load_entries l bio }
     ensures load { (map : ℕ) (bio : Bio) (nowait : Bool) (items : List Item) (memory : IdealMemory)
-        (l : LaneState) → load map (asked map bio nowait items (with_memory memory l)) (with_memory memory l)
+        (l : LaneState) → load map (asked map bio nowait items (with_bytes memory l)) (with_bytes memory l)
         ≡ goes_on (outcome_with memory) (load map (asked map bio nowait items l) l) }
 {}
 

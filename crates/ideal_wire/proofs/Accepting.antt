@@ -24,7 +24,7 @@ use Rattle.busdma_base.specs.Scenarios.Buffers.{IsBioOf}
 use Rattle.busdma_machine.specs.Tags.Tag.{IsEffective}
 use Rattle.busdma_machine.specs.Tags.TagFlags.{keep_pg_offset}
 use Rattle.lane_agreement.specs.After as after
-use Rattle.busdma_rules.specs.Lending.Loans.{Loan, loan_of, no_loan, addresses_of, unlent, new_loan}
+use Rattle.busdma_rules.specs.Lending.Loans.{Loan, loan_of, no_loan, addresses_of, unlent_positions as unlent, new_loan}
 use Rattle.busdma_rules.specs.Memory.Bios.{is_rounded}
 use Rattle.busdma_rules.specs.Memory.Translation.{physical_or_0}
 use Rattle.busdma_rules.proofs.Memory.Vectors.{entries_are}
@@ -55,7 +55,7 @@ use Rattle.ideal_wire.proofs.Reaching.{AllReached, all-reached, byte-below, entr
 
 -- ---- small lists
 
-pub same-pages : (pages : List ℕ) → after.addresses (as_pages pages) ≡ pages
+pub same-pages : (pages : List ℕ) → after.addresses_of_pages (as_pages pages) ≡ pages
 same-pages [] = refl
 same-pages (p ∷ pages) = ap (λ xs. p ∷ xs) (same-pages pages)
 

@@ -18,7 +18,7 @@ use Rattle.busdma_machine.specs.declared.name.MapId.{MapId}
 use Rattle.busdma_base.specs.declared.scenarios.script.Item.{Item}
 use Rattle.busdma_machine.specs.declared.tags.tag.TagLimits.{TagLimits}
 use Rattle.busdma_machine.specs.Bounce.Account.{Account, zone_at}
-use Rattle.busdma_machine.specs.Bounce.AccountStep.{Outcome as CallOutcome, as_pages, called_from}
+use Rattle.busdma_machine.specs.Bounce.AccountStep.{AccountReply as CallOutcome, as_pages, called_from}
 use Rattle.busdma_machine.specs.Bounce.EachFrame.{EachFrame}
 use Rattle.busdma_machine.specs.Bounce.Growth.{serves_tag}
 use Rattle.busdma_machine.specs.Bounce.History.{IsFrame}

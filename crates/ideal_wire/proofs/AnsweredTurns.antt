@@ -23,7 +23,7 @@ use Rattle.busdma_machine.specs.Bounce.Growth.{serves_tag}
 use Rattle.busdma_machine.specs.Bounce.History.{IsFrame}
 use Rattle.busdma_machine.specs.Bounce.LowPages.{PagesLieLow}
 use Rattle.busdma_base.specs.Scenarios.Buffers.{IsBioOf}
-use Rattle.lane_agreement.specs.After.{addresses}
+use Rattle.lane_agreement.specs.After.{addresses_of_pages as addresses}
 use Rattle.lane_agreement.specs.Agreement.{IsFit}
 use Rattle.lane_agreement.specs.View as view
 use Rattle.lane_agreement.proofs.Whole.{called-length, granted-length}
@@ -31,7 +31,7 @@ use Rattle.busdma_rules.specs.Segments.Chunks.{need_of}
 use Rattle.busdma_rules.specs.Segments.Obeying.{IsReachable}
 use Rattle.ideal_lane.specs.Agreement.{AgreesWith}
 use Rattle.ideal_lane.specs.Asking.{Asking, Gives, Asks, call_of, by_reply}
-use Rattle.ideal_lane.specs.Loads.{Asked, asked, chunks_for, finished, limits_of, zone_of}
+use Rattle.ideal_lane.specs.Loads.{Asked, asked, chunks_for, finished, limits_of, zone_of_map as zone_of}
 use Rattle.ideal_lane.specs.Outcomes.{Outcome}
 use Rattle.ideal_lane.specs.Standing.{Stands}
 use Rattle.ideal_lane.specs.State.{LaneState, LaneMap, LaneMemory, named}

@@ -21,7 +21,7 @@ use Rattle.busdma_machine.specs.Runs.{run_of}
 use Rattle.busdma_base.specs.Scenarios.Buffers.{IsBioOf}
 use Rattle.busdma_machine.specs.Tags.Tag.{IsEffective}
 use Rattle.busdma_rules.specs.Memory.Bios.{is_rounded}
-use Rattle.busdma_rules.specs.Memory.Extents.{reached, then_reached}
+use Rattle.busdma_rules.specs.Memory.Extents.{reached_addresses as reached, then_reached}
 use Rattle.busdma_rules.specs.Memory.Translation.{Translation, physical_or_0}
 use Rattle.busdma_rules.specs.Memory.Vectors.{entries_of, with_entry}
 use Rattle.busdma_rules.proofs.Memory.Paged.{IsPaged}

@@ -4,7 +4,7 @@ use Rattle.std.proofs.Common.{◌∙◌, subst}
 use Rattle.ideal_lane.specs.Sends.{Send}
 use Rattle.ideal_lane.specs.State.{LaneState}
 use Rattle.ideal_lane.specs.State.{named}
-use Rattle.ideal_lane.specs.Loads.{zone_of}
+use Rattle.ideal_lane.specs.Loads.{zone_of_map as zone_of}
 use Rattle.ideal_lane.specs.Turns.{bio_at, never_waits}
 use Rattle.busdma_machine.specs.declared.machine.bio.Bio.{Bio}
 use Rattle.busdma_machine.specs.declared.machine.bio.Bio.TheVariants.{Vector}

@@ -9,7 +9,8 @@ use Rattle.std.specs.FinMap.{get, insert, remove}
 use Rattle.busdma_machine.specs.Bounce.MemoryRuns.{in_run}
 use Rattle.busdma_machine.specs.Machine.Wire.{Wire, Placed}
 use Rattle.busdma_rules.specs.declared.position.Position.{Position}
-use Rattle.busdma_rules.specs.Lending.Loans.{Loan, loan_of, no_loan, addresses_of, to_write, in_any_way, lent, unlent}
+use Rattle.busdma_rules.specs.Lending.Loans.{Loan, loan_of, no_loan, addresses_of}
+use Rattle.busdma_rules.specs.Lending.Loans.{to_write, in_any_way, lent, unlent_positions as unlent}
 use Rattle.busdma_rules.specs.Lending.Loans.{new_loan}
 use Rattle.busdma_rules.specs.Lending.Syncing.{lost_by_forgetting}
 use Rattle.ideal_lane.specs.IdealMemory.{Known, forgotten}

@@ -18,7 +18,7 @@ use Rattle.busdma_rules.specs.Segments.Building.{IsPlaceable}
 use Rattle.busdma_rules.specs.Segments.Chunks.{bounced_of, chunk_limit, chunk_of, chunks_from, chunks_of}
 use Rattle.busdma_rules.specs.Segments.Chunks.{chunks_of_bytes}
 use Rattle.busdma_rules.specs.Segments.Chunks.{chunks_within, extent_from, to_frame_end}
-use Rattle.busdma_rules.specs.Segments.Trace.{chunk_len, first_page, in_page, placed}
+use Rattle.busdma_rules.specs.Segments.Trace.{chunk_len, first_page, in_page, chunks_in_pages as placed}
 use Rattle.busdma_rules.proofs.Segments.Chunking.{limit_reaches}
 use Rattle.busdma_rules.proofs.Segments.Sound.{all_append, chunks_sound}
 use Rattle.ideal_wire.specs.Laid.{IsOfExtents}

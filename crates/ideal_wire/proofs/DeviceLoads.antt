@@ -50,7 +50,7 @@ use Rattle.busdma_rules.specs.Segments.Pieces.{chunk_pieces}
 use Rattle.busdma_rules.proofs.Segments.Bytes.{pieces_bytes, segmentation_bytes}
 use Rattle.ideal_wire.proofs.Accepting.{fits, limits-effective, segments, traces-are}
 use Rattle.ideal_wire.proofs.LoadLaid.{device-direct, none-placed}
-use Rattle.busdma_rules.specs.Segments.Trace.{bus_trace, placed}
+use Rattle.busdma_rules.specs.Segments.Trace.{bus_trace, chunks_in_pages as placed}
 
 same-placed : (keep : Bool) (page at : ℕ) (es : List Entry) (pages : List Pa) →
     placed keep (device_chunks page at es) pages ≡ device_chunks page at es

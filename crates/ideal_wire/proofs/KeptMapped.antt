@@ -8,7 +8,8 @@ use Rattle.std.specs.List.{AllByRecursion, Contains}
 use Rattle.std.specs.Option.{option_map, option_map_or}
 use Rattle.busdma_machine.specs.declared.machine.address.Segment.{Segment}
 use Rattle.busdma_machine.specs.Machine.Wire.{buses}
-use Rattle.busdma_rules.specs.Iommu.Space.{AreRuns, DeviceRun, Space, entered, first_free, frame_at, has_page, left}
+use Rattle.busdma_rules.specs.Iommu.Space.{AreRuns, DeviceRun, Space, entered}
+use Rattle.busdma_rules.specs.Iommu.Space.{first_free, frame_of_page as frame_at, has_page, run_unmapped as left}
 use Rattle.busdma_rules.specs.Iommu.Space.{translated}
 use Rattle.busdma_rules.proofs.Iommu.Entering.{frame-left, frame-other}
 use Rattle.busdma_rules.proofs.Iommu.Members.{gap-new, left-others, place-in, put-others}

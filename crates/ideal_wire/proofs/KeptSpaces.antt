@@ -24,7 +24,7 @@ use Rattle.busdma_machine.specs.Tags.Tag.{effective, is_accepted, rounded, space
 use Rattle.busdma_machine.specs.Tags.TagFlags.{keep_pg_offset}
 use Rattle.busdma_rules.specs.Iommu.Device.{load_frames}
 use Rattle.busdma_rules.proofs.Iommu.Runs.{taken-fits, taken-gap}
-use Rattle.busdma_rules.specs.Iommu.Space.{Space, entered, first_free, left}
+use Rattle.busdma_rules.specs.Iommu.Space.{Space, entered, first_free, run_unmapped as left}
 use Rattle.busdma_rules.proofs.Iommu.Runs.{gap-low, runs-left, runs-put}
 use Rattle.busdma_rules.specs.Memory.Bios.{is_rounded}
 use Rattle.busdma_rules.proofs.Memory.Vectors.{entries_are}

@@ -21,7 +21,7 @@ use Rattle.busdma_machine.specs.Bounce.MemoryRuns.{frames_for, in_run, lowest_ru
 use Rattle.busdma_base.specs.Scenarios.Buffers.{IsBioOf}
 use Rattle.busdma_machine.specs.Tags.Tag.{excluded}
 use Rattle.busdma_rules.specs.Tags.MemFlags.{coherent, zero_filled}
-use Rattle.lane_agreement.specs.After.{addresses}
+use Rattle.lane_agreement.specs.After.{addresses_of_pages as addresses}
 use Rattle.lane_agreement.specs.Agreement.{IsFit}
 use Rattle.lane_agreement.proofs.Whole.{called-length, granted-length}
 use Rattle.busdma_base.specs.declared.scenarios.queued.QueuedItem.{QueuedItem}
@@ -30,7 +30,7 @@ use Rattle.busdma_rules.specs.Segments.Chunks.{chunks_of, need_of}
 use Rattle.busdma_rules.specs.Segments.Trace.{IsPage}
 use Rattle.ideal_lane.specs.Agreement.{AgreesWith}
 use Rattle.ideal_lane.specs.Asking.{Asking, Gives, Asks, call_of, by_reply}
-use Rattle.ideal_lane.specs.Loads.{Asked, chunks_for, finished, limits_of, staged, zone_of}
+use Rattle.ideal_lane.specs.Loads.{Asked, chunks_for, finished, limits_of, staged, zone_of_map as zone_of}
 use Rattle.ideal_lane.specs.Outcomes.{Outcome}
 use Rattle.ideal_lane.specs.Standing.{Stands}
 use Rattle.ideal_lane.specs.State.{LaneState, LaneMemory, Waiting, named}

@@ -15,11 +15,11 @@ use Rattle.busdma_machine.specs.Machine.Entry.{IsEntry, entries_addresses}
 use Rattle.busdma_machine.specs.Tags.Tag.{IsEffective}
 use Rattle.busdma_machine.specs.Tags.TagFlags.{keep_pg_offset}
 use Rattle.busdma_rules.specs.declared.position.Position.{Position}
-use Rattle.busdma_rules.specs.Lending.Loans.{Loan, loan_of, no_loan, new_loan, unlent}
+use Rattle.busdma_rules.specs.Lending.Loans.{Loan, loan_of, no_loan, new_loan, unlent_positions as unlent}
 use Rattle.busdma_rules.specs.Syncs.Traces.{HasChunks}
 use Rattle.busdma_rules.specs.Segments.Building.{tag_placed}
 use Rattle.busdma_rules.specs.Segments.Chunks.{bounced_of, chunks_of, need_of}
-use Rattle.busdma_rules.specs.Segments.Trace.{IsPage, IsPlaced, first_page, in_page, placed}
+use Rattle.busdma_rules.specs.Segments.Trace.{IsPage, IsPlaced, first_page, in_page, chunks_in_pages as placed}
 use Rattle.busdma_rules.proofs.Segments.Covering.{chunks_at, chunks_cover}
 use Rattle.busdma_rules.proofs.Segments.Sound.{chunks_sound, placed_are}
 use Rattle.busdma_rules.specs.Iommu.Device.{device_chunks}

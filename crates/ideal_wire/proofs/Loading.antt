@@ -14,7 +14,7 @@ use Rattle.busdma_machine.specs.Runs.{addresses, run_of}
 use Rattle.busdma_rules.specs.Segments.Chunks.{bounced_of, need_of}
 use Rattle.busdma_rules.specs.Segments.Trace.{IsPage, IsPlaced, bus_addresses, bus_extent, bus_from, bus_trace}
 use Rattle.busdma_rules.specs.Segments.Trace.{chunk_extents}
-use Rattle.busdma_rules.specs.Segments.Trace.{chunk_len, first_page, in_page, page_offset, placed}
+use Rattle.busdma_rules.specs.Segments.Trace.{chunk_len, first_page, in_page, page_offset, chunks_in_pages as placed}
 use Rattle.busdma_rules.proofs.Segments.Counting.{addresses_length}
 use Rattle.lane_agreement.specs.After as after
 use Rattle.ideal_wire.specs.Laid.{IsInPage}
@@ -43,7 +43,7 @@ in-frame keep c page p is =
 
 pub zipped : (keep : Bool) (cs : List Chunk) (pages : List Pa) → AllByRecursion IsPlaced (placed keep cs pages) →
     AllByRecursion IsPage pages → length pages ≡ need_of cs →
-    AllZip IsInPage (bounced_of (placed keep cs pages)) (after.addresses pages)
+    AllZip IsInPage (bounced_of (placed keep cs pages)) (after.addresses_of_pages pages)
 zipped keep [] [] all are few = tt
 zipped keep [] (p ∷ ps) all are few = absurd (omega (arith, few))
 zipped keep (c ∷ cs) pages all are few = by (λ ps. zipped keep cs ps) c.bounced refl pages all are few
@@ -54,20 +54,20 @@ zipped keep (c ∷ cs) pages all are few = by (λ ps. zipped keep cs ps) c.bounc
 
     Rest : Type 0
     Rest = (ps : List Pa) → AllByRecursion IsPlaced (placed keep cs ps) → AllByRecursion IsPage ps →
-        length ps ≡ need_of cs → AllZip IsInPage (bounced_of (placed keep cs ps)) (after.addresses ps)
+        length ps ≡ need_of cs → AllZip IsInPage (bounced_of (placed keep cs ps)) (after.addresses_of_pages ps)
 
     by : Rest → (b : Bool) → c.bounced ≡ b → (ps : List Pa) → AllByRecursion IsPlaced (abbreviated b ps) →
         AllByRecursion IsPage ps → length ps ≡ length (cond b (c ∷ bounced_of cs) (bounced_of cs)) →
-        AllZip IsInPage (bounced_of (abbreviated b ps)) (after.addresses ps)
+        AllZip IsInPage (bounced_of (abbreviated b ps)) (after.addresses_of_pages ps)
     by more true e [] all are few = absurd (omega (arith, few))
     by more true e (p ∷ ps) all are few =
         let here : IsInPage (in_page keep p c) p.0 = in-frame keep c p are.0 all.0 in
         subst (λ b. AllZip IsInPage (cond b (in_page keep p c ∷ bounced_of (placed keep cs ps))
-        (bounced_of (placed keep cs ps))) (p.0 ∷ after.addresses ps)) (sym e)
+        (bounced_of (placed keep cs ps))) (p.0 ∷ after.addresses_of_pages ps)) (sym e)
         (here, more ps all.1 are.1 (omega (arith, few)))
     by more false e ps all are few =
         subst (λ b. AllZip IsInPage (cond b (c ∷ bounced_of (placed keep cs ps)) (bounced_of (placed keep cs ps)))
-        (after.addresses ps)) (sym e) (more ps all.1 are few)
+        (after.addresses_of_pages ps)) (sym e) (more ps all.1 are few)
 
 -- ---- chunks that follow one another
 

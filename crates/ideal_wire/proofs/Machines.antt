@@ -12,7 +12,7 @@ use Rattle.busdma_machine.specs.Tags.Tag.{IsEffective, space_limits}
 use Rattle.busdma_rules.specs.Tags.MemFlags.{coherent}
 use Rattle.ideal_lane.specs.State.{LaneState, LaneTag, LaneMemory}
 use Rattle.ideal_lane.specs.Asking.{by_reply}
-use Rattle.ideal_lane.specs.Memories.{placed, without_memory}
+use Rattle.ideal_lane.specs.Memories.{memory_by_reply as placed, without_memory}
 use Rattle.ideal_lane.specs.Outcomes.{Outcome}
 use Rattle.ideal_lane.specs.Tags.{with_tag}
 use Rattle.ideal_lane.specs.Turns.{Turned, lane_step}

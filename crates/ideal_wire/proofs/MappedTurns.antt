@@ -21,7 +21,8 @@ use Rattle.busdma_base.specs.Scenarios.Buffers.{IsBioOf}
 use Rattle.busdma_rules.specs.Iommu.Device.{device_chunks, load_frames}
 use Rattle.busdma_rules.proofs.Iommu.Carrying.{Carries, device-first, device-none, device-within}
 use Rattle.busdma_rules.proofs.Iommu.Spaces.{entered-carries}
-use Rattle.busdma_rules.specs.Iommu.Space.{DeviceRun, Space, end_of, entered, has_page, left, translated}
+use Rattle.busdma_rules.specs.Iommu.Space.{DeviceRun, Space, run_end as end_of}
+use Rattle.busdma_rules.specs.Iommu.Space.{entered, has_page, run_unmapped as left, translated}
 use Rattle.busdma_rules.proofs.Iommu.Members.{gap-new, live-is, put-in}
 use Rattle.busdma_rules.proofs.Iommu.Runs.{taken-fits, taken-gap}
 use Rattle.busdma_rules.specs.Lending.Loans.{Loan, addresses_of, loan_of, new_loan, no_loan}
@@ -45,7 +46,7 @@ use Rattle.ideal_lane.specs.Standing.{IsPageless, Stands}
 use Rattle.ideal_lane.specs.State.{LaneState, LaneMap, LaneTag, Idle, Waiting, Loaded, Returning, WaitingLoad, no_space}
 use Rattle.ideal_lane.specs.Tags.{has_maps, with_space, with_tag, with_device_tag}
 use Rattle.ideal_lane.specs.Turns.{Turned, lane_step, never_waits}
-use Rattle.ideal_lane.specs.Unloads.{after_return, first_of, pages_of, segments_in, unlent, unmapped}
+use Rattle.ideal_lane.specs.Unloads.{after_return, first_of, pages_of, segments_in, loan_forgotten as unlent, unmapped}
 use Rattle.ideal_lane.specs.Loads.{unpaged}
 use Rattle.ideal_lane.proofs.Effects.{Advances, AtOnce, Attaches, Begins, Called, Calls, Creates, Device, Ends, Frees}
 use Rattle.ideal_lane.proofs.Effects.{Spaces}

@@ -19,7 +19,7 @@ use Rattle.busdma_machine.specs.Machine.VirtualPages.{pages_end}
 use Rattle.busdma_base.specs.Scenarios.PageRuns.{is_in_run, physical_in}
 use Rattle.busdma_machine.specs.Runs.{run_of}
 use Rattle.busdma_machine.specs.Tags.Tag.{IsEffective}
-use Rattle.busdma_rules.specs.Memory.Extents.{reached}
+use Rattle.busdma_rules.specs.Memory.Extents.{reached_addresses as reached}
 use Rattle.busdma_rules.specs.Memory.Translation.{physical_or_0}
 use Rattle.busdma_machine.specs.Machine.Spans.{bio_spans, one_span, span_addresses, span_bytes}
 use Rattle.busdma_rules.specs.Memory.Vectors.{entries_of, with_entry}

@@ -19,7 +19,7 @@ use Rattle.busdma_machine.specs.Bounce.History.{IsFrame}
 use Rattle.busdma_machine.specs.Bounce.MemoryRuns.{begins_run, crosses_none, follow, frames_for, frames_from}
 use Rattle.busdma_machine.specs.Bounce.MemoryRuns.{in_run, lowest_run}
 use Rattle.busdma_machine.specs.Bounce.Places.{times}
-use Rattle.busdma_machine.specs.Bounce.Serving.{handed, queued}
+use Rattle.busdma_machine.specs.Bounce.Serving.{handed, waiting_at_tail as queued}
 use Rattle.lane_agreement.specs.OwnShare.{one_if}
 use Rattle.lane_agreement.proofs.Own.{count-one}
 use Rattle.ideal_lane.specs.Agreement.{AgreesWith}
@@ -98,7 +98,7 @@ given len boundary limit (g ∷ gs) first all e =
 
 -- a run of the account has as many frames as a memory's bytes need
 pub run-is : (m : MapId) (n : ℕ) (low : Option ℕ) (a : Account) (first : Pa) (count : ℕ) →
-    (account.placed m n low a).reply ≡ reply.Run first count → (low ≡ Some first.0) × (n ≡ count)
+    (account.memory_placed m n low a).reply ≡ reply.Run first count → (low ≡ Some first.0) × (n ≡ count)
 run-is m n None a first count e = absurd (cc)
 run-is m n (Some f) a first count e =
     let at : record { 0 = f } ≡ first = cc in
@@ -153,7 +153,7 @@ module _ (l : LaneState) (a : Account) (agrees : AgreesWith l a) (frames : EachF
   grabbed-new : (m : MapId) (z need : ℕ) (nowait : Bool) → BringsNew l (grabbed m z need nowait a).reply
   grabbed-new m z need nowait = by (nat_le need (free a z)) nowait
     where
-      by : (b c : Bool) → BringsNew l (account.Outcome.reply
+      by : (b c : Bool) → BringsNew l (account.AccountReply.reply
           (if b then record {
             account = handed a m z need;
             reply = reply.Granted (as_pages (Rattle.std.proofs.Common.take need (zone_at a z).avail));
@@ -171,7 +171,7 @@ module _ (l : LaneState) (a : Account) (agrees : AgreesWith l a) (frames : EachF
       b : Account
       b = record a { ready = ws }
 
-      by : (t : Bool) → BringsNew l (account.Outcome.reply
+      by : (t : Bool) → BringsNew l (account.AccountReply.reply
           (if t then record {
             account = handed b w.map w.zone.0 w.need;
             reply = reply.Called w.map (as_pages (Rattle.std.proofs.Common.take w.need (zone_at b w.zone.0).avail));
@@ -181,7 +181,7 @@ module _ (l : LaneState) (a : Account) (agrees : AgreesWith l a) (frames : EachF
       by false = tt
 
   placed-new : (m : MapId) (len boundary limit : ℕ) (o : Option ℕ) → lowest_run len boundary limit a.bank ≡ o →
-      BringsNew l (account.placed m (frames_for len) o a).reply
+      BringsNew l (account.memory_placed m (frames_for len) o a).reply
   placed-new m len boundary limit None e = tt
   placed-new m len boundary limit (Some first) e =
       new-run limit (frames_for len) first (omega arith) (given len boundary limit a.bank first frames.bank e)

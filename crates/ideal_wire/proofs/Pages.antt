@@ -11,12 +11,12 @@ use Rattle.busdma_machine.specs.declared.machine.address.Pa.{Pa}
 use Rattle.busdma_machine.specs.declared.name.MapId.{MapId}
 use Rattle.busdma_machine.specs.declared.tags.tag.TagLimits.{TagLimits}
 use Rattle.busdma_machine.specs.Bounce.Account.{Account, Zone, no_zone, zone_at, free}
-use Rattle.busdma_machine.specs.Bounce.AccountStep.{Outcome, as_pages, grabbed, called_from}
+use Rattle.busdma_machine.specs.Bounce.AccountStep.{AccountReply as Outcome, as_pages, grabbed, called_from}
 use Rattle.busdma_machine.specs.Bounce.EachFrame.{EachFrame}
 use Rattle.busdma_machine.specs.Bounce.Growth.{serves_tag}
 use Rattle.busdma_machine.specs.Bounce.History.{IsFrame}
 use Rattle.busdma_machine.specs.Bounce.LowPages.{EndsWithin, PagesLieLow}
-use Rattle.busdma_machine.specs.Bounce.Serving.{handed, queued}
+use Rattle.busdma_machine.specs.Bounce.Serving.{handed, waiting_at_tail as queued}
 use Rattle.busdma_rules.specs.Segments.Obeying.{IsReachable}
 use Rattle.busdma_rules.specs.Segments.Trace.{IsPage}
 

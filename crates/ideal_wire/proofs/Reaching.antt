@@ -16,7 +16,7 @@ use Rattle.busdma_machine.specs.Machine.VirtualPages.{pages_end}
 use Rattle.busdma_base.specs.Scenarios.PageRuns.{is_own, is_in_run, physical_in}
 use Rattle.busdma_machine.specs.Machine.Spans.{bio_spans, span_addresses}
 use Rattle.busdma_machine.specs.Runs.{addresses, run_of}
-use Rattle.busdma_rules.specs.Memory.Extents.{extents_of, reached, then_reached}
+use Rattle.busdma_rules.specs.Memory.Extents.{extents_of, reached_addresses as reached, then_reached}
 use Rattle.busdma_rules.specs.Memory.Translation.{Translation, physical_or_0}
 use Rattle.busdma_rules.specs.Memory.Vectors.{entries_of, with_entry}
 use Rattle.busdma_rules.proofs.Memory.Extents.{reached_extents}

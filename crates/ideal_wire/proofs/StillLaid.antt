@@ -23,7 +23,7 @@ use Rattle.busdma_rules.specs.Iommu.Space.{Space}
 use Rattle.ideal_lane.specs.State.{no_space}
 use Rattle.ideal_lane.specs.Tags.{with_space}
 use Rattle.ideal_lane.specs.Rings.{head_of, posted}
-use Rattle.ideal_lane.specs.Unloads.{unlent, unmapped, pages_of, restaged, segments_in, after_return}
+use Rattle.ideal_lane.specs.Unloads.{loan_forgotten as unlent, unmapped, pages_of, restaged, segments_in, after_return}
 use Rattle.busdma_rules.specs.Rings.Descriptors.{descriptor_bytes}
 use Rattle.ideal_lane.proofs.Effects.{DeviceWrites, Fetches, Posts, RawWrites, Same, Syncs, Touches, Work, Writes}
 use Rattle.ideal_lane.proofs.Effects.{after_fetch, after_sync, after_write}

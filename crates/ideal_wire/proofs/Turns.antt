@@ -28,7 +28,7 @@ use Rattle.ideal_lane.specs.IdealMemory.{Content, Known, Unknown, is_known}
 use Rattle.ideal_lane.specs.Agreement.{AgreesWith}
 use Rattle.ideal_lane.specs.Asking.{Asking, Gives, Asks, by_reply, goes_on}
 use Rattle.ideal_lane.specs.Loads.{is_coherent, load_judged}
-use Rattle.ideal_lane.specs.Memories.{placed, without_memory}
+use Rattle.ideal_lane.specs.Memories.{memory_by_reply as placed, without_memory}
 use Rattle.ideal_lane.specs.Outcomes.{Outcome, gives, is_idle, is_loaded, refused, unless_absent, unless_refused}
 use Rattle.ideal_lane.specs.Rings.{ring_of, ring_step}
 use Rattle.ideal_lane.specs.Sends.{Send, chain_bytes, cluster_bytes, copied, due_send, is_kept, load_again, send_of}

@@ -23,7 +23,7 @@ use Rattle.ideal_lane.specs.Asking.{Asking}
 use Rattle.ideal_lane.specs.IdealMemory.{IdealMemory, Content, Known, Unknown, is_known, has_address, forgotten, written}
 use Rattle.ideal_lane.specs.IdealMemory.{written_at}
 use Rattle.ideal_lane.specs.Outcomes.{Outcome, gives, unless_refused, unless_past, load_length}
-use Rattle.ideal_lane.specs.Places.{virtual_at, reached, bytes_at}
+use Rattle.ideal_lane.specs.Places.{virtual_at, first_unreached as reached, bytes_at}
 use Rattle.ideal_lane.specs.Rings.{Candidate, head_at, no_ring, posted, retired, ring_of, slot_place, stored, used}
 use Rattle.ideal_lane.specs.State.{LaneState, LaneMap, LaneRing}
 use Rattle.ideal_lane.specs.Syncs.{bounced_in}

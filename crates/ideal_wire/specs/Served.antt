@@ -2,7 +2,7 @@
 use Rattle.std.specs.Prelude.{◌≡◌, ℕ, true, Some}
 use Rattle.std.specs.FinMap.{get}
 use Rattle.busdma_machine.specs.Bounce.Account.{Account, zone_at}
-use Rattle.busdma_machine.specs.Bounce.AccountStep.{Outcome, account_step}
+use Rattle.busdma_machine.specs.Bounce.AccountStep.{AccountReply, account_step}
 use Rattle.busdma_machine.specs.Bounce.Growth.{serves_tag}
 use Rattle.ideal_lane.specs.Asking.{Asking, Gives, Asks}
 use Rattle.ideal_lane.specs.Loads.{limits_of}
@@ -18,4 +18,4 @@ AreServed l a = (m z : ℕ) (o : LaneMap) → get l.maps m ≡ Some o → o.zone
 abbrev pub KeepsServed : ℕ → Account → Asking Turned → Type 0
 KeepsServed lane a (Gives t) = AreServed t.lane a
 KeepsServed lane a (Asks c k) =
-    let o : Outcome = account_step lane c a in AreServed (k o.reply).lane o.account
+    let o : AccountReply = account_step lane c a in AreServed (k o.reply).lane o.account

@@ -18,8 +18,8 @@ abbrev pub all_ended : WorldState → Bool
 all_ended w = list_all has_ended w.lanes
 
 -- a world at rest is finished where every script has ended, and stuck where one has not
-abbrev pub end_of : WorldState → End
-end_of w = if all_ended w then Finished else Stuck
+abbrev pub world_end : WorldState → End
+world_end w = if all_ended w then Finished else Stuck
 
 -- some entry's answer is a report
 abbrev pub has_report : List JournalEntry → Bool

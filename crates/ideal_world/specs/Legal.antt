@@ -6,7 +6,7 @@ use Rattle.busdma_base.specs.declared.journals.journal.JournalEntry.{JournalEntr
 use Rattle.busdma_base.specs.declared.journals.journal.Journal.{Journal}
 use Rattle.busdma_base.specs.declared.scenarios.scenario.Scenario.{Scenario}
 use Rattle.ideal_world.specs.World.{WorldState, opening_world, step, step_entry, zone_counts}
-use Rattle.ideal_world.specs.Ends.{IsAtRest, end_of}
+use Rattle.ideal_world.specs.Ends.{IsAtRest, world_end}
 
 -- entries lead from one world to another: each entry's actor can step there, and the entry is that of its step
 abbrev pub Leads : WorldState → List JournalEntry → WorldState → Type 0
@@ -19,7 +19,7 @@ pub record IsLegal (s : Scenario) (j : Journal) : Type 0 where
   pub leads : Leads (opening_world s) j.entries last
   pub rest : IsAtRest last
   pub zones : j.zones ≡ zone_counts last
-  pub end : j.end ≡ end_of last
+  pub end : j.end ≡ world_end last
 
 -- the world that a run has come to, and the entries of its steps
 pub record Run : Type 0 where
@@ -71,7 +71,7 @@ IsReplay s end = ComesToRest (round_of s) (turns (opening_run s) s.order) end
 
 -- the journal of a run
 abbrev pub journal_of : Run → Journal
-journal_of r = record { entries = r.entries; zones = zone_counts r.world; end = end_of r.world }
+journal_of r = record { entries = r.entries; zones = zone_counts r.world; end = world_end r.world }
 
 -- the journal is that of the scenario's replay
 pub record IsReplayed (s : Scenario) (j : Journal) : Type 0 where

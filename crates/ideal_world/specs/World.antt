@@ -8,7 +8,7 @@ use Rattle.busdma_base.specs.declared.scenarios.scenario.Driver.{Driver}
 use Rattle.busdma_base.specs.declared.scenarios.scenario.Scenario.{Scenario}
 use Rattle.busdma_machine.specs.declared.bounce.zone.ZoneCounts.{ZoneCounts}
 use Rattle.busdma_machine.specs.Bounce.Account.{Account, Zone, counts}
-use Rattle.busdma_machine.specs.Bounce.AccountStep.{Outcome, account_step}
+use Rattle.busdma_machine.specs.Bounce.AccountStep.{AccountReply, account_step}
 use Rattle.busdma_base.specs.Scenarios.Opening.{maxmem_of, opening}
 use Rattle.ideal_lane.specs.Asking.{Asking, Gives, Asks}
 use Rattle.ideal_lane.specs.Opening.{opening_lane}
@@ -42,7 +42,7 @@ turned w i a t = record { world = record { lanes = slice_set w.lanes i t.lane; a
 -- the call leaves
 abbrev pub replied : WorldState → ℕ → LaneState → Asking Turned → WorldTurned
 replied w i l (Gives t) = turned w i w.account t
-replied w i l (Asks c k) = let o : Outcome = account_step l.id c w.account in turned w i o.account (k o.reply)
+replied w i l (Asks c k) = let o : AccountReply = account_step l.id c w.account in turned w i o.account (k o.reply)
 
 -- the turn of an actor whose driver was looked up; one that has no driver is Blocked
 abbrev pub step_of : WorldState → Actor → Option LaneState → WorldTurned

@@ -5,7 +5,8 @@ use Rattle.std.proofs.Common.{ltb, eqb, slice_index_or}
 use Rattle.std.specs.List.{AllWithin, filter, list_any, remove}
 use Rattle.std.specs.List.Sorted.{IsNonDecreasingBy}
 use Rattle.std.proofs.lemmas.Bool.{leb-true, leb-false, lt-ltb, le-ltb, le-leb, lt-leb, eqb-true, false≢true}
-use Rattle.busdma_rules.specs.Iommu.Space.{DeviceRun, IsRunIn, AreRuns, begins_at, end_of, frame_at, gap, put_run}
+use Rattle.busdma_rules.specs.Iommu.Space.{DeviceRun, IsRunIn, AreRuns, begins_at}
+use Rattle.busdma_rules.specs.Iommu.Space.{run_end as end_of, frame_of_page as frame_at, gap, put_run}
 use Rattle.iommu_map.specs.Space.{place_of}
 use Rattle.busdma_rules.proofs.Iommu.Runs.{all-stay}
 

@@ -5,7 +5,8 @@ ghost use Rattle.std.specs.Prelude.{IfOk, IfSome, OnErr, ℕ};
 ghost use Rattle.std.specs.Option.{option_map};
 ghost use Rattle.std.specs.List.{All, insert};
 ghost use Rattle.busdma_machine.specs.declared.machine.address.Pa.{Pa as Address};
-ghost use Rattle.busdma_rules.specs.Iommu.Space.{IsSpace, entered, first_free, gap, is_live, left, put_run, translated};
+ghost use Rattle.busdma_rules.specs.Iommu.Space.{IsSpace, entered, first_free, gap};
+ghost use Rattle.busdma_rules.specs.Iommu.Space.{is_live, run_unmapped, put_run, translated};
 ghost use Rattle.iommu_map.specs.Space.{place_of};
 
 use crate::run::DeviceRun;
@@ -117,7 +118,7 @@ impl Iommu {
     /// Ends the live run that begins at a page.
     pub fn leave(&mut self, first: u64)
         requires { is_live self.old first ≡ true }
-        ensures { self.new ≡ left first self.old }
+        ensures { self.new ≡ run_unmapped first self.old }
     {
         let at = self.place_of(first);
         self.runs.remove(at);

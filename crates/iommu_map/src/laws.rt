@@ -2,8 +2,9 @@
 
 ghost use Rattle.std.specs.Prelude.{◌≡◌, ◌≢◌, ◌-◌, ◌≤◌, ℕ, List, true, false, Some, length, slice_get};
 ghost use Rattle.std.specs.List.{Contains};
-ghost use Rattle.busdma_rules.specs.Iommu.Space.{DeviceRun, IsSpace, Space, entered, first_free, frame_at, has_page};
-ghost use Rattle.busdma_rules.specs.Iommu.Space.{is_live, left};
+ghost use Rattle.busdma_rules.specs.Iommu.Space.{DeviceRun, IsSpace, Space};
+ghost use Rattle.busdma_rules.specs.Iommu.Space.{entered, first_free, frame_of_page, has_page};
+ghost use Rattle.busdma_rules.specs.Iommu.Space.{is_live, run_unmapped as left};
 
 use crate::Iommu;
 
@@ -25,10 +26,10 @@ pub fn entered_runs_take_their_own_pages()
         Contains (entered (Some first) frames s).runs r }
     ensures own { (s : Space) (frames : List ℕ) (first p : ℕ) → IsSpace s → 1 ≤ length frames →
         first_free s (length frames) ≡ Some first → has_page p (record { first = first; frames = frames }) ≡ true →
-        frame_at (entered (Some first) frames s).runs p ≡ slice_get frames (p - first) }
+        frame_of_page (entered (Some first) frames s).runs p ≡ slice_get frames (p - first) }
     ensures others { (s : Space) (frames : List ℕ) (first p : ℕ) →
         has_page p (record { first = first; frames = frames }) ≡ false →
-        frame_at (entered (Some first) frames s).runs p ≡ frame_at s.runs p }
+        frame_of_page (entered (Some first) frames s).runs p ≡ frame_of_page s.runs p }
     ensures back { (s : Space) (frames : List ℕ) (first : ℕ) → IsSpace s → 1 ≤ length frames →
         first_free s (length frames) ≡ Some first → left first (entered (Some first) frames s) ≡ s }
 {}
@@ -44,7 +45,7 @@ pub fn entered_runs_are_new()
 /// that begins elsewhere stays live.
 pub fn ended_runs_take_their_own_pages()
     ensures others { (s : Space) (p : ℕ) (r : DeviceRun) → IsSpace s → Contains s.runs r → has_page p r ≡ false →
-        frame_at (left r.first s).runs p ≡ frame_at s.runs p }
+        frame_of_page (left r.first s).runs p ≡ frame_of_page s.runs p }
     ensures live { (s : Space) (first : ℕ) (r : DeviceRun) → Contains s.runs r → r.first ≢ first →
         Contains (left first s).runs r }
 {}

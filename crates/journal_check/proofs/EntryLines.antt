@@ -19,7 +19,7 @@ use Rattle.busdma_base.specs.Scenarios.Names.{in_name, is_name, is_letter, Makes
 use Rattle.busdma_base.specs.Scenarios.Operations.{Made, about, about_item, object_of, first_used, Makes, Uses}
 use Rattle.busdma_base.specs.Scenarios.Script.{IsOp}
 use Rattle.busdma_base.specs.Scenarios.Valid.{IsDriver, IsValid}
-use Rattle.busdma_base.specs.Scenarios.Words.{op_text, item_text}
+use Rattle.busdma_base.specs.Scenarios.Words.{op_word_text as op_text, item_word_text as item_text}
 use Rattle.busdma_machine.specs.declared.name.LaneId.{LaneId}
 use Rattle.busdma_base.specs.declared.journals.journal.Did.{Did}
 use Rattle.busdma_base.specs.declared.journals.journal.Did.TheVariants as did
@@ -44,13 +44,14 @@ use Rattle.busdma_machine.specs.declared.report.Errno.TheVariants.{EINVAL, ENOME
 use Rattle.busdma_machine.specs.declared.report.ReportName.{ReportName}
 use Rattle.busdma_machine.specs.declared.report.ReportName.TheVariants as names
 use Rattle.report_text.specs.Answer.{errno_name, report_name, made_text, segment_text, byte_text, bytes_text}
-use Rattle.report_text.specs.Report.{end_line, report}
+use Rattle.report_text.specs.Report.{journal_end_line as end_line, report}
 use Rattle.report_text.specs.Zone.{zone_lines}
 use Rattle.report_text.specs.Text.{hex, numbered}
 use Rattle.journal_check.specs.Lines.{lines}
 use Rattle.journal_check.specs.ReportLines.{entry_lines, closing_lines}
 use Rattle.journal_check.proofs.Lines.{lines-line, concat-lines}
-use Rattle.report_text.specs.Did.{did_text, script_of, name_at, map_name, object_text, object_name, item_at}
+use Rattle.report_text.specs.Did.{did_text, script_of, name_made_at as name_at}
+use Rattle.report_text.specs.Did.{map_name, object_text, object_name, item_of_load as item_at}
 use Rattle.report_text.specs.Did.{again_text, op_text as report_op, item_text as report_item}
 use Rattle.report_text.specs.Answer.{answer_text}
 use Rattle.report_text.specs.Report.{side_letter, actor_text, entry_line}

@@ -4,7 +4,7 @@ use Rattle.std.specs.List.{concat}
 use Rattle.busdma_base.specs.declared.journals.journal.Journal.{Journal}
 use Rattle.busdma_base.specs.declared.journals.journal.JournalEntry.{JournalEntry}
 use Rattle.busdma_base.specs.declared.scenarios.scenario.Scenario.{Scenario}
-use Rattle.report_text.specs.Report.{end_line}
+use Rattle.report_text.specs.Report.{journal_end_line as end_line}
 use Rattle.report_text.specs.Zone.{zone_lines}
 use Rattle.ideal_world.specs.Ends.{IsAtRest}
 use Rattle.ideal_world.specs.World.{WorldState}

@@ -14,7 +14,7 @@ use Rattle.journal_check.specs.Lines.{lines, alike}
 use Rattle.journal_check.specs.ReportLines.{entry_lines, closing_lines}
 use Rattle.journal_check.proofs.EntryLines.{one-actor, lines-report, report-from_lines}
 use Rattle.journal_check.proofs.Judging as judging
-use Rattle.ideal_world.specs.Ends.{IsAtRest, end_of}
+use Rattle.ideal_world.specs.Ends.{IsAtRest, world_end as end_of}
 use Rattle.ideal_world.specs.Left.{left_of}
 use Rattle.ideal_world.specs.Legal.{Leads, IsLegal, journal_of, round_from}
 use Rattle.ideal_world.specs.WellFormed.{IsWellFormed}

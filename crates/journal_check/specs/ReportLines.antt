@@ -3,7 +3,7 @@ use Rattle.std.specs.Prelude.{ℕ, ◌+◌, List, [], ◌∷◌, ◌++◌}
 use Rattle.busdma_base.specs.declared.journals.journal.Journal.{Journal}
 use Rattle.busdma_base.specs.declared.journals.journal.JournalEntry.{JournalEntry}
 use Rattle.busdma_base.specs.declared.scenarios.scenario.Scenario.{Scenario}
-use Rattle.report_text.specs.Report.{entry_line, end_line}
+use Rattle.report_text.specs.Report.{entry_line, journal_end_line}
 use Rattle.report_text.specs.Zone.{zone_lines}
 use Rattle.journal_check.specs.Lines.{lines}
 
@@ -14,4 +14,4 @@ entry_lines s n (e ∷ es) = entry_line s n e ∷ entry_lines s (n + 1) es
 
 -- the lines behind those of the entries: of the zones, and the last line
 abbrev pub closing_lines : Journal → List (List ℕ)
-closing_lines j = lines (zone_lines j.zones ++ end_line j)
+closing_lines j = lines (zone_lines j.zones ++ journal_end_line j)

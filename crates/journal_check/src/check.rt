@@ -36,7 +36,7 @@ fn goes_on(alloc: Global, scenario: &Scenario, world: &mut World) -> Result<bool
 /// The lines of a journal behind those of its entries.
 fn closing_text(alloc: Global, journal: &Journal) -> Result<Vec<u8>, AllocError>
     ensures { IfOk result (λ text.
-        text.items ≡ zone.zone_lines journal.now.zones ++ report.end_line journal.now) }
+        text.items ≡ zone.zone_lines journal.now.zones ++ report.journal_end_line journal.now) }
 {
     let mut text = zone_lines(alloc, journal.zones.as_slice())?.into_vec();
     text.extend_from_slice(end_line(alloc, journal)?.as_slice())?;

@@ -5,14 +5,14 @@ use Rattle.std.specs.Str.{bytes_eq}
 use Rattle.serde_json.specs.Data.{Data, Members, no_members, member}
 use Rattle.serde_json.specs.Find.{get, as_object}
 use Rattle.serde_json.specs.View.{view}
-use Rattle.json_fields.specs.Place.{Place, key, item, place_of}
+use Rattle.json_fields.specs.Place.{DocumentPlace, key, item, place_of}
 use Rattle.json_fields.specs.Read.{Read, ◌>>=◌, refuse}
 use Rattle.json_fields.specs.declared.refusal.RefusalKind.TheVariants.{BadField}
 use Rattle.json_fields.specs.declared.node.Node.{Node}
 
 -- a value, and where it stands
 pub record Spot : Type 0 where
-  pub place : Place
+  pub place : DocumentPlace
   pub value : Data
 
 -- what a node of the code stands for
@@ -32,7 +32,7 @@ abbrev pub item_of : Spot → ℕ → Data → Spot
 item_of here n d = record { place = item here.place n; value = d }
 
 -- the field, which has to be there
-abbrev pub found_or : Place → Option Spot → Read Spot
+abbrev pub found_or : DocumentPlace → Option Spot → Read Spot
 found_or place None = refuse BadField place
 found_or place (Some spot) = Ok spot
 
@@ -41,7 +41,7 @@ unfoldable pub required : List ℕ → Spot → Read Spot
 required name here = found_or (key here.place name) (field name here)
 
 -- the members, which have to be there
-abbrev pub object_or : Place → Option Members → Read Members
+abbrev pub object_or : DocumentPlace → Option Members → Read Members
 object_or place None = refuse BadField place
 object_or place (Some ms) = Ok ms
 
@@ -59,7 +59,7 @@ unknown_key known no_members = None
 unknown_key known (member name d more) = if known name then unknown_key known more else Some name
 
 -- an unknown key is refused with its place
-abbrev pub no_key_beside : Place → Option (List ℕ) → Read ⊤
+abbrev pub no_key_beside : DocumentPlace → Option (List ℕ) → Read ⊤
 no_key_beside place None = Ok tt
 no_key_beside place (Some name) = refuse BadField (key place name)
 

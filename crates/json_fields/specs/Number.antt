@@ -3,13 +3,13 @@ use Rattle.std.specs.Prelude.{ℕ, ◌+◌, ◌*◌, ◌-◌, ◌==◌, ◌&&◌
 use Rattle.std.specs.Prelude.{option_and_then, Ok, if◌then◌else◌, nat_le, slice_index}
 use Rattle.serde_json.specs.Data.{Data, null, boolean, number, string, array, object}
 use Rattle.serde_json.specs.Find.{as_u64}
-use Rattle.json_fields.specs.Place.{Place}
+use Rattle.json_fields.specs.Place.{DocumentPlace}
 use Rattle.json_fields.specs.Read.{Read, ◌>>=◌, refuse}
 use Rattle.json_fields.specs.Field.{Spot, field, required}
 use Rattle.json_fields.specs.declared.refusal.RefusalKind.TheVariants.{BadField}
 
 -- the value of that kind, or else the field is bad
-abbrev pub of_kind : {A : Type 0} → Place → Option A → Read A
+abbrev pub of_kind : {A : Type 0} → DocumentPlace → Option A → Read A
 of_kind place None = refuse BadField place
 of_kind place (Some x) = Ok x
 

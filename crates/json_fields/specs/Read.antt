@@ -1,6 +1,6 @@
 -- What reading gives: a value, or the first refusal.
 use Rattle.std.specs.Prelude.{◌≡◌, Result, Ok, Err}
-use Rattle.json_fields.specs.Place.{Place, path_text}
+use Rattle.json_fields.specs.Place.{DocumentPlace, path_text}
 use Rattle.json_fields.specs.declared.refusal.RefusalKind.{RefusalKind}
 use Rattle.json_fields.specs.declared.refusal.Refusal.{Refusal}
 use Rattle.json_fields.specs.declared.refusal.Stop.{Stop}
@@ -17,11 +17,11 @@ abbrev pub ◌>>=◌ : {A B : Type 0} → Read A → (A → Read B) → Read B
 (Err r) >>= f = Err r
 
 -- this is wrong at this place
-abbrev pub refusal : RefusalKind → Place → Refusal
+abbrev pub refusal : RefusalKind → DocumentPlace → Refusal
 refusal kind place = record { kind = kind; path = path_text place }
 
 -- the reading ends with this refusal
-abbrev pub refuse : {A : Type 0} → RefusalKind → Place → Read A
+abbrev pub refuse : {A : Type 0} → RefusalKind → DocumentPlace → Read A
 refuse kind place = Err (refusal kind place)
 
 -- the code stops with this refusal, unless memory ran out

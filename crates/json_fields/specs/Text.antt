@@ -17,8 +17,8 @@ abbrev pub name_in : Data → Option (List ℕ)
 name_in d = option_and_then (λ s. if is_name s then Some s else None) (as_str d)
 
 -- a name
-unfoldable pub name_at : Spot → Read (List ℕ)
-name_at here = of_kind here.place (name_in here.value)
+unfoldable pub read_name : Spot → Read (List ℕ)
+read_name here = of_kind here.place (name_in here.value)
 
 -- the byte of two digits
 abbrev pub hex_byte : ℕ → ℕ → Option ℕ
@@ -31,5 +31,5 @@ hex_bytes (a ∷ []) = None
 hex_bytes (a ∷ b ∷ more) = option_and_then (λ x. option_map (λ ys. x ∷ ys) (hex_bytes more)) (hex_byte a b)
 
 -- bytes
-unfoldable pub bytes_at : Spot → Read (List ℕ)
-bytes_at here = of_kind here.place (option_and_then hex_bytes (as_str here.value))
+unfoldable pub read_bytes : Spot → Read (List ℕ)
+read_bytes here = of_kind here.place (option_and_then hex_bytes (as_str here.value))

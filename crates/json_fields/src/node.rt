@@ -12,7 +12,7 @@ ghost use Rattle.json_fields.specs.Field.{spot_of, placed_at, item_of, field, re
 ghost use Rattle.json_fields.specs.Field.{members_of, only_keys, unknown_key};
 ghost use Rattle.json_fields.specs.Number.{number_in as number_of_kind, number_at};
 ghost use Rattle.json_fields.specs.Number.{number_field, number_or};
-ghost use Rattle.json_fields.specs.Text.{name_at, bytes_at, text_at};
+ghost use Rattle.json_fields.specs.Text.{read_name as name_at, read_bytes as bytes_at, text_at};
 ghost use Rattle.json_fields.specs.Items.{items_at};
 
 use crate::path::Path;
@@ -158,7 +158,7 @@ impl<'v> Node<'v> {
     }
 
     /// The text of a name: 1 to 32 of `a` to `z`, `0` to `9` and `_`, beginning with a letter.
-    #[tactic(auto, unfolding(crate::specs::Text::name_at))]
+    #[tactic(auto, unfolding(crate::specs::Text::read_name))]
     pub fn name_text(&self) -> Result<&'v str, Stop>
         ensures value { GivesSeen (λ s. s.now) result (name_at (spot_of self.now)) }
         ensures well_formed { IfOk result (λ s. names.is_name s.now ≡ true) }
@@ -178,7 +178,7 @@ impl<'v> Node<'v> {
     }
 
     /// Bytes, by two hexadecimal digits each.
-    #[tactic(auto, unfolding(crate::specs::Text::bytes_at))]
+    #[tactic(auto, unfolding(crate::specs::Text::read_bytes))]
     pub fn bytes(&self) -> Result<ByteList, Stop>
         ensures { Gives result (bytes_at (spot_of self.now)) }
     {

@@ -16,7 +16,7 @@ use Rattle.ideal_lane.specs.Accesses.{cpu_write}
 use Rattle.ideal_lane.specs.Asking.{Asking, by_reply}
 use Rattle.ideal_lane.specs.IdealMemory.{written}
 use Rattle.ideal_lane.specs.Outcomes.{Outcome, gives, unless_absent, unless_refused}
-use Rattle.ideal_lane.specs.Places.{bytes_at, reached, virtual_at}
+use Rattle.ideal_lane.specs.Places.{bytes_at, first_unreached as reached, virtual_at}
 use Rattle.ideal_lane.specs.State.{LaneState}
 use Rattle.ideal_wire.specs.Centre.{IsFaithful}
 use Rattle.ideal_wire.specs.WireStep as wires

@@ -10,7 +10,7 @@ use Rattle.std.specs.List.{Contains}
 use Rattle.std.specs.Option.{option_map_or}
 use Rattle.busdma_machine.specs.declared.machine.address.Segment.{Segment}
 use Rattle.dma_map.specs.MapView as held
-use Rattle.busdma_rules.specs.Iommu.Space.{AreRuns, DeviceRun, end_of, has_page, translated}
+use Rattle.busdma_rules.specs.Iommu.Space.{AreRuns, DeviceRun, run_end as end_of, has_page, translated}
 use Rattle.busdma_rules.proofs.Iommu.Members.{live-is, place-in}
 use Rattle.busdma_rules.proofs.Iommu.Runs.{run-apart}
 use Rattle.busdma_rules.specs.Lending.Loans.{loan_of}

@@ -5,7 +5,7 @@ use Rattle.std.proofs.lemmas.List.{map-append}
 use Rattle.std.specs.List.{AllByRecursion}
 use Rattle.busdma_machine.specs.declared.machine.address.Extent.{Extent}
 use Rattle.busdma_machine.specs.Runs.{addresses, run_of}
-use Rattle.busdma_rules.specs.Iommu.Space.{Space, frame_at, translated}
+use Rattle.busdma_rules.specs.Iommu.Space.{Space, frame_of_page as frame_at, translated}
 use Rattle.loan_table.proofs.Extending.{addresses-push}
 use Rattle.loan_table.proofs.Stretches.{run_of_sum}
 

@@ -12,7 +12,8 @@ use Rattle.busdma_machine.specs.Bounce.WellFormed.{IsWellFormed}
 use Rattle.lane_agreement.specs.View.{View, Return, OwnMap, Idle, Returning, ended, emptied, queued_back, given_back}
 use Rattle.lane_agreement.specs.View.{restaged, returning, is_returning, zone_in}
 use Rattle.lane_agreement.specs.Agreement.{Agrees}
-use Rattle.lane_agreement.specs.After.{addresses, after_callback, left_at, left_of_map, brought, IsLike}
+use Rattle.lane_agreement.specs.After.{addresses_of_pages as addresses, after_callback, left_at}
+use Rattle.lane_agreement.specs.After.{left_of_map, brought, IsLike}
 use Rattle.lane_agreement.proofs.Whole.{Called_for, called-length}
 
 pub addresses-length : (pages : List Pa) → length (addresses pages) ≡ length pages

@@ -11,9 +11,12 @@ use Rattle.busdma_machine.specs.declared.name.MapId.{MapId}
 use Rattle.busdma_machine.specs.declared.bounce.zone.Waiter.{Waiter}
 use Rattle.busdma_machine.specs.Bounce.Account.{Account, Zone, Held, Memory, same_map, zone_at, with_zone, no_zone, free}
 use Rattle.busdma_machine.specs.declared.tags.tag.TagLimits.{TagLimits}
-use Rattle.busdma_machine.specs.Bounce.Growth.{serves_tag, zones_for, zone_of, with_map, without_map}
-use Rattle.busdma_machine.specs.Bounce.MemoryRuns.{in_run, with_memory, without_memory, frames_of}
-use Rattle.busdma_machine.specs.Bounce.Serving.{is_holding, handed, queued, returned}
+use Rattle.busdma_machine.specs.Bounce.Growth.{serves_tag, zones_for}
+use Rattle.busdma_machine.specs.Bounce.Growth.{zone_for_tag as zone_of}
+use Rattle.busdma_machine.specs.Bounce.Growth.{with_zone_map as with_map, without_zone_map as without_map}
+use Rattle.busdma_machine.specs.Bounce.MemoryRuns.{in_run, with_memory_run as with_memory}
+use Rattle.busdma_machine.specs.Bounce.MemoryRuns.{without_memory_run as without_memory, frames_of}
+use Rattle.busdma_machine.specs.Bounce.Serving.{is_holding, handed, waiting_at_tail as queued, returned}
 use Rattle.busdma_machine.specs.Bounce.Conditions.{times_made, times_in_zones, times_held, pages_held, memories}
 use Rattle.busdma_machine.proofs.Accounts.Counting.{get_or-set_as, count_by-append, count_by-filter_keeps}
 use Rattle.busdma_machine.proofs.Accounts.Counting.{sum_by-set_like}

@@ -8,9 +8,10 @@ use Rattle.std.specs.List.{count_by, filter}
 use Rattle.busdma_machine.specs.declared.name.MapId.{MapId}
 use Rattle.busdma_machine.specs.declared.bounce.zone.Waiter.{Waiter}
 use Rattle.busdma_machine.specs.Bounce.Account.{Account, same_map, zone_at}
-use Rattle.busdma_machine.specs.Bounce.Growth.{with_map, without_map}
-use Rattle.busdma_machine.specs.Bounce.MemoryRuns.{in_run, with_memory, without_memory}
-use Rattle.busdma_machine.specs.Bounce.Serving.{handed, queued, returned}
+use Rattle.busdma_machine.specs.Bounce.Growth.{with_zone_map as with_map, without_zone_map as without_map}
+use Rattle.busdma_machine.specs.Bounce.MemoryRuns.{in_run}
+use Rattle.busdma_machine.specs.Bounce.MemoryRuns.{with_memory_run as with_memory, without_memory_run as without_memory}
+use Rattle.busdma_machine.specs.Bounce.Serving.{handed, waiting_at_tail as queued, returned}
 use Rattle.busdma_machine.specs.Bounce.Conditions.{times_held}
 use Rattle.busdma_machine.proofs.Accounts.Counting.{count_by-append, count_by-map_none}
 use Rattle.lane_agreement.specs.View.{View, Return, OwnMap, Stage, Idle, Waiting, Loaded, Returning, changed}

@@ -10,11 +10,14 @@ use Rattle.busdma_machine.specs.declared.bounce.zone.Waiter.{Waiter}
 use Rattle.busdma_machine.specs.declared.bounce.hold.HubCall.{HubCall}
 use Rattle.busdma_machine.specs.declared.bounce.hold.HubReply.TheVariants.{Nothing, Granted, Queued, NoPages, Called}
 use Rattle.busdma_machine.specs.Bounce.Account.{Account, same_map, zone_at, free, total}
-use Rattle.busdma_machine.specs.Bounce.Growth.{zone_of, with_zone_for, added, grown, maxpages, wanted_by_map, with_map}
-use Rattle.busdma_machine.specs.Bounce.Growth.{without_map}
-use Rattle.busdma_machine.specs.Bounce.MemoryRuns.{in_run, with_memory, without_memory}
-use Rattle.busdma_machine.specs.Bounce.Serving.{handed, queued, returned}
-use Rattle.busdma_machine.specs.Bounce.AccountStep.{Outcome, account_step, as_pages, created, grabbed, released}
+use Rattle.busdma_machine.specs.Bounce.Growth.{zone_for_tag as zone_of, with_zone_for, added}
+use Rattle.busdma_machine.specs.Bounce.Growth.{grown, maxpages, wanted_by_map, with_zone_map as with_map}
+use Rattle.busdma_machine.specs.Bounce.Growth.{without_zone_map as without_map}
+use Rattle.busdma_machine.specs.Bounce.MemoryRuns.{in_run}
+use Rattle.busdma_machine.specs.Bounce.MemoryRuns.{with_memory_run as with_memory, without_memory_run as without_memory}
+use Rattle.busdma_machine.specs.Bounce.Serving.{handed, waiting_at_tail as queued, returned}
+use Rattle.busdma_machine.specs.Bounce.AccountStep.{AccountReply as Outcome, account_step, as_pages}
+use Rattle.busdma_machine.specs.Bounce.AccountStep.{created, grabbed, released}
 use Rattle.busdma_machine.specs.Bounce.AccountStep.{called_from}
 use Rattle.busdma_machine.specs.Bounce.Conditions.{MayCall, times_held}
 use Rattle.busdma_machine.specs.Bounce.Places.{places}
@@ -27,7 +30,7 @@ use Rattle.lane_agreement.specs.View.{zone_in, returning, is_returning, is_astra
 use Rattle.busdma_machine.specs.Bounce.Share.{Same, share}
 use Rattle.lane_agreement.specs.OwnShare.{share_of, own_share, one_if}
 use Rattle.lane_agreement.specs.Agreement.{Agrees}
-use Rattle.lane_agreement.specs.After.{addresses, after_grab, after_create, after_callback}
+use Rattle.lane_agreement.specs.After.{addresses_of_pages as addresses, after_grab, after_create, after_callback}
 use Rattle.busdma_machine.proofs.Accounts.Names.{and_none, and_left, Same-refl, Same-trans, name-grown_for, name-with_map}
 use Rattle.busdma_machine.proofs.Accounts.Names.{name-without_map, name-handed, name-queued, name-released, name-served}
 use Rattle.busdma_machine.proofs.Accounts.Names.{name-shorter, name-with_memory, name-without_memory}

@@ -14,9 +14,10 @@ use Rattle.busdma_machine.specs.declared.bounce.hold.HubCall.TheVariants.{TakeCa
 use Rattle.busdma_machine.specs.declared.bounce.hold.HoldEntry.{HoldEntry}
 use Rattle.busdma_machine.specs.Bounce.Account.{Account, zone_at, free}
 use Rattle.busdma_machine.specs.Bounce.MemoryRuns.{frames_for, lowest_run}
-use Rattle.busdma_machine.specs.Bounce.AccountStep.{Outcome, account_step, as_pages, grabbed, called_from, released}
-use Rattle.busdma_machine.specs.Bounce.AccountStep.{placed}
-use Rattle.busdma_machine.specs.Bounce.Serving.{handed, queued}
+use Rattle.busdma_machine.specs.Bounce.AccountStep.{AccountReply as Outcome, account_step, as_pages}
+use Rattle.busdma_machine.specs.Bounce.AccountStep.{grabbed, called_from, released}
+use Rattle.busdma_machine.specs.Bounce.AccountStep.{memory_placed as placed}
+use Rattle.busdma_machine.specs.Bounce.Serving.{handed, waiting_at_tail as queued}
 use Rattle.busdma_machine.specs.declared.bounce.hold.HubReply.TheVariants.{Nothing, Granted, Queued, NoPages, Called}
 use Rattle.lane_agreement.proofs.Places.{no-returns, waits-tells, head-waits}
 use Rattle.busdma_machine.specs.Bounce.Conditions.{MayCall, times_held}

@@ -13,11 +13,11 @@ use Rattle.busdma_machine.specs.Bounce.MemoryRuns.{frames_from}
 use Rattle.lane_agreement.specs.View.{View, OwnMap, Return, Idle, Waiting, Loaded, Returning, staged, gone, with_mem}
 use Rattle.lane_agreement.specs.View.{ended, given_back, zone_in}
 
-abbrev pub addresses : List Pa → List ℕ
-addresses pages = map (λ p. p.0) pages
+abbrev pub addresses_of_pages : List Pa → List ℕ
+addresses_of_pages pages = map (λ p. p.0) pages
 
 abbrev pub after_grab : Bool → View → ℕ → ℕ → ℕ → HubReply → View
-after_grab fits l k z need (Granted pages) = ended fits l k z (addresses pages)
+after_grab fits l k z need (Granted pages) = ended fits l k z (addresses_of_pages pages)
 after_grab fits l k z need (Queued have) = staged l k z (Waiting need)
 after_grab fits l k z need _ = l
 
@@ -26,7 +26,7 @@ after_create l k (Grown g) = if g.made then staged l k g.zone.0 Idle else l
 after_create l k _ = l
 
 abbrev pub after_callback : Bool → View → HubReply → View
-after_callback fits l (Called m pages) = ended fits l m.made_at (zone_in (l.map_at m.made_at)) (addresses pages)
+after_callback fits l (Called m pages) = ended fits l m.made_at (zone_in (l.map_at m.made_at)) (addresses_of_pages pages)
 after_callback fits l _ = l
 
 abbrev pub after_mem_alloc : View → ℕ → HubReply → View

@@ -3,7 +3,7 @@ use Rattle.std.specs.Prelude.{ℕ, List, [], ◌∷◌}
 use Rattle.std.specs.Coded.{×_prop, Unit-prop}
 use mathlib.Core.List.{is_set}
 use denote.Struct.Props.{props}
-use Rattle.busdma_rules.specs.Iommu.Space.{AreRuns, DeviceRun, IsRunIn, Space, end_of}
+use Rattle.busdma_rules.specs.Iommu.Space.{AreRuns, DeviceRun, IsRunIn, Space, run_end}
 use Rattle.ideal_lane.specs.State.{LaneState}
 use Rattle.ideal_wire.specs.OneProof.{AreLaid-prop, IsApart-prop, IsFaithful-prop, IsInMachine-prop}
 use Rattle.ideal_wire.specs.Spaced.{AreSpaced}
@@ -22,7 +22,7 @@ IsRunIn-prop low high r = hlevel (props)
 
 AreRuns-prop : (low high : ℕ) (rs : List DeviceRun) → IsProp (AreRuns low high rs)
 AreRuns-prop low high [] = Unit-prop
-AreRuns-prop low high (r ∷ rs) = ×_prop (IsRunIn-prop low high r) (AreRuns-prop (end_of r) high rs)
+AreRuns-prop low high (r ∷ rs) = ×_prop (IsRunIn-prop low high r) (AreRuns-prop (run_end r) high rs)
 
 AreSpaced-prop : (l : LaneState) → IsProp (AreSpaced l)
 AreSpaced-prop l = hlevel (props, AreRuns-prop, Space-set)

@@ -17,7 +17,7 @@ use Rattle.busdma_rules.specs.Segments.Chunks.{need_of}
 use Rattle.ideal_lane.specs.Asking.{Asking, Gives, Asks}
 use Rattle.ideal_lane.specs.Loads.{Asked, asked, chunks_for, device_load, ended, finished, granted, is_device}
 use Rattle.ideal_lane.specs.Loads.{limits_of, load, load_chunks}
-use Rattle.ideal_lane.specs.Loads.{load_entries, load_judged, zone_of}
+use Rattle.ideal_lane.specs.Loads.{load_entries, load_judged, zone_of_map as zone_of}
 use Rattle.ideal_lane.specs.Outcomes.{Outcome, gives, is_idle, refused, unless_absent, unless_refused}
 use Rattle.ideal_lane.specs.Standing.{StandsAt}
 use Rattle.ideal_lane.specs.State.{LaneMap, LaneMemory, LaneState, named}

@@ -16,7 +16,7 @@ use Rattle.busdma_machine.specs.Bounce.AccountStep.{as_pages}
 use Rattle.busdma_machine.specs.Machine.Entry.{entries_addresses}
 use Rattle.busdma_machine.specs.Runs.{byte_count}
 use Rattle.busdma_machine.specs.Tags.TagFlags.{keep_pg_offset}
-use Rattle.busdma_base.specs.Scenarios.Queues.{queued}
+use Rattle.busdma_base.specs.Scenarios.Queues.{queued_items as queued}
 use Rattle.busdma_rules.specs.Lending.Loans.{new_loan}
 use Rattle.busdma_rules.specs.Iommu.Device.{device_chunk, device_chunks, load_frames}
 use Rattle.busdma_rules.specs.Iommu.Space.{Space, entered, first_free}
@@ -24,7 +24,7 @@ use Rattle.busdma_rules.specs.Segments.Building.{placed_pieces, tag_placed}
 use Rattle.busdma_rules.specs.Segments.Chunks.{bounced_of}
 use Rattle.busdma_rules.specs.Segments.Pieces.{chunk_pieces}
 use Rattle.busdma_rules.specs.Segments.Segmentation.{segmentation}
-use Rattle.busdma_rules.specs.Segments.Trace.{placed}
+use Rattle.busdma_rules.specs.Segments.Trace.{chunks_in_pages as placed}
 use Rattle.ideal_lane.specs.Loads.{Asked, are_few, device_load, finished, is_coherent, limits_of, loaded, staged}
 use Rattle.ideal_lane.specs.Loads.{taken, with_run, with_spaces}
 use Rattle.ideal_lane.specs.State.{Idle, LaneMap, LaneState, Loaded}

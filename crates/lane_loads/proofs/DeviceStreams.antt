@@ -13,7 +13,7 @@ use Rattle.busdma_machine.specs.declared.report.Judged.TheVariants.{Fine, Refuse
 use Rattle.busdma_machine.specs.Machine.Entry.{HasPart, entries_of, entry_parts, extent_parts, others_of, parts_of}
 use Rattle.busdma_machine.specs.Machine.Spans.{bio_spans}
 use Rattle.busdma_rules.specs.Memory.Bios.{is_rounded}
-use Rattle.busdma_rules.specs.Memory.Extents.{extents_of, reached}
+use Rattle.busdma_rules.specs.Memory.Extents.{extents_of, reached_addresses as reached}
 use Rattle.busdma_rules.specs.Memory.Translation.{Translation}
 use Rattle.phys_memory.specs.Vector.{ending}
 use Rattle.busdma_rules.specs.Memory.Vectors.{with_entry}

@@ -6,7 +6,7 @@ use mathlib.Core.Logic.{∥∥₁_elim}
 use Rattle.std.proofs.lemmas.Bool.{eq-eqb}
 use Rattle.std.specs.FinMap.{get}
 use Rattle.std.specs.List.{Contains, list_any}
-use Rattle.busdma_rules.specs.Iommu.Space.{AreRuns, DeviceRun, Space, begins_at, is_live, left}
+use Rattle.busdma_rules.specs.Iommu.Space.{AreRuns, DeviceRun, Space, begins_at, is_live, run_unmapped as left}
 use Rattle.busdma_rules.proofs.Iommu.Members.{place-in}
 use Rattle.phys_memory.specs.Memory.{wire}
 use Rattle.ideal_lane.specs.Outcomes.{is_loaded}

@@ -16,14 +16,14 @@ use Rattle.busdma_machine.specs.declared.tags.tag.TagLimits.{TagLimits}
 use Rattle.busdma_machine.specs.Bounce.AccountStep.{as_pages}
 use Rattle.busdma_rules.specs.Lending.Syncing.{lost_by_forgetting}
 use Rattle.busdma_rules.specs.Lending.Loans.{Loan, addresses_of, loan_of, new_loan, no_loan, to_write}
-use Rattle.busdma_rules.specs.Lending.Loans.{unlent as unlent_positions}
+use Rattle.busdma_rules.specs.Lending.Loans.{unlent_positions}
 use Rattle.ideal_lane.proofs.Lookups.{get_put, get_cut, put_same}
 use Rattle.busdma_rules.specs.Segments.Building.{placed_pieces, tag_placed}
 use Rattle.busdma_rules.specs.Segments.Segmentation.{segmentation}
 use Rattle.ideal_lane.specs.IdealMemory.{forgotten}
 use Rattle.ideal_lane.specs.Loads.{Asked, emptied, finished, limits_of, loaded, staged, unpaged}
 use Rattle.ideal_lane.specs.State.{LaneMap, LaneState, Loaded}
-use Rattle.ideal_lane.specs.Unloads.{unlent}
+use Rattle.ideal_lane.specs.Unloads.{loan_forgotten as unlent}
 
 module _ (m : ℕ) (o : LaneMap) (load_at : ℕ) (x : Asked) (chunks : List Chunk) (pages : List ℕ) (l : LaneState) where
   abbrev t : TagLimits

@@ -8,7 +8,7 @@ use Rattle.std.specs.Ordering.{nat_cmp}
 use Rattle.std.specs.FinMap.{FinMap, get, insert, contains_key, entries, get-entries, entries-insert}
 use Rattle.busdma_machine.specs.declared.machine.chunk.Chunk.{Chunk}
 use Rattle.lane_tables.specs.declared.queued.QueuedPage.{QueuedPage}
-use Rattle.busdma_rules.specs.Lending.Loans.{Loan, Loans, new_loan, unlent}
+use Rattle.busdma_rules.specs.Lending.Loans.{Loan, Loans, new_loan, unlent_positions as unlent}
 use Rattle.phys_memory.specs.Memory.{Memory}
 use Rattle.ideal_lane.proofs.Lookups.{get_put, mapped}
 use Rattle.ideal_lane.proofs.Weights.{weigh-put}

@@ -18,7 +18,7 @@ use Rattle.lane_tables.specs.Queues.{queued_pages}
 use Rattle.ideal_lane.specs.Loads.{emptied, unpaged}
 use Rattle.ideal_lane.specs.Outcomes.{gives, is_idle, is_loaded}
 use Rattle.ideal_lane.specs.State.{LaneState, LaneMap, Stage, Idle, Waiting, Loaded, Returning}
-use Rattle.ideal_lane.specs.Unloads.{unload, unlent, unmapped, pages_of}
+use Rattle.ideal_lane.specs.Unloads.{unload, loan_forgotten as unlent, unmapped, pages_of}
 use Rattle.lane_state.specs.Kept.{stage_of, return_of}
 
 module _ (l : LaneState) (m : ℕ) where

@@ -11,7 +11,7 @@ ghost use Rattle.busdma_machine.specs.Bounce.Door.{Allows};
 ghost use Rattle.busdma_machine.specs.Machine.PageList.{page_addresses};
 ghost use Rattle.busdma_rules.specs.Segments.Trace.{IsPage};
 ghost use Rattle.ideal_lane.specs.Loads.{Asked, asked, finished, granted, is_coherent, limits_of, load, load_entries};
-ghost use Rattle.ideal_lane.specs.Loads.{zone_of};
+ghost use Rattle.ideal_lane.specs.Loads.{zone_of_map as zone_of};
 ghost use Rattle.ideal_lane.specs.Standing.{Stands};
 ghost use Rattle.ideal_lane.specs.State.{LaneMap, named};
 ghost use Rattle.ideal_wire.specs.Laid.{AreInPages, AreLaid};

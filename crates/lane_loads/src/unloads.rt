@@ -2,13 +2,13 @@
 
 ghost use Rattle.std.specs.Prelude.{◌≡◌, ◌≤◌, ◌++◌, [], IfNone, IfSome, Some, length, true};
 ghost use Rattle.std.specs.FinMap.{get};
-ghost use Rattle.busdma_rules.specs.Iommu.Space.{is_live, left};
+ghost use Rattle.busdma_rules.specs.Iommu.Space.{is_live, run_unmapped as left};
 ghost use Rattle.ideal_lane.specs.Asking.{Gives};
 ghost use Rattle.ideal_lane.specs.Loads.{unpaged};
 ghost use Rattle.ideal_lane.specs.State.{LaneMap};
 ghost use Rattle.ideal_lane.specs.Tags.{with_space};
 ghost use Rattle.ideal_lane.specs.Unloads as unloads;
-ghost use Rattle.ideal_lane.specs.Unloads.{first_of, pages_of, unlent, unmapped};
+ghost use Rattle.ideal_lane.specs.Unloads.{first_of, pages_of, loan_forgotten, unmapped};
 ghost use Rattle.ideal_wire.specs.Mapped.{AreMapped};
 ghost use Rattle.ideal_wire.specs.Spaced.{AreSpaced};
 ghost use Rattle.lane_state.specs.declared.kept.KeptTag.{KeptTag};
@@ -98,7 +98,7 @@ fn leave_run(holdings: &mut Holdings<'_>, tag: u32, first: u64)
 pub(crate) fn end_load(holdings: &mut Holdings<'_>, map: u32)
     requires { has_load (get holdings.old.maps.map map) ≡ true }
     ensures done { (o : LaneMap) → get (ideal_of holdings.old).maps map ≡ Some o →
-        ideal_of holdings.new ≡ unpaged map o (pages_of o.stage) (unlent map (ideal_of holdings.old)) }
+        ideal_of holdings.new ≡ unpaged map o (pages_of o.stage) (loan_forgotten map (ideal_of holdings.old)) }
     ensures bytes { KeepsBytesHeld holdings.old holdings.new }
     ensures script { holdings.new.script ≡ holdings.old.script }
     ensures memories { holdings.new.memories ≡ holdings.old.memories }

@@ -6,7 +6,7 @@ use Rattle.busdma_base.specs.declared.journals.answer.Answer.TheVariants as answ
 use Rattle.busdma_machine.specs.declared.report.Errno.TheVariants.{EBUSY}
 use Rattle.busdma_machine.specs.declared.report.ReportName.TheVariants.{Absent, NotDeferred}
 use Rattle.ideal_lane.specs.Asking.{Asks}
-use Rattle.ideal_lane.specs.Maps.{bounces, map, map_destroy, await, with_map, without_map, created}
+use Rattle.ideal_lane.specs.Maps.{bounces, map, map_destroy, await, with_map, without_map, map_by_reply as created}
 use Rattle.ideal_lane.specs.Outcomes.{gives, is_idle}
 use Rattle.ideal_lane.specs.State.{LaneState, LaneTag, LaneMap, named}
 

@@ -13,7 +13,7 @@ use Rattle.busdma_machine.specs.declared.report.ReportName.TheVariants.{Absent}
 use Rattle.busdma_machine.specs.declared.name.MapId.{MapId}
 use Rattle.busdma_machine.specs.declared.tags.tag.TagLimits.{TagLimits}
 use Rattle.busdma_machine.specs.Bounce.Account.{Account}
-use Rattle.busdma_machine.specs.Bounce.AccountStep.{placed}
+use Rattle.busdma_machine.specs.Bounce.AccountStep.{memory_placed as placed}
 use Rattle.busdma_machine.specs.Bounce.Door.{ArePagesOf, Holds, Seen, account}
 use Rattle.busdma_machine.specs.Bounce.EachFrame.{LiesBelowMaxmem}
 use Rattle.busdma_machine.specs.Bounce.MemoryRuns.{frames_for, frames_from, in_run, lowest_run}
@@ -43,7 +43,7 @@ module _ (l : LaneState) (t flags : ℕ) where
   make-absent none = rw none refl
 
   pub make-asks : (o : LaneTag) → get l.tags t ≡ Some o →
-      dmamem t flags l ≡ Asks (MemAlloc (named l l.place) o.limits) (memories.placed t o.limits flags l)
+      dmamem t flags l ≡ Asks (MemAlloc (named l l.place) o.limits) (memories.memory_by_reply t o.limits flags l)
   make-asks o there = rw there refl
 
 -- ---- its end
@@ -134,10 +134,10 @@ made-memory l tag first count len flags coherent clear size shared filled = λ i
 -- it is the one that the reply tells
 pub placed-memory : (l : LaneState) (t first count : ℕ) (limits : TagLimits) (flags : ℕ) →
     count ≡ frames_for limits.maxsize →
-    memories.placed t limits flags l (Run (record { 0 = first }) count) ≡ record {
+    memories.memory_by_reply t limits flags l (Run (record { 0 = first }) count) ≡ record {
       lane = with_memory (ideal_memory t first limits.maxsize flags)
           (Rattle.busdma_rules.specs.Tags.MemFlags.zero_filled flags) l;
       answer = answer.Placed (record { 0 = first });
     }
 placed-memory l t first count limits flags size =
-    ap (λ n. memories.placed t limits flags l (Run (record { 0 = first }) n)) size
+    ap (λ n. memories.memory_by_reply t limits flags l (Run (record { 0 = first }) n)) size

@@ -11,7 +11,8 @@ use Rattle.busdma_machine.specs.Tags.TagFlags.{allocnow}
 use Rattle.ideal_lane.specs.Asking.{Asks}
 use Rattle.ideal_lane.specs.Outcomes.{gives}
 use Rattle.ideal_lane.specs.State.{LaneState, LaneTag, no_space}
-use Rattle.ideal_lane.specs.Tags.{tag, tag_or_invalid, attached, with_space, with_tag, tag_destroy, has_maps}
+use Rattle.ideal_lane.specs.Tags.{tag, tag_or_invalid, tag_by_reply as attached}
+use Rattle.ideal_lane.specs.Tags.{with_space, with_tag, tag_destroy, has_maps}
 
 module _ (l : LaneState) where
   -- the parent is not there

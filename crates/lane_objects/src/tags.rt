@@ -12,7 +12,7 @@ ghost use Rattle.ideal_lane.specs.Asking.{Asks, Gives};
 ghost use Rattle.ideal_lane.specs.Outcomes.{gives};
 ghost use Rattle.ideal_lane.specs.Standing.{Stands};
 ghost use Rattle.ideal_lane.specs.Tags as tags;
-ghost use Rattle.ideal_lane.specs.Tags.{attached, tag_or_invalid, with_tag};
+ghost use Rattle.ideal_lane.specs.Tags.{tag_by_reply as attached, tag_or_invalid, with_tag};
 ghost use Rattle.lane_state.specs.Doing.{IsAllowedBy, IsCalled, IsDone, IsUndone, asks};
 ghost use Rattle.lane_state.specs.Changes.{KeepsBytes, KeepsButTags, KeepsState};
 ghost use Rattle.lane_state.specs.Ideal.{given, ideal_of};

@@ -50,7 +50,7 @@ use Rattle.ideal_lane.specs.Memories.{dmamem, dmamem_free}
 use Rattle.ideal_lane.specs.Outcomes.{Outcome, gives, refused, unless_absent, unless_refused, unless_busy}
 use Rattle.ideal_lane.specs.Outcomes.{unless_unloaded}
 use Rattle.ideal_lane.specs.Outcomes.{unless_past, is_idle, is_loaded, load_length}
-use Rattle.ideal_lane.specs.Places.{bytes_at, reached, virtual_at}
+use Rattle.ideal_lane.specs.Places.{bytes_at, first_unreached as reached, virtual_at}
 use Rattle.ideal_lane.specs.Rings.{Candidate, allowed, at_first, candidates, fits_in, head_at, head_of, is_work, kick}
 use Rattle.ideal_lane.specs.Rings.{may_post, posted, ring, ring_post, ring_step, slot_place}
 use Rattle.ideal_lane.specs.Sends as sends

@@ -6,7 +6,7 @@ use Rattle.busdma_base.specs.declared.journals.journal.Actor.{Actor}
 use Rattle.busdma_base.specs.declared.journals.journal.Journal.{Journal}
 use Rattle.busdma_base.specs.declared.scenarios.scenario.Scenario.{Scenario}
 use Rattle.busdma_base.specs.Scenarios.Opening.{opening}
-use Rattle.ideal_world.specs.Ends.{IsAtRest, end_of}
+use Rattle.ideal_world.specs.Ends.{IsAtRest, world_end}
 use Rattle.ideal_world.specs.Left.{left_of}
 use Rattle.ideal_world.specs.World.{WorldState, opening_world, step_entry, zone_counts}
 use Rattle.lane_merge.specs.Merged.{AllRun, merged}
@@ -41,4 +41,4 @@ pub record IsFromLogs (s : Scenario) (j : Journal) : Type 0 where
   pub rest : IsAtRest last
   pub entries : j.entries ≡ merged history logs
   pub zones : j.zones ≡ zone_counts last
-  pub end : j.end ≡ end_of last
+  pub end : j.end ≡ world_end last

@@ -19,15 +19,17 @@ use Rattle.busdma_machine.specs.Bounce.AccountStep.{as_pages}
 use Rattle.busdma_machine.specs.Machine.Entry.{entries_addresses}
 use Rattle.busdma_rules.specs.Iommu.Device.{device_chunks, load_frames}
 use Rattle.busdma_rules.specs.Iommu.Space.{Space, first_free}
-use Rattle.lane_agreement.specs.After.{addresses}
+use Rattle.lane_agreement.specs.After.{addresses_of_pages as addresses}
 use Rattle.busdma_rules.specs.Lending.Loans.{Loans, new_loan}
 use Rattle.busdma_rules.specs.Segments.Building.{placed_pieces, tag_placed}
 use Rattle.busdma_rules.specs.Segments.Chunks.{bounced_of, need_of}
 use Rattle.busdma_rules.specs.Segments.Segmentation.{segmentation}
 use Rattle.ideal_lane.specs.Asking.{Asking, Gives, Asks, by_reply}
-use Rattle.ideal_lane.specs.Loads.{Asked, are_few, chunks_for, device_load, emptied, ended, finished, granted, is_coherent}
-use Rattle.ideal_lane.specs.Loads.{is_device, limits_of, load, load_chunks, loaded, taken, unpaged, waiting_load, with_run}
-use Rattle.ideal_lane.specs.Loads.{with_spaces, zone_of}
+use Rattle.ideal_lane.specs.Loads.{Asked, are_few, chunks_for, device_load}
+use Rattle.ideal_lane.specs.Loads.{emptied, ended, finished, granted, is_coherent}
+use Rattle.ideal_lane.specs.Loads.{is_device, limits_of, load, load_chunks}
+use Rattle.ideal_lane.specs.Loads.{loaded, taken, unpaged, waiting_load, with_run}
+use Rattle.ideal_lane.specs.Loads.{with_spaces, zone_of_map as zone_of}
 use Rattle.ideal_lane.specs.Outcomes.{Outcome, is_idle, refused, unless_absent, unless_refused}
 use Rattle.ideal_lane.specs.State.{Idle, LaneMap, LaneState, Loaded, Stage, Waiting, named}
 use Rattle.ideal_lane.proofs.Lookups.{get_put}

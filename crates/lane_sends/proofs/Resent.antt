@@ -20,7 +20,7 @@ use Rattle.ideal_lane.specs.Asking.{Asking, Gives, Asks, by_reply}
 use Rattle.ideal_lane.specs.Loads.{asked}
 use Rattle.ideal_lane.specs.Outcomes.{Outcome}
 use Rattle.ideal_lane.specs.Sends as sends
-use Rattle.ideal_lane.specs.Sends.{Send, copied, due_send, load_again, outcome_with, with_memory}
+use Rattle.ideal_lane.specs.Sends.{Send, copied, due_send, load_again, outcome_with, with_bytes as with_memory}
 use Rattle.ideal_lane.specs.State.{LaneState}
 use Rattle.ideal_wire.specs.WireStep as wires
 use Rattle.ideal_wire.specs.WireStep.{is_free}

@@ -11,7 +11,7 @@ use Rattle.busdma_machine.specs.Runs.{addresses, run_of}
 use Rattle.load_bio.specs.Bio.{bio_stream}
 use Rattle.busdma_rules.specs.Memory.BioFrames.{in_frames}
 use Rattle.phys_memory.specs.declared.walk.Walked.TheVariants as walk
-use Rattle.busdma_rules.specs.Memory.Extents.{reached, then_reached}
+use Rattle.busdma_rules.specs.Memory.Extents.{reached_addresses as reached, then_reached}
 use Rattle.phys_memory.specs.Memory.{Memory, physical, reached_in}
 use Rattle.busdma_rules.specs.Memory.Translation.{Translation, missing, unreached}
 use Rattle.phys_memory.specs.Walk.{IfParts, run_stream, verdict, walk_of}

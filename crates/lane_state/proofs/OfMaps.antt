@@ -9,7 +9,7 @@ use Rattle.busdma_machine.specs.Bounce.MemoryRuns.{in_run}
 use Rattle.busdma_base.specs.declared.scenarios.scenario.PageRun.{PageRun}
 use Rattle.busdma_base.specs.Scenarios.PageRuns.{is_own}
 use Rattle.busdma_rules.specs.declared.position.Position.{Position}
-use Rattle.busdma_rules.specs.Lending.Loans.{Loan, Loans, new_loan, no_loan, unlent}
+use Rattle.busdma_rules.specs.Lending.Loans.{Loan, Loans, new_loan, no_loan, unlent_positions as unlent}
 use Rattle.loan_table.specs.Table.{IsSame, Table}
 use Rattle.ideal_lane.proofs.Lookups.{get_cut, get_put}
 use Rattle.ideal_wire.specs.Laid.{is_loadable}

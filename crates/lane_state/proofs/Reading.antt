@@ -27,7 +27,7 @@ use Rattle.ideal_lane.specs.Accesses.{cpu_read, values}
 use Rattle.ideal_lane.specs.IdealMemory.{known, value, is_known}
 use Rattle.ideal_lane.specs.Outcomes.{gives, unless_absent, unless_refused}
 use Rattle.ideal_lane.specs.Asking.{Asking}
-use Rattle.ideal_lane.specs.Places.{physical, or_in_memory, reached, bytes_at, virtual_at}
+use Rattle.ideal_lane.specs.Places.{physical, or_in_memory, first_unreached as reached, bytes_at, virtual_at}
 use Rattle.ideal_lane.specs.State.{LaneState}
 use Rattle.ideal_lane.specs.Outcomes.{Outcome}
 use Rattle.ideal_wire.specs.Traces.{bus_at}

@@ -9,7 +9,7 @@ ghost use Rattle.busdma_machine.specs.Machine.Entry.{IsStream, entries_addresses
 ghost use Rattle.busdma_machine.specs.Machine.PageList.{page_addresses};
 ghost use Rattle.busdma_machine.specs.Machine.Spans.{span_bytes};
 ghost use Rattle.busdma_machine.specs.Runs.{addresses, byte_count};
-ghost use Rattle.busdma_rules.specs.Tags.LoadFlags.{nowait};
+ghost use Rattle.busdma_rules.specs.Tags.LoadFlags.{load_nowait};
 ghost use Rattle.loan_table.specs.Table.{AreIn};
 ghost use Rattle.phys_memory.specs.Frames.{Lie};
 ghost use Rattle.busdma_rules.specs.Segments.Building.{placed_pieces};
@@ -93,7 +93,7 @@ pub fn never_waits(buffer: &Buffer, flags: u32) -> bool
 }
 
 fn is_nowait(flags: u32) -> bool
-    ensures { result ≡ nowait flags }
+    ensures { result ≡ load_nowait flags }
 {
     LoadFlags(flags).contains(LoadFlags::NOWAIT)
 }

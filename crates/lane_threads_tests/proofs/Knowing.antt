@@ -7,7 +7,7 @@ use Rattle.busdma_machine.specs.Bounce.AccountStep.{as_pages}
 use Rattle.busdma_machine.specs.Bounce.Conditions.{MayCall}
 use Rattle.busdma_machine.specs.Bounce.Door.{Seen, Allows, Holds, account}
 use Rattle.lane_agreement.specs.View.{View, Loaded, unloaded}
-use Rattle.lane_agreement.specs.After.{after, addresses, MayAsk}
+use Rattle.lane_agreement.specs.After.{after, addresses_of_pages as addresses, MayAsk}
 use Rattle.lane_agreement.proofs.Asking.{agrees-may}
 use Rattle.lane_agreement.proofs.Doors.{agrees-holds}
 use Rattle.lane_agreement.proofs.Steps.{agrees-unloaded}

@@ -7,7 +7,7 @@ use Rattle.busdma_machine.specs.declared.bounce.hold.HubReply.TheVariants.{Nothi
 use Rattle.busdma_machine.specs.declared.bounce.zone.Waiter.{Waiter}
 use Rattle.busdma_base.specs.declared.journals.journal.Side.{Side}
 use Rattle.busdma_machine.specs.Bounce.Account.{Account, zone_at}
-use Rattle.busdma_machine.specs.Bounce.AccountStep.{Outcome, account_step, as_pages, called_from}
+use Rattle.busdma_machine.specs.Bounce.AccountStep.{AccountReply as Outcome, account_step, as_pages, called_from}
 use Rattle.busdma_machine.specs.Bounce.Door.{Seen, Passes, account}
 use Rattle.busdma_machine.specs.Bounce.EachFrame.{EachFrame, LiesBelowMaxmem}
 use Rattle.busdma_machine.specs.Bounce.History.{IsFrame, IsOpening, IsSound, account_of, after_entry}

@@ -10,7 +10,7 @@ use Rattle.phys_memory.specs.declared.entries.Entries.{Entries}
 use Rattle.phys_memory.specs.declared.entries.Entries.TheVariants as walk
 use Rattle.phys_memory.specs.declared.walk.Walked.{Walked}
 use Rattle.phys_memory.specs.declared.walk.Walked.TheVariants.{Parts, Unmapped}
-use Rattle.busdma_rules.specs.Memory.Extents.{reached}
+use Rattle.busdma_rules.specs.Memory.Extents.{reached_addresses as reached}
 use Rattle.busdma_rules.specs.Memory.Translation.{physical_or_0}
 use Rattle.phys_memory.specs.Vector.{IfAll, spans_stream, spans_walk}
 use Rattle.phys_memory.specs.Walk.{walk_of, walked}

@@ -5,7 +5,7 @@ use Rattle.std.specs.Prelude.{Some, slice_get}
 use Rattle.std.proofs.lemmas.Bool.{cases_lt}
 use Rattle.busdma_machine.specs.declared.machine.address.Extent.{Extent}
 use Rattle.busdma_machine.specs.declared.machine.chunk.Part.TheVariants as part
-use Rattle.busdma_rules.specs.Memory.Extents.{reached, then_reached}
+use Rattle.busdma_rules.specs.Memory.Extents.{reached_addresses as reached, then_reached}
 use Rattle.phys_memory.specs.Walk.{run_stream}
 use Rattle.phys_memory.proofs.Paged.{HasPage, next_in_page}
 use Rattle.phys_memory.proofs.Streams.{stream_next}

@@ -25,13 +25,13 @@ pub(crate) struct FrameParts<'a> {
 impl<'a> Model for FrameParts<'a> {
     ghost use Rattle.std.specs.Prelude.{List, ◌+◌, ◌<◌, ◌^◌, false};
     ghost use Rattle.busdma_machine.specs.declared.machine.chunk.Part.{Part};
-    ghost use Rattle.busdma_rules.specs.Memory.Extents.{reached};
+    ghost use Rattle.busdma_rules.specs.Memory.Extents.{reached_addresses};
     ghost use Rattle.phys_memory.specs.Walk.{run_stream};
     ghost use Rattle.busdma_rules.specs.Memory.BioFrames.{AreFrames, in_frames};
 
     ghost Value = { List Part };
 
-    ghost view = { λ s. run_stream (reached (in_frames s.frames.now) s.off s.left) s.left s.offset s.opens false };
+    ghost view = { λ s. run_stream (reached_addresses (in_frames s.frames.now) s.off s.left) s.left s.offset s.opens false };
 
     ghost invariant = { λ s. (s.off < 4096) × (s.offset + s.left < 2 ^ 64) × AreFrames s.frames.now };
 }

@@ -8,7 +8,7 @@ use Rattle.std.specs.Cmp.{nat_cmp_total}
 use Rattle.std.specs.FinMap.{FinMap, get, insert, remove, get-remove}
 use Rattle.busdma_rules.specs.declared.position.Position.{Position}
 use Rattle.loan_table.specs.Table.{AreIn}
-use Rattle.busdma_rules.specs.Lending.Loans.{Loan, Loans, loan_of, no_loan, addresses_of, unlent}
+use Rattle.busdma_rules.specs.Lending.Loans.{Loan, Loans, loan_of, no_loan, addresses_of, unlent_positions as unlent}
 use Rattle.busdma_machine.specs.Machine.Wire.{stretch}
 use Rattle.busdma_rules.specs.Lending.Syncing.{loses, lost}
 use Rattle.loan_table.specs.Trees.{with_value}

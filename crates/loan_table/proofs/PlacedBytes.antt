@@ -13,7 +13,8 @@ use Rattle.busdma_machine.specs.Runs.{run_of}
 use Rattle.busdma_rules.specs.Tags.SyncOps.{preread, prewrite, postread, postwrite}
 use Rattle.run_set.specs.Edges.{in_run, member, NoneIn, Rises}
 use Rattle.busdma_rules.specs.declared.position.Position.{Position}
-use Rattle.busdma_rules.specs.Lending.Loans.{Loan, addresses_of, new_loan, stands_twice, to_write, unlent}
+use Rattle.busdma_rules.specs.Lending.Loans.{Loan, addresses_of, new_loan}
+use Rattle.busdma_rules.specs.Lending.Loans.{stands_twice, to_write, unlent_positions as unlent}
 use Rattle.loan_table.specs.Kinds.{unlent_refusal}
 use Rattle.busdma_rules.specs.Lending.Syncing.{marked, marked_range}
 use Rattle.loan_table.specs.Rows.{alike, lent_like, placed, stands, AreAlike}

@@ -17,7 +17,7 @@ use Rattle.busdma_rules.specs.declared.position.Position.{Position}
 use Rattle.loan_table.specs.declared.lent.LentCounts.{LentCounts}
 use Rattle.loan_table.specs.declared.row.Way.{Way}
 use Rattle.loan_table.specs.declared.row.Way.TheVariants.{ToWrite, ToRead}
-use Rattle.busdma_rules.specs.Lending.Loans.{Loan, Loans, loan_of, no_loan, is_at, unlent}
+use Rattle.busdma_rules.specs.Lending.Loans.{Loan, Loans, loan_of, no_loan, is_at, unlent_positions as unlent}
 use Rattle.loan_table.specs.Kinds.{test_of}
 use Rattle.busdma_rules.specs.Lending.Syncing.{marked, marked_range, synced}
 use Rattle.loan_table.specs.Counted.{places, lent_places, counts_of, IsCounted, IsPlaced, LendsNothing, Holds}

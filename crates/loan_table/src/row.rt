@@ -10,7 +10,7 @@ ghost use Rattle.loan_table.specs.Counted.{places, places_in, HasChanges, Holds,
 ghost use Rattle.loan_table.specs.Ends.{Ends};
 ghost use Rattle.loan_table.specs.Kinds.{test_of, unlent_refusal};
 ghost use Rattle.busdma_rules.specs.Lending.Syncing.{marked, marked_range};
-ghost use Rattle.busdma_rules.specs.Lending.Loans.{stands_twice, addresses_of, to_write, new_loan, unlent};
+ghost use Rattle.busdma_rules.specs.Lending.Loans.{stands_twice, addresses_of, to_write, new_loan, unlent_positions};
 ghost use Rattle.loan_table.specs.Rows.{alike, AreAlike, AreWithin, IsRoomy};
 ghost use Rattle.loan_table.specs.Table.{extent_count, AreIn, set_all};
 ghost use Rattle.run_set.specs.Edges.{in_run, member};
@@ -284,7 +284,7 @@ impl LoanRow {
 
     /// Whether no set has a place: the map lends nothing.
     fn is_unlent(&self) -> bool
-        ensures { result ≡ true → self.now.positions ≡ unlent (addresses_of self.now.positions) }
+        ensures { result ≡ true → self.now.positions ≡ unlent_positions (addresses_of self.now.positions) }
     {
         is_empty(&self.to_read) && is_empty(&self.to_write)
     }

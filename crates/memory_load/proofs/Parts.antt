@@ -10,7 +10,7 @@ use Rattle.busdma_machine.specs.Machine.Entry.{IsStream, entries_of, extent_part
 use Rattle.busdma_machine.specs.Machine.Spans.{one_span}
 use Rattle.busdma_machine.specs.Runs.{run_of}
 use Rattle.phys_memory.specs.Extents.{BeginsFrame}
-use Rattle.busdma_rules.specs.Memory.Extents.{extents_of, reached, then_reached}
+use Rattle.busdma_rules.specs.Memory.Extents.{extents_of, reached_addresses as reached, then_reached}
 use Rattle.busdma_rules.specs.Memory.Translation.{Translation}
 use Rattle.phys_memory.specs.Vector.{spans_stream}
 use Rattle.busdma_rules.specs.Memory.Vectors.{with_entry}

@@ -11,7 +11,7 @@ use Rattle.busdma_machine.specs.Machine.Entry.{entry_addresses}
 use Rattle.busdma_machine.specs.Runs.{byte_count}
 use Rattle.busdma_machine.specs.Tags.Tag.{excluded, needs_bounce}
 use Rattle.busdma_rules.specs.Segments.Chunks.{bounced_of, chunk_limit, chunks_from, chunks_of_bytes, chunks_within}
-use Rattle.busdma_rules.specs.Segments.Trace.{in_page, first_page, placed}
+use Rattle.busdma_rules.specs.Segments.Trace.{in_page, first_page, chunks_in_pages as placed}
 use Rattle.busdma_rules.proofs.Segments.Sound.{all_append}
 use Rattle.memory_load.specs.MemoryLoad.{unaligned}
 

@@ -17,7 +17,7 @@ use Rattle.busdma_machine.specs.Machine.Entry.{entry_parts, extent_parts, others
 use Rattle.busdma_machine.specs.Runs.{IsExtent, addresses, byte_count, run_of}
 use Rattle.busdma_machine.specs.Machine.Spans.{one_span, span_bytes}
 use Rattle.busdma_rules.specs.Memory.Translation.{Translation}
-use Rattle.busdma_rules.specs.Memory.Extents.{extents_of, reached}
+use Rattle.busdma_rules.specs.Memory.Extents.{extents_of, reached_addresses as reached}
 use Rattle.phys_memory.specs.Vector.{ending, spans_stream}
 use Rattle.busdma_rules.specs.Memory.Vectors.{judged_spans, with_entry}
 use Rattle.busdma_rules.specs.Memory.Vectors.{entries_of as walk_entries}

@@ -6,7 +6,7 @@ use Rattle.std.proofs.lemmas.Bool.{cases_lt}
 use Rattle.busdma_machine.specs.Runs.{run_of}
 use Rattle.busdma_rules.specs.Memory.Translation.{Translation}
 use Rattle.phys_memory.specs.Extents.{BeginsFrame, IsNext}
-use Rattle.busdma_rules.specs.Memory.Extents.{reached, then_reached}
+use Rattle.busdma_rules.specs.Memory.Extents.{reached_addresses as reached, then_reached}
 use Rattle.busdma_rules.proofs.Memory.Paged.{KeepsPlaces}
 
 -- a page has a frame, and so many of its first bytes can be reached

@@ -10,7 +10,7 @@ use Rattle.busdma_machine.specs.Machine.Entry.{extent_parts}
 use Rattle.busdma_machine.specs.Runs.{run_of}
 use Rattle.busdma_rules.specs.Memory.Translation.{Translation}
 use Rattle.phys_memory.specs.Extents.{IsNext}
-use Rattle.busdma_rules.specs.Memory.Extents.{extents_of, reached}
+use Rattle.busdma_rules.specs.Memory.Extents.{extents_of, reached_addresses as reached}
 use Rattle.phys_memory.specs.Walk.{run_stream}
 use Rattle.phys_memory.proofs.Extents.{extents_of-run, length-run_of}
 

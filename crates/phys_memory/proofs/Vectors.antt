@@ -19,7 +19,7 @@ use Rattle.phys_memory.specs.declared.entries.Entries.{Entries}
 use Rattle.phys_memory.specs.declared.entries.Entries.TheVariants as walk
 use Rattle.phys_memory.specs.declared.walk.Walked.TheVariants.{Parts, Unmapped}
 use Rattle.busdma_rules.specs.Memory.Translation.{Translation, physical_or_0}
-use Rattle.busdma_rules.specs.Memory.Extents.{extents_of, reached, then_reached}
+use Rattle.busdma_rules.specs.Memory.Extents.{extents_of, reached_addresses as reached, then_reached}
 use Rattle.phys_memory.specs.Vector.{IfAll, ending, spans_at, spans_stream, spans_walk, then_parts, walk_unless}
 use Rattle.busdma_rules.specs.Memory.Vectors.{entries_of, judged_spans, with_entry}
 use Rattle.phys_memory.specs.Walk.{flat_at, walk_of}

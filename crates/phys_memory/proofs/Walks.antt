@@ -14,7 +14,7 @@ use Rattle.busdma_machine.specs.Runs.{addresses, run_of, IsExtent}
 use Rattle.phys_memory.specs.declared.walk.Walked.{Walked}
 use Rattle.phys_memory.specs.declared.walk.Walked.TheVariants.{Parts, Unmapped}
 use Rattle.busdma_rules.specs.Memory.Translation.{Translation, physical_or_0, unreached}
-use Rattle.busdma_rules.specs.Memory.Extents.{extents_of, reached}
+use Rattle.busdma_rules.specs.Memory.Extents.{extents_of, reached_addresses as reached}
 use Rattle.phys_memory.specs.Walk.{IfParts, flat, run_stream, verdict, walk_of, walked}
 use Rattle.busdma_rules.proofs.Memory.Extents.{reached_extents}
 use Rattle.busdma_rules.proofs.Memory.Paged.{IsPaged}

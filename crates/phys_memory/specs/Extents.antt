@@ -4,7 +4,7 @@ use Rattle.busdma_machine.specs.declared.machine.address.Extent.{Extent}
 use Rattle.busdma_machine.specs.Runs.{IsExtent, run_of}
 use Rattle.phys_memory.specs.Memory.{Memory, has_frame}
 use Rattle.busdma_rules.specs.Memory.Translation.{Translation}
-use Rattle.busdma_rules.specs.Memory.Extents.{reached}
+use Rattle.busdma_rules.specs.Memory.Extents.{reached_addresses}
 
 -- the extent lies in a frame of the memory
 abbrev pub LiesIn : Memory → Extent → Type 0
@@ -19,5 +19,5 @@ BeginsFrame (pa ∷ pas) = pa % 4096 ≡ 0
 pub record IsNext (t : Translation) (va n : ℕ) (e : Extent) : Type 0 where
   pub extent : IsExtent e
   pub short : e.len ≤ n
-  pub others : reached t va n ≡ run_of e.pa.0 e.len ++ reached t (va + e.len) (n - e.len)
-  pub cut : BeginsFrame (reached t (va + e.len) (n - e.len))
+  pub others : reached_addresses t va n ≡ run_of e.pa.0 e.len ++ reached_addresses t (va + e.len) (n - e.len)
+  pub cut : BeginsFrame (reached_addresses t (va + e.len) (n - e.len))

@@ -9,7 +9,7 @@ use Rattle.busdma_machine.specs.declared.report.Judged.TheVariants.{Fine, Refuse
 use Rattle.busdma_machine.specs.Machine.Entry.{extent_parts}
 use Rattle.phys_memory.specs.declared.walk.Walked.{Walked}
 use Rattle.phys_memory.specs.declared.walk.Walked.TheVariants.{Parts, Unmapped}
-use Rattle.busdma_rules.specs.Memory.Extents.{extents_of, reached}
+use Rattle.busdma_rules.specs.Memory.Extents.{extents_of, reached_addresses}
 use Rattle.busdma_rules.specs.Memory.Translation.{Translation}
 
 -- the stream of n bytes of which these can be reached, the first of them at an offset of the load; an
@@ -21,7 +21,7 @@ run_stream pas n offset opens rounded =
 
 -- the stream of n bytes from a virtual address on, the first of them at an offset of the load
 abbrev pub flat_at : Bool → Translation → ℕ → ℕ → ℕ → List Part
-flat_at rounded t offset va n = run_stream (reached t va n) n offset true rounded
+flat_at rounded t offset va n = run_stream (reached_addresses t va n) n offset true rounded
 
 -- the stream of n bytes from a virtual address on
 abbrev pub flat : Translation → ℕ → ℕ → List Part

@@ -6,7 +6,7 @@ ghost use Rattle.std.specs.Iterator.{HoldsAlong, YieldsFirst, item_count};
 ghost use Rattle.busdma_machine.specs.Machine.Entry.{IsStream, parts_of};
 ghost use Rattle.phys_memory.specs.Memory.{IsMemory, IsReachOf, physical, row_at};
 ghost use Rattle.phys_memory.specs.Extents.{IsNext};
-ghost use Rattle.busdma_rules.specs.Memory.Extents.{reached};
+ghost use Rattle.busdma_rules.specs.Memory.Extents.{reached_addresses};
 ghost use Rattle.phys_memory.specs.Stretches.{IsKnown};
 ghost use Rattle.phys_memory.specs.Walk.{flat, flat_at, run_stream};
 ghost use Rattle.busdma_machine.specs.Machine.Spans.{one_span};
@@ -33,14 +33,14 @@ pub struct FlatParts<'a> {
 impl<'a> Model for FlatParts<'a> {
     ghost use Rattle.std.specs.Prelude.{List, ◌+◌, ◌<◌, ◌^◌, true};
     ghost use Rattle.busdma_machine.specs.declared.machine.chunk.Part.{Part};
-    ghost use Rattle.busdma_rules.specs.Memory.Extents.{reached};
+    ghost use Rattle.busdma_rules.specs.Memory.Extents.{reached_addresses};
     ghost use Rattle.phys_memory.specs.Memory.{physical};
     ghost use Rattle.phys_memory.specs.Stretches.{IsKnown};
     ghost use Rattle.phys_memory.specs.Walk.{run_stream};
 
     ghost Value = { List Part };
 
-    ghost view = { λ s. run_stream (reached (physical s.memory.now.memory) s.at s.left) s.left s.offset s.opens true };
+    ghost view = { λ s. run_stream (reached_addresses (physical s.memory.now.memory) s.at s.left) s.left s.offset s.opens true };
 
     ghost invariant = { λ s. (s.at + s.left < 2 ^ 65) × (s.offset + s.left < 2 ^ 64)
         × IsKnown s.memory.now.memory.table s.known };

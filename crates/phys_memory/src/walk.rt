@@ -7,7 +7,7 @@ ghost use Rattle.busdma_machine.specs.Judging.{judged};
 ghost use Rattle.busdma_machine.specs.Runs.{IsExtent, addresses, run_of};
 ghost use Rattle.phys_memory.specs.Memory.{physical};
 ghost use Rattle.phys_memory.specs.Extents.{LiesIn};
-ghost use Rattle.busdma_rules.specs.Memory.Extents.{reached};
+ghost use Rattle.busdma_rules.specs.Memory.Extents.{reached_addresses};
 ghost use Rattle.busdma_rules.specs.Memory.Translation.{physical_or_0, unreached};
 ghost use Rattle.phys_memory.specs.Walk.{IfParts, verdict, walk_of, walked};
 
@@ -26,7 +26,7 @@ pub enum Walked {
 impl LanePages {
     /// The extents of `len` virtual bytes, one for each page that they touch, in order.
     pub fn translate(&self, alloc: Global, va: Va, len: u64) -> Result<Walked, AllocError>
-        ensures walk { IfOk result (λ w. w ≡ walk_of (reached (physical self.now.memory) va.0 len) len) }
+        ensures walk { IfOk result (λ w. w ≡ walk_of (reached_addresses (physical self.now.memory) va.0 len) len) }
         ensures verdict { let refusal = unreached (physical self.now.memory) in
             IfOk result (λ w. verdict w ≡ judged refusal 0 (run_of va.0 len)) }
         ensures addresses { let pas = map (physical_or_0 (physical self.now.memory)) (run_of va.0 len) in

@@ -42,8 +42,8 @@ end_word Finished = codes "finished"
 end_word Stuck = codes "stuck"
 
 -- the last line: how the run ended, how many entries there are, and how many answers are reports
-abbrev pub end_line : Journal → List ℕ
-end_line journal =
+abbrev pub journal_end_line : Journal → List ℕ
+journal_end_line journal =
     codes "end " ++ (end_word journal.end ++ (codes ", " ++ (decimal (length journal.entries)
     ++ (codes " entries, " ++ (decimal (report_count journal.entries) ++ codes " reports\n")))))
 
@@ -51,4 +51,4 @@ end_line journal =
 -- the last line
 abbrev pub report : Scenario → Journal → List ℕ
 report scenario journal =
-    numbered (entry_line scenario) 0 journal.entries ++ (zone_lines journal.zones ++ end_line journal)
+    numbered (entry_line scenario) 0 journal.entries ++ (zone_lines journal.zones ++ journal_end_line journal)

@@ -27,7 +27,7 @@ fn made_name(op: &Op) -> &str
 }
 
 fn name_at(script: &[Op], place: u32) -> &str
-    ensures { result.now ≡ text.name_at script.now place }
+    ensures { result.now ≡ text.name_made_at script.now place }
 {
     match script.get(place as usize) {
         Some(op) => made_name(op),
@@ -68,7 +68,7 @@ fn push_op<K: Sink>(out: &mut Pieces<'_, K>, script: &[Op], op: &Op)
 }
 
 fn item_at(script: &[Op], load_at: u32, place: u32) -> Option<&Item>
-    ensures { option_map (λ item. item.now) result ≡ text.item_at script.now load_at place }
+    ensures { option_map (λ item. item.now) result ≡ text.item_of_load script.now load_at place }
 {
     let op = script.get(load_at as usize)?;
     op.items().get(place as usize)

@@ -36,7 +36,7 @@ pub fn end_word(end: End) -> &'static str
 }
 
 fn push_end<K: Sink>(out: &mut Pieces<'_, K>, journal: &Journal)
-    ensures { Gives K.held K.faults out.old (text.end_line journal.now) out.new }
+    ensures { Gives K.held K.faults out.old (text.journal_end_line journal.now) out.new }
 {
     out.push_str("end ");
     out.push_str(end_word(journal.end));
@@ -58,7 +58,7 @@ fn push_run<K: Sink>(out: &mut Pieces<'_, K>, scenario: &Scenario, journal: &Jou
 /// The last line of a run: how it ended, how many entries its journal has, and how many of them
 /// have a report as their answer.
 pub fn end_line(alloc: Global, journal: &Journal) -> Result<ByteList, AllocError>
-    ensures { IfOk result (λ line. line ≡ text.end_line journal.now) }
+    ensures { IfOk result (λ line. line ≡ text.journal_end_line journal.now) }
 {
     let mut sink = text_sink(alloc);
     let mut out = Pieces::new(&mut sink);

@@ -6,7 +6,7 @@ use Rattle.busdma_base.specs.declared.scenarios.scenario.PageRun.{PageRun}
 use Rattle.busdma_base.specs.declared.scenarios.scenario.Driver.{Driver}
 use Rattle.busdma_base.specs.declared.scenarios.script.Op.{Op}
 use Rattle.busdma_base.specs.Scenarios.Limits.{drivers_limit}
-use Rattle.json_fields.specs.Place.{Place}
+use Rattle.json_fields.specs.Place.{DocumentPlace}
 use Rattle.json_fields.specs.Read.{Read, ◌>>=◌, refuse}
 use Rattle.json_fields.specs.Field.{Spot, field, required, only_keys, one_of}
 use Rattle.json_fields.specs.Items.{items_at, each}
@@ -35,7 +35,7 @@ driver_at frames earlier here =
     Ok (record { pages = pages; script = script }))))
 
 -- the drivers are counted before the first of them is read
-abbrev pub drivers_judged : Place → List Data → Read (List Data)
+abbrev pub drivers_judged : DocumentPlace → List Data → Read (List Data)
 drivers_judged place ds = if nat_lt drivers_limit (length ds) then refuse (Limit Drivers) place else Ok ds
 
 -- the list of drivers

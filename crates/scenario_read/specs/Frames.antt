@@ -4,7 +4,7 @@ use Rattle.std.specs.List.{list_any}
 use Rattle.serde_json.specs.Data.{Data}
 use Rattle.busdma_base.specs.declared.scenarios.scenario.FrameRun.{FrameRun}
 use Rattle.busdma_base.specs.Scenarios.FrameRuns.{frame_count, overlap}
-use Rattle.json_fields.specs.Place.{Place}
+use Rattle.json_fields.specs.Place.{DocumentPlace}
 use Rattle.json_fields.specs.Read.{Read, ◌>>=◌, refuse}
 use Rattle.json_fields.specs.Field.{Spot}
 use Rattle.json_fields.specs.Number.{number_at}
@@ -14,24 +14,24 @@ use Rattle.json_fields.specs.declared.refusal.LimitName.TheVariants.{Frames, Fra
 use Rattle.busdma_base.specs.Scenarios.Limits.{frames_limit, frame_numbers}
 
 -- a number in a list of numbers is refused with the list's place
-abbrev pub number_within : Place → Data → Read ℕ
+abbrev pub number_within : DocumentPlace → Data → Read ℕ
 number_within place d = number_at (record { place = place; value = d })
 
 -- a run has at least one frame
-abbrev pub run_of : Place → ℕ → ℕ → Read FrameRun
-run_of place first count =
+abbrev pub frame_run_of : DocumentPlace → ℕ → ℕ → Read FrameRun
+frame_run_of place first count =
     if nat_le 1 count then Ok (record { first = first; count = count }) else refuse BadField place
 
 -- a list of two numbers
-abbrev pub run_in : Place → List Data → Read FrameRun
+abbrev pub run_in : DocumentPlace → List Data → Read FrameRun
 run_in place [] = refuse BadField place
 run_in place (a ∷ []) = refuse BadField place
 run_in place (a ∷ b ∷ []) =
-    number_within place a >>= (λ first. number_within place b >>= (λ count. run_of place first count))
+    number_within place a >>= (λ first. number_within place b >>= (λ count. frame_run_of place first count))
 run_in place (a ∷ b ∷ c ∷ more) = refuse BadField place
 
 -- the limit on frame numbers, the limit on all frames, and no frame of an earlier run
-abbrev pub run_judged : List FrameRun → Place → FrameRun → Read FrameRun
+abbrev pub run_judged : List FrameRun → DocumentPlace → FrameRun → Read FrameRun
 run_judged before place run =
     if nat_lt frame_numbers (run.first + run.count) then refuse (Limit FrameNumber) place
     else (if nat_lt frames_limit (frame_count before + run.count) then refuse (Limit Frames) place
@@ -47,5 +47,5 @@ unfoldable pub frame_run_at : List FrameRun → Spot → Read FrameRun
 frame_run_at before here = run_at here >>= run_judged before here.place
 
 -- the list of runs
-unfoldable pub frames_at : Spot → Read (List FrameRun)
-frames_at here = items_at here >>= each frame_run_at here []
+unfoldable pub read_frame_runs : Spot → Read (List FrameRun)
+read_frame_runs here = items_at here >>= each frame_run_at here []

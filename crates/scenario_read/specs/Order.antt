@@ -5,7 +5,7 @@ use Rattle.serde_json.specs.Data.{Data}
 use Rattle.busdma_base.specs.declared.journals.journal.Actor.{Actor}
 use Rattle.busdma_base.specs.declared.journals.journal.Side.{Side}
 use Rattle.busdma_base.specs.declared.journals.journal.Side.TheVariants as side
-use Rattle.json_fields.specs.Place.{Place}
+use Rattle.json_fields.specs.Place.{DocumentPlace}
 use Rattle.json_fields.specs.Read.{Read, ◌>>=◌, refuse}
 use Rattle.json_fields.specs.Field.{Spot, field}
 use Rattle.json_fields.specs.Number.{of_kind}
@@ -55,7 +55,7 @@ unfoldable pub actor_at : ℕ → Spot → Read Actor
 actor_at drivers here = text_at here >>= (λ s. of_kind here.place (actor_of drivers s))
 
 -- the actors are counted before the first of them is read
-abbrev pub order_judged : Place → List Data → Read (List Data)
+abbrev pub order_judged : DocumentPlace → List Data → Read (List Data)
 order_judged place ds = if nat_lt order_limit (length ds) then refuse (Limit limit.Order) place else Ok ds
 
 -- the list of actors

@@ -8,7 +8,7 @@ use Rattle.busdma_base.specs.declared.scenarios.scenario.PageRun.{PageRun}
 use Rattle.busdma_base.specs.declared.scenarios.scenario.Driver.{Driver}
 use Rattle.busdma_machine.specs.Machine.VirtualPages.{pages_end}
 use Rattle.busdma_base.specs.Scenarios.PageRuns.{all_in, share_frame, share_page, is_taken}
-use Rattle.json_fields.specs.Place.{Place}
+use Rattle.json_fields.specs.Place.{DocumentPlace}
 use Rattle.json_fields.specs.Read.{Read, ◌>>=◌, refuse}
 use Rattle.json_fields.specs.Field.{Spot}
 use Rattle.json_fields.specs.Items.{items_at, each}
@@ -22,13 +22,13 @@ pub record IsOnPages (run : PageRun) : Type 0 where
   pub low : run.va.0 + 4096 * run.count ≤ pages_end
 
 -- the run of these numbers, which is one on pages
-abbrev pub page_run_of : Place → ℕ → ℕ → ℕ → Read PageRun
+abbrev pub page_run_of : DocumentPlace → ℕ → ℕ → ℕ → Read PageRun
 page_run_of place va frame count =
     if nat_le 1 count && (va % 4096 == 0) && nat_le (va + 4096 * count) pages_end
     then Ok (record { va = record { 0 = va }; frame = frame; count = count }) else refuse BadField place
 
 -- a list of three numbers
-abbrev pub page_run_in : Place → List Data → Read PageRun
+abbrev pub page_run_in : DocumentPlace → List Data → Read PageRun
 page_run_in place [] = refuse BadField place
 page_run_in place (a ∷ []) = refuse BadField place
 page_run_in place (a ∷ b ∷ []) = refuse BadField place
@@ -40,7 +40,7 @@ page_run_in place (a ∷ b ∷ c ∷ []) =
 page_run_in place (a ∷ b ∷ c ∷ d ∷ more) = refuse BadField place
 
 -- frames of the machine alone, none that a page before has, and no virtual page that this driver has
-abbrev pub page_run_judged : List FrameRun → List Driver → List PageRun → Place → PageRun → Read PageRun
+abbrev pub page_run_judged : List FrameRun → List Driver → List PageRun → DocumentPlace → PageRun → Read PageRun
 page_run_judged frames earlier before place run =
     if not (all_in frames run.frame run.count) then refuse FrameAbsent place
     else (if is_taken run earlier || list_any (share_frame run) before then refuse FrameTwice place

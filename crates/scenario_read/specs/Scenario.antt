@@ -8,7 +8,7 @@ use Rattle.busdma_base.specs.declared.scenarios.scenario.FrameRun.{FrameRun}
 use Rattle.busdma_base.specs.declared.scenarios.scenario.Driver.{Driver}
 use Rattle.busdma_base.specs.declared.scenarios.scenario.Scenario.{Scenario}
 use Rattle.busdma_base.specs.Scenarios.Valid.{IsValid}
-use Rattle.json_fields.specs.Place.{Place, top, key}
+use Rattle.json_fields.specs.Place.{DocumentPlace, top, key}
 use Rattle.json_fields.specs.Read.{Read, ◌>>=◌, refuse}
 use Rattle.json_fields.specs.Field.{Spot, required, only_keys, one_of}
 use Rattle.json_fields.specs.Number.{number_or}
@@ -17,12 +17,12 @@ use Rattle.json_fields.specs.declared.refusal.LimitName.TheVariants.{MaxBpages}
 use Rattle.scenario_read.specs.declared.reading.Reading.{Reading}
 use Rattle.scenario_read.specs.declared.reading.Reading.TheVariants.{Good, Bad}
 use Rattle.scenario_read.specs.Driver.{drivers_at}
-use Rattle.scenario_read.specs.Frames.{frames_at}
+use Rattle.scenario_read.specs.Frames.{read_frame_runs}
 use Rattle.busdma_base.specs.Scenarios.Limits.{bpages_limit}
 use Rattle.scenario_read.specs.Order.{order_field}
 
 -- at least one page, and at most the limit
-abbrev pub bpages_judged : Place → ℕ → Read ℕ
+abbrev pub bpages_judged : DocumentPlace → ℕ → Read ℕ
 bpages_judged place n = if nat_le 1 n && nat_le n bpages_limit then Ok n else refuse (Limit MaxBpages) place
 
 -- the pages up to which a zone grows for further maps
@@ -30,8 +30,8 @@ unfoldable pub bpages_field : Spot → Read ℕ
 bpages_field here = number_or (codes "max_bpages") 8192 here >>= bpages_judged (key here.place (codes "max_bpages"))
 
 -- the machine's frames, which have to be there
-unfoldable pub frames_field : Spot → Read (List FrameRun)
-frames_field here = required (codes "frames") here >>= frames_at
+unfoldable pub read_frames_field : Spot → Read (List FrameRun)
+read_frames_field here = required (codes "frames") here >>= read_frame_runs
 
 -- the drivers, which have to be there
 unfoldable pub drivers_field : List FrameRun → Spot → Read (List Driver)
@@ -41,7 +41,7 @@ drivers_field frames here = required (codes "drivers") here >>= drivers_at frame
 unfoldable pub scenario_at : Spot → Read Scenario
 scenario_at here =
     only_keys (one_of (codes "frames" ∷ codes "max_bpages" ∷ codes "drivers" ∷ codes "order" ∷ [])) here >>= (λ _.
-    frames_field here >>= (λ frames.
+    read_frames_field here >>= (λ frames.
     bpages_field here >>= (λ bpages.
     drivers_field frames here >>= (λ drivers.
     order_field (length drivers) here >>= (λ order.

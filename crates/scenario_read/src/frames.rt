@@ -9,7 +9,7 @@ ghost use Rattle.json_fields.specs.Place.{place_of};
 ghost use Rattle.json_fields.specs.Read.{Gives, GivesSeen};
 ghost use Rattle.json_fields.specs.Field.{spot_of};
 ghost use Rattle.json_fields.specs.Items.{each};
-ghost use Rattle.scenario_read.specs.Frames.{run_at, run_judged, frame_run_at, frames_at};
+ghost use Rattle.scenario_read.specs.Frames.{run_at, run_judged, frame_run_at, read_frame_runs as frames_at};
 ghost use Rattle.busdma_base.specs.Scenarios.Limits.{frames_limit};
 
 use crate::limits::{FRAME_NUMBERS, FRAMES};
@@ -86,7 +86,7 @@ fn frame_run(here: &Node, before: &[FrameRun], total: u64) -> Result<FrameRun, S
 }
 
 /// The machine's frames.
-#[tactic(auto, unfolding(crate::specs::Frames::frames_at))]
+#[tactic(auto, unfolding(crate::specs::Frames::read_frame_runs))]
 pub(crate) fn frames(here: &Node) -> Result<FrameRunList, Stop>
     ensures value { Gives result (frames_at (spot_of here.now)) }
     ensures valid { IfOk result (EachAfter IsFrameRun []) }

@@ -36,9 +36,9 @@ fn bpages_field(here: &Node) -> Result<u32, Stop>
     Ok(most as u32)
 }
 
-#[tactic(auto, unfolding(crate::specs::Scenario::frames_field))]
+#[tactic(auto, unfolding(crate::specs::Scenario::read_frames_field))]
 fn frames_field(here: &Node) -> Result<FrameRunList, Stop>
-    ensures value { Gives result (scenario.frames_field (spot_of here.now)) }
+    ensures value { Gives result (scenario.read_frames_field (spot_of here.now)) }
     ensures valid { IfOk result (EachAfter IsFrameRun []) }
     ensures numbered { IfOk result (AllByRecursion IsNumbered) }
 {

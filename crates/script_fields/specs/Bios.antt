@@ -5,7 +5,7 @@ use Rattle.busdma_machine.specs.declared.machine.bio.Bio.{Bio}
 use Rattle.busdma_machine.specs.declared.machine.bio.Bio.TheVariants as bio
 use Rattle.busdma_base.specs.declared.scenarios.scenario.PageRun.{PageRun}
 use Rattle.busdma_base.specs.Scenarios.PageRuns.{has_frame}
-use Rattle.json_fields.specs.Place.{Place, key}
+use Rattle.json_fields.specs.Place.{DocumentPlace, key}
 use Rattle.json_fields.specs.Read.{Read, ◌>>=◌, refuse}
 use Rattle.json_fields.specs.Field.{Spot, members_of, required, only_keys, one_of}
 use Rattle.json_fields.specs.Number.{number_at, number_field}
@@ -17,23 +17,23 @@ use Rattle.script_fields.specs.declared.bios.BioKind.TheVariants as kind
 use Rattle.script_fields.specs.Spans.{entries_at, entries_field, span_fields_at}
 
 -- a frame that is not of the driver's pages is refused
-abbrev pub own_or : List PageRun → Place → ℕ → Read ℕ
+abbrev pub own_or : List PageRun → DocumentPlace → ℕ → Read ℕ
 own_or pages place frame = if has_frame pages frame then Ok frame else refuse FrameAbsent place
 
 -- a frame of the driver's pages
-unfoldable pub frame_at : List PageRun → Spot → Read ℕ
-frame_at pages here = number_at here >>= own_or pages here.place
+unfoldable pub read_bio_frame : List PageRun → Spot → Read ℕ
+read_bio_frame pages here = number_at here >>= own_or pages here.place
 
 -- the list of frames
-unfoldable pub frames_at : List PageRun → Spot → Read (List ℕ)
-frames_at pages here = entries_at here >>= each (λ _. frame_at pages) here []
+unfoldable pub read_bio_frames : List PageRun → Spot → Read (List ℕ)
+read_bio_frames pages here = entries_at here >>= each (λ _. read_bio_frame pages) here []
 
 -- the list in `frames`, which has to be there
-unfoldable pub frames_field : List PageRun → Spot → Read (List ℕ)
-frames_field pages here = required (codes "frames") here >>= frames_at pages
+unfoldable pub read_bio_frames_field : List PageRun → Spot → Read (List ℕ)
+read_bio_frames_field pages here = required (codes "frames") here >>= read_bio_frames pages
 
 -- an offset in a frame
-abbrev pub off_or : Place → ℕ → Read ℕ
+abbrev pub off_or : DocumentPlace → ℕ → Read ℕ
 off_or place n = if nat_lt n 4096 then Ok n else refuse BadField place
 
 -- where in its first frame a bio begins
@@ -49,7 +49,7 @@ kind_of word =
     else None))
 
 -- another word is refused
-abbrev pub known_kind : Place → Option BioKind → Read BioKind
+abbrev pub known_kind : DocumentPlace → Option BioKind → Read BioKind
 known_kind place None = refuse BadField place
 known_kind place (Some k) = Ok k
 
@@ -76,7 +76,7 @@ vector_at here =
 unfoldable pub unmapped_at : List PageRun → Spot → Read Bio
 unmapped_at pages here =
     only_keys (one_of (codes "kind" ∷ codes "frames" ∷ codes "off" ∷ codes "len" ∷ [])) here >>= (λ _.
-    frames_field pages here >>= (λ frames.
+    read_bio_frames_field pages here >>= (λ frames.
     off_at here >>= (λ off.
     number_field (codes "len") here >>= (λ n.
     Ok (bio.Unmapped frames off n)))))
@@ -88,9 +88,9 @@ bio_by kind.Vector pages here = vector_at here
 bio_by kind.Unmapped pages here = unmapped_at pages here
 
 -- a bio is an object, and its kind is read before its keys are tested
-unfoldable pub bio_at : List PageRun → Spot → Read Bio
-bio_at pages here = members_of here >>= (λ _. kind_at here >>= (λ k. bio_by k pages here))
+unfoldable pub read_bio : List PageRun → Spot → Read Bio
+read_bio pages here = members_of here >>= (λ _. kind_at here >>= (λ k. bio_by k pages here))
 
 -- the bio in `bio`, which has to be there
 unfoldable pub bio_field : List PageRun → Spot → Read Bio
-bio_field pages here = required (codes "bio") here >>= bio_at pages
+bio_field pages here = required (codes "bio") here >>= read_bio pages

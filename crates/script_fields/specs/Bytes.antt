@@ -5,13 +5,13 @@ use Rattle.busdma_base.specs.declared.scenarios.script.Bytes.TheVariants.{Listed
 use Rattle.json_fields.specs.Read.{Read, ◌>>=◌, refuse}
 use Rattle.json_fields.specs.Field.{Spot, field}
 use Rattle.json_fields.specs.Number.{number_field}
-use Rattle.json_fields.specs.Text.{bytes_at}
+use Rattle.json_fields.specs.Text.{read_bytes}
 use Rattle.json_fields.specs.declared.refusal.RefusalKind.TheVariants.{BadField}
 use Rattle.script_fields.specs.Numbers.{byte_field}
 
 -- bytes by `hex`
 unfoldable pub listed_at : Spot → Read Bytes
-listed_at spot = bytes_at spot >>= (λ bytes. Ok (Listed bytes))
+listed_at spot = read_bytes spot >>= (λ bytes. Ok (Listed bytes))
 
 -- one byte, `len` times
 unfoldable pub filled_at : Spot → Read Bytes
@@ -27,6 +27,6 @@ bytes_by None true _ here = filled_at here
 bytes_by _ _ _ here = refuse BadField here.place
 
 -- what an operation writes
-unfoldable pub written_at : Spot → Read Bytes
-written_at here =
+unfoldable pub read_written : Spot → Read Bytes
+read_written here =
     bytes_by (field (codes "hex") here) (is_some (field (codes "fill") here)) (is_some (field (codes "len") here)) here

@@ -7,7 +7,7 @@ use Rattle.busdma_base.specs.Scenarios.Limits.{access_limit}
 use Rattle.busdma_base.specs.Scenarios.Operations.{about, items_of, read_by, read_by_item, loaded_by}
 use Rattle.busdma_base.specs.Scenarios.Script.{steps_of}
 use Rattle.busdma_base.specs.Scenarios.Valid.{read_of, loaded_of}
-use Rattle.json_fields.specs.Place.{Place}
+use Rattle.json_fields.specs.Place.{DocumentPlace}
 use Rattle.json_fields.specs.Read.{Read, ◌>>=◌, refuse}
 use Rattle.json_fields.specs.declared.refusal.RefusalKind.TheVariants.{Limit}
 use Rattle.json_fields.specs.declared.refusal.LimitName.TheVariants as limit
@@ -42,8 +42,8 @@ abbrev pub having_stepped : Counts → ℕ → Counts
 having_stepped c n = record { steps = c.steps + n; read = c.read; loaded = c.loaded }
 
 -- behind one more step
-abbrev pub stepped : Counts → Counts
-stepped c = having_stepped c 1
+abbrev pub one_step_counted : Counts → Counts
+one_step_counted c = having_stepped c 1
 
 -- behind n more bytes that are read
 abbrev pub having_read : Counts → ℕ → Counts
@@ -66,22 +66,22 @@ pub record IsQuiet (o : Op) : Type 0 where
   pub loads_nothing : (about o).loads ≡ None
 
 -- n more steps of the script
-abbrev pub steps_judged : Counts → ℕ → Place → Read ⊤
+abbrev pub steps_judged : Counts → ℕ → DocumentPlace → Read ⊤
 steps_judged c n place = if nat_lt steps_limit (c.steps + n) then refuse (Limit limit.Steps) place else Ok tt
 
 -- an access of n bytes
-abbrev pub access_judged : ℕ → Place → Read ⊤
+abbrev pub access_judged : ℕ → DocumentPlace → Read ⊤
 access_judged n place = if nat_lt access_limit n then refuse (Limit limit.Access) place else Ok tt
 
 -- a read of n bytes, which is an access too
-abbrev pub read_judged : Counts → ℕ → Place → Read ⊤
+abbrev pub read_judged : Counts → ℕ → DocumentPlace → Read ⊤
 read_judged c n place =
     access_judged n place >>= (λ _.
     if nat_lt reads_limit (c.read + n) then refuse (Limit limit.Reads) place else Ok tt)
 
 -- a load of n bytes, which count as m for the limit on all loads
-abbrev pub load_judged : Counts → ℕ → ℕ → Place → Read ⊤
-load_judged c n m place =
+abbrev pub load_counted : Counts → ℕ → ℕ → DocumentPlace → Read ⊤
+load_counted c n m place =
     if nat_lt buffer_limit n then refuse (Limit limit.Buffer) place
     else (if nat_lt loaded_limit (c.loaded + m) then refuse (Limit limit.Loaded) place
     else Ok tt)

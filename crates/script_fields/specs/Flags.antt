@@ -7,7 +7,7 @@ use Rattle.busdma_machine.specs.Tags.TagFlags.{tag_table}
 use Rattle.busdma_rules.specs.Tags.LoadFlags.{load_table}
 use Rattle.busdma_rules.specs.Tags.MemFlags.{mem_table}
 use Rattle.busdma_rules.specs.Tags.SyncOps.{sync_table}
-use Rattle.json_fields.specs.Place.{Place}
+use Rattle.json_fields.specs.Place.{DocumentPlace}
 use Rattle.json_fields.specs.Read.{Read, ◌>>=◌, refuse}
 use Rattle.json_fields.specs.Field.{Spot, field, required, item_of}
 use Rattle.json_fields.specs.Text.{text_at}
@@ -28,7 +28,7 @@ word_bits set.Memory word = waitok_or (find_name mem_table word) word
 word_bits set.Sync word = find_name sync_table word
 
 -- a word that is not in the table is refused
-abbrev pub bits_or : Place → Option ℕ → Read ℕ
+abbrev pub bits_or : DocumentPlace → Option ℕ → Read ℕ
 bits_or place None = refuse BadFlag place
 bits_or place (Some bits) = Ok bits
 

@@ -1,13 +1,13 @@
 -- Numbers of fewer bits than a scenario's numbers have.
 use Rattle.std.specs.Prelude.{ℕ, ◌^◌, List, Ok, if◌then◌else◌, nat_lt}
-use Rattle.json_fields.specs.Place.{Place, key}
+use Rattle.json_fields.specs.Place.{DocumentPlace, key}
 use Rattle.json_fields.specs.Read.{Read, ◌>>=◌, refuse}
 use Rattle.json_fields.specs.Field.{Spot}
 use Rattle.json_fields.specs.Number.{number_field, number_or}
 use Rattle.json_fields.specs.declared.refusal.RefusalKind.TheVariants.{BadField}
 
 -- a number that is below a bound
-abbrev pub below : ℕ → Place → ℕ → Read ℕ
+abbrev pub below : ℕ → DocumentPlace → ℕ → Read ℕ
 below bound place n = if nat_lt n bound then Ok n else refuse BadField place
 
 -- a number of 32 bits at a key

@@ -3,7 +3,7 @@ use Rattle.std.specs.Prelude.{List, [], ◌∷◌, length, Ok, if◌then◌else�
 use Rattle.serde_json.specs.Data.{Data}
 use Rattle.busdma_machine.specs.declared.machine.address.Span.{Span}
 use Rattle.busdma_base.specs.Scenarios.Limits.{entries_limit}
-use Rattle.json_fields.specs.Place.{Place}
+use Rattle.json_fields.specs.Place.{DocumentPlace}
 use Rattle.json_fields.specs.Read.{Read, ◌>>=◌, refuse}
 use Rattle.json_fields.specs.Field.{Spot, required, only_keys, one_of}
 use Rattle.json_fields.specs.Number.{number_field}
@@ -12,7 +12,7 @@ use Rattle.json_fields.specs.declared.refusal.RefusalKind.TheVariants.{Limit}
 use Rattle.json_fields.specs.declared.refusal.LimitName.TheVariants.{Entries}
 
 -- the elements of a load's list are counted before the first of them is read
-abbrev pub entries_judged : Place → List Data → Read (List Data)
+abbrev pub entries_judged : DocumentPlace → List Data → Read (List Data)
 entries_judged place ds = if nat_lt entries_limit (length ds) then refuse (Limit Entries) place else Ok ds
 
 -- the elements of a load's list

@@ -1,7 +1,7 @@
 -- The words of operations and items, as they are read.
 use Rattle.std.specs.Prelude.{ℕ, List, Option, Some, None, Ok, codes}
 use Rattle.busdma_base.specs.Scenarios.Words.{op_word_of, item_word_of}
-use Rattle.json_fields.specs.Place.{Place, key}
+use Rattle.json_fields.specs.Place.{DocumentPlace, key}
 use Rattle.json_fields.specs.Read.{Read, ◌>>=◌, refuse}
 use Rattle.json_fields.specs.Field.{Spot, required}
 use Rattle.json_fields.specs.Text.{text_at}
@@ -10,7 +10,7 @@ use Rattle.busdma_base.specs.declared.scenarios.words.OpWord.{OpWord}
 use Rattle.busdma_base.specs.declared.scenarios.words.ItemWord.{ItemWord}
 
 -- a word that is not known, or not allowed here, is refused
-abbrev pub known_word : {W : Type 0} → Place → Option W → Read W
+abbrev pub known_word : {W : Type 0} → DocumentPlace → Option W → Read W
 known_word place None = refuse BadOp place
 known_word place (Some w) = Ok w
 

@@ -35,9 +35,9 @@ fn has_frame(pages: &[PageRun], frame: u64) -> bool
         .any(|run| frame >= run.frame && frame - run.frame < run.count)
 }
 
-#[tactic(auto, unfolding(crate::specs::Bios::frame_at))]
+#[tactic(auto, unfolding(crate::specs::Bios::read_bio_frame))]
 fn frame(here: &Node, pages: &[PageRun]) -> Result<u64, Stop>
-    ensures value { Gives result (bios.frame_at pages.now (spot_of here.now)) }
+    ensures value { Gives result (bios.read_bio_frame pages.now (spot_of here.now)) }
     ensures own { IfOk result (λ frame. base.has_frame pages.now frame ≡ true) }
 {
     let frame = here.number()?;
@@ -53,7 +53,7 @@ fn each_frame<'v>(
     pages: &[PageRun],
 ) -> Result<Vec<u64>, Stop>
     ensures value { GivesSeen (λ v. v.items) result
-        (each (λ _. bios.frame_at pages.now) (spot_of here.now) [] (map view items.now)) }
+        (each (λ _. bios.read_bio_frame pages.now) (spot_of here.now) [] (map view items.now)) }
     ensures own { IfOk result
         (λ v. AllByRecursion (λ frame. base.has_frame pages.now frame ≡ true) v.items) }
     ensures count { IfOk result (λ v. length v.items ≡ length items.now) }
@@ -66,9 +66,9 @@ fn each_frame<'v>(
     Ok(frames)
 }
 
-#[tactic(auto, unfolding(crate::specs::Bios::frames_at))]
+#[tactic(auto, unfolding(crate::specs::Bios::read_bio_frames))]
 fn frames(here: &Node, pages: &[PageRun]) -> Result<ListOf<u64>, Stop>
-    ensures value { Gives result (bios.frames_at pages.now (spot_of here.now)) }
+    ensures value { Gives result (bios.read_bio_frames pages.now (spot_of here.now)) }
     ensures own { IfOk result (AllByRecursion (λ frame. base.has_frame pages.now frame ≡ true)) }
     ensures few { IfOk result (λ v. length v ≤ entries_limit) }
 {
@@ -76,9 +76,9 @@ fn frames(here: &Node, pages: &[PageRun]) -> Result<ListOf<u64>, Stop>
     Ok(ListOf::new(each_frame(here, items, pages)?))
 }
 
-#[tactic(auto, unfolding(crate::specs::Bios::frames_field))]
+#[tactic(auto, unfolding(crate::specs::Bios::read_bio_frames_field))]
 fn frames_field(here: &Node, pages: &[PageRun]) -> Result<ListOf<u64>, Stop>
-    ensures value { Gives result (bios.frames_field pages.now (spot_of here.now)) }
+    ensures value { Gives result (bios.read_bio_frames_field pages.now (spot_of here.now)) }
     ensures own { IfOk result (AllByRecursion (λ frame. base.has_frame pages.now frame ≡ true)) }
     ensures few { IfOk result (λ v. length v ≤ entries_limit) }
 {
@@ -168,9 +168,9 @@ fn bio_by(kind: BioKind, here: &Node, pages: &[PageRun]) -> Result<Bio, Stop>
     }
 }
 
-#[tactic(auto, unfolding(crate::specs::Bios::bio_at))]
+#[tactic(auto, unfolding(crate::specs::Bios::read_bio))]
 fn bio(here: &Node, pages: &[PageRun]) -> Result<Bio, Stop>
-    ensures value { Gives result (bios.bio_at pages.now (spot_of here.now)) }
+    ensures value { Gives result (bios.read_bio pages.now (spot_of here.now)) }
     ensures own { IfOk result (IsBioOf pages.now) }
     ensures few { IfOk result (λ b. bio_entries b ≤ entries_limit) }
 {

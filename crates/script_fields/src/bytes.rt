@@ -29,9 +29,9 @@ fn filled(here: &Node) -> Result<Bytes, Stop>
 }
 
 /// What an operation writes: `hex`, or `fill` with `len`.
-#[tactic(auto, unfolding(crate::specs::Bytes::written_at))]
+#[tactic(auto, unfolding(crate::specs::Bytes::read_written))]
 pub fn written_bytes(here: &Node) -> Result<Bytes, Stop>
-    ensures { Gives result (bytes.written_at (spot_of here.now)) }
+    ensures { Gives result (bytes.read_written (spot_of here.now)) }
 {
     match (here.field("hex"), here.field("fill")) {
         (Some(hex), None) if here.field("len").is_none() => listed(&hex),

@@ -5,7 +5,7 @@ ghost use Rattle.busdma_base.specs.Scenarios.Limits.{access_limit, buffer_limit}
 ghost use Rattle.json_fields.specs.Place.{place_of};
 ghost use Rattle.json_fields.specs.Read.{Gives};
 ghost use Rattle.script_fields.specs.Counts.{IsWithin, having_stepped, having_read, having_loaded};
-ghost use Rattle.script_fields.specs.Counts.{steps_judged, access_judged, read_judged, load_judged};
+ghost use Rattle.script_fields.specs.Counts.{steps_judged, access_judged, read_judged, load_counted};
 
 use crate::limits::{ACCESS, BUFFER, LOADED, READS, STEPS};
 use json_fields::{LimitName, Node, RefusalKind, Stop};
@@ -53,7 +53,7 @@ impl Counts {
     /// load, or of all, are refused.
     pub fn load(&mut self, here: &Node, len: u128, counted: u128) -> Result<(), Stop>
         requires { IsWithin self.old }
-        ensures value { Gives result (load_judged self.old len counted (place_of here.now.path)) }
+        ensures value { Gives result (load_counted self.old len counted (place_of here.now.path)) }
         ensures small { OnOk result (len ≤ buffer_limit) }
         ensures counted { OnOk result (self.new ≡ having_loaded self.old counted) }
         ensures within { OnOk result (IsWithin self.new) }

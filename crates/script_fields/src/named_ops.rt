@@ -87,7 +87,7 @@ impl NamedOps {
 
     /// The place of the operation that makes the name, if it makes a thing that can be used so.
     pub fn maker(&self, used_as: NameUse, name: &str) -> Option<u32>
-        ensures value { result ≡ names.first_place (base.makes_for used_as name.now) 0 self.now }
+        ensures value { result ≡ names.first_operation_place (base.makes_for used_as name.now) 0 self.now }
         ensures made { IfSome result (λ place.
             base.IsMade self.now (record { used_as = used_as; made_at = place })) }
     {

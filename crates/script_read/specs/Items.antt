@@ -14,8 +14,8 @@ use Rattle.script_fields.specs.declared.counts.Counts.{Counts}
 use Rattle.busdma_base.specs.declared.scenarios.operations.NameUse.TheVariants as use_as
 use Rattle.busdma_base.specs.declared.scenarios.words.ItemWord.{ItemWord}
 use Rattle.busdma_base.specs.declared.scenarios.words.ItemWord.TheVariants as word
-use Rattle.script_fields.specs.Bytes.{written_at}
-use Rattle.script_fields.specs.Counts.{with_items, stepped, steps_judged, access_judged, read_judged}
+use Rattle.script_fields.specs.Bytes.{read_written}
+use Rattle.script_fields.specs.Counts.{with_items, one_step_counted, steps_judged, access_judged, read_judged}
 use Rattle.script_fields.specs.Names.{used_name}
 use Rattle.script_fields.specs.Syncs.{sync_fields_at, range_fields_at}
 use Rattle.script_fields.specs.Words.{item_word_at}
@@ -29,8 +29,8 @@ unfoldable pub sync_range_item_at : List Op → Spot → Read Item
 sync_range_item_at before here = range_fields_at before here >>= (λ s. Ok (item.SyncRange s.map s.off s.len s.ops))
 
 -- a read of the device
-unfoldable pub dev_read_at : List Op → Counts → Spot → Read Item
-dev_read_at before c here =
+unfoldable pub read_dev_read : List Op → Counts → Spot → Read Item
+read_dev_read before c here =
     only_keys (one_of (codes "op" ∷ codes "map" ∷ codes "off" ∷ codes "len" ∷ [])) here >>= (λ _.
     used_name use_as.Map (codes "map") before here >>= (λ map.
     number_field (codes "off") here >>= (λ off.
@@ -39,13 +39,13 @@ dev_read_at before c here =
     Ok (item.DevRead map off n))))))
 
 -- a write of the device
-unfoldable pub dev_write_at : List Op → Spot → Read Item
-dev_write_at before here =
+unfoldable pub read_dev_write : List Op → Spot → Read Item
+read_dev_write before here =
     only_keys (one_of (codes "op" ∷ codes "map" ∷ codes "off" ∷ codes "hex" ∷ codes "fill" ∷ codes "len" ∷ [])) here
     >>= (λ _.
     used_name use_as.Map (codes "map") before here >>= (λ map.
     number_field (codes "off") here >>= (λ off.
-    written_at here >>= (λ bytes.
+    read_written here >>= (λ bytes.
     access_judged (length (bytes_of bytes)) here.place >>= (λ _.
     Ok (item.DevWrite map off bytes))))))
 
@@ -66,7 +66,7 @@ raw_write_at before here =
     >>= (λ _.
     used_name use_as.IommuTag (codes "tag") before here >>= (λ tag.
     number_field (codes "addr") here >>= (λ addr.
-    written_at here >>= (λ bytes.
+    read_written here >>= (λ bytes.
     access_judged (length (bytes_of bytes)) here.place >>= (λ _.
     Ok (item.DevWriteAt tag addr bytes))))))
 
@@ -74,23 +74,23 @@ raw_write_at before here =
 abbrev pub item_by : ItemWord → List Op → Counts → Spot → Read Item
 item_by word.Sync before c here = sync_item_at before here
 item_by word.SyncRange before c here = sync_range_item_at before here
-item_by word.DevRead before c here = dev_read_at before c here
-item_by word.DevWrite before c here = dev_write_at before here
+item_by word.DevRead before c here = read_dev_read before c here
+item_by word.DevWrite before c here = read_dev_write before here
 item_by word.DevReadAt before c here = raw_read_at before c here
 item_by word.DevWriteAt before c here = raw_write_at before here
 item_by word.RingStep before c here = refuse BadOp (key here.place (codes "op"))
 
 -- an item is an object, is counted as a step, and is then read by its word
-unfoldable pub item_at : List Op → Counts → Spot → Read Item
-item_at before c here =
+unfoldable pub read_item : List Op → Counts → Spot → Read Item
+read_item before c here =
     members_of here >>= (λ _.
     steps_judged c 1 here.place >>= (λ _.
     item_word_at here >>= (λ w.
-    item_by w before (stepped c) here)))
+    item_by w before (one_step_counted c) here)))
 
 -- the items of a list, each counted behind those before it
 unfoldable pub then_at : List Op → Counts → Spot → Read (List Item)
-then_at before c here = items_at here >>= each (λ done. item_at before (with_items c done)) here []
+then_at before c here = items_at here >>= each (λ done. read_item before (with_items c done)) here []
 
 -- no items where there is no list
 abbrev pub then_or_none : List Op → Counts → Option Spot → Read (List Item)

@@ -14,7 +14,7 @@ use Rattle.json_fields.specs.Number.{number_field}
 use Rattle.script_fields.specs.declared.counts.Counts.{Counts}
 use Rattle.script_fields.specs.declared.flags.FlagSet.TheVariants as set
 use Rattle.script_fields.specs.Bios.{bio_field}
-use Rattle.script_fields.specs.Counts.{having_loaded, load_judged}
+use Rattle.script_fields.specs.Counts.{having_loaded, load_counted}
 use Rattle.script_fields.specs.Flags.{flags_field}
 use Rattle.script_read.specs.Items.{then_field}
 use Rattle.script_fields.specs.Names.{used_name}
@@ -36,7 +36,7 @@ loaded_map_at before here = used_name use_as.Map (codes "map") before here
 unfoldable pub load_of : List Op → Counts → Spot → ℕ → Buffer → Read Op
 load_of before c here map buffer =
     flags_field set.Load here >>= (λ flags.
-    load_judged c (buffer_bytes buffer) (counted_bytes buffer) here.place >>= (λ _.
+    load_counted c (buffer_bytes buffer) (counted_bytes buffer) here.place >>= (λ _.
     then_field before (having_loaded c (counted_bytes buffer)) here >>= (λ items.
     Ok (op.Load map buffer flags items))))
 

@@ -12,7 +12,7 @@ use Rattle.script_fields.specs.declared.counts.Counts.{Counts}
 use Rattle.script_fields.specs.declared.flags.FlagSet.TheVariants as set
 use Rattle.busdma_base.specs.declared.scenarios.operations.NameUse.{NameUse}
 use Rattle.busdma_base.specs.declared.scenarios.operations.NameUse.TheVariants as use_as
-use Rattle.script_fields.specs.Bytes.{written_at}
+use Rattle.script_fields.specs.Bytes.{read_written}
 use Rattle.script_fields.specs.Counts.{access_judged, read_judged}
 use Rattle.script_fields.specs.Flags.{flags_field}
 use Rattle.script_fields.specs.Names.{new_name, used_name, parent_or_none}
@@ -43,8 +43,8 @@ limits_at here =
     })))))))))
 
 -- the making of a tag
-unfoldable pub tag_at : List Op → Spot → Read Op
-tag_at before here =
+unfoldable pub read_tag : List Op → Spot → Read Op
+read_tag before here =
     only_keys (one_of (codes "op" ∷ codes "name" ∷ codes "parent" ∷ codes "alignment" ∷ codes "boundary"
     ∷ codes "lowaddr" ∷ codes "highaddr" ∷ codes "maxsize" ∷ codes "nsegments" ∷ codes "maxsegsz" ∷ codes "flags" ∷
     []))
@@ -71,8 +71,8 @@ space_limits_at here =
     }))))))
 
 -- the making of an IOMMU tag
-unfoldable pub iommu_tag_at : List Op → Spot → Read Op
-iommu_tag_at before here =
+unfoldable pub read_iommu_tag : List Op → Spot → Read Op
+read_iommu_tag before here =
     only_keys (one_of (codes "op" ∷ codes "name" ∷ codes "lowaddr" ∷ codes "boundary" ∷ codes "maxsize"
     ∷ codes "nsegments" ∷ codes "maxsegsz" ∷ []))
     here >>= (λ _.
@@ -88,8 +88,8 @@ tag_destroy_at before here =
     Ok (op.TagDestroy tag)))
 
 -- the making of a map of a tag of either kind
-unfoldable pub map_at : List Op → Spot → Read Op
-map_at before here =
+unfoldable pub read_map : List Op → Spot → Read Op
+read_map before here =
     only_keys (one_of (codes "op" ∷ codes "name" ∷ codes "tag" ∷ [])) here >>= (λ _.
     new_name (codes "name") before here >>= (λ name.
     used_name use_as.AnyTag (codes "tag") before here >>= (λ tag.
@@ -149,7 +149,7 @@ cpu_write_at before here =
     ∷ []))
     here >>= (λ _.
     access_at before here >>= (λ place.
-    written_at here >>= (λ bytes.
+    read_written here >>= (λ bytes.
     access_judged (length (bytes_of bytes)) here.place >>= (λ _.
     Ok (op.CpuWrite place bytes)))))
 

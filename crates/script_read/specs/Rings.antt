@@ -9,7 +9,7 @@ use Rattle.busdma_base.specs.Scenarios.Limits.{steps_limit}
 use Rattle.json_fields.specs.declared.refusal.RefusalKind.TheVariants.{BadField}
 use Rattle.json_fields.specs.Field.{Spot, only_keys, one_of}
 use Rattle.json_fields.specs.Number.{number_field}
-use Rattle.json_fields.specs.Place.{Place, key}
+use Rattle.json_fields.specs.Place.{DocumentPlace, key}
 use Rattle.json_fields.specs.Read.{Read, ◌>>=◌, refuse}
 use Rattle.script_fields.specs.declared.counts.Counts.{Counts}
 use Rattle.script_fields.specs.Counts.{steps_judged}
@@ -17,8 +17,8 @@ use Rattle.script_fields.specs.Names.{new_name, used_name}
 use Rattle.script_fields.specs.Numbers.{short_field, byte_field, byte_or}
 
 -- the making of a ring in a memory
-unfoldable pub ring_at : List Op → Spot → Read Op
-ring_at before here =
+unfoldable pub read_ring : List Op → Spot → Read Op
+read_ring before here =
     only_keys (one_of (codes "op" ∷ codes "name" ∷ codes "mem" ∷ codes "slots" ∷ [])) here >>= (λ _.
     new_name (codes "name") before here >>= (λ name.
     used_name use_as.Memory (codes "mem") before here >>= (λ mem.
@@ -41,7 +41,7 @@ ring_post_at before here =
     Ok (op.RingPost ring slot map off n kind fill)))))))))
 
 -- a kick asks for a step, and for no more than a script has
-abbrev pub count_or : Place → ℕ → Read ℕ
+abbrev pub count_or : DocumentPlace → ℕ → Read ℕ
 count_or place n = if nat_le 1 n && nat_le n steps_limit then Ok n else refuse BadField place
 
 -- how many steps a kick asks for

@@ -10,7 +10,7 @@ use Rattle.json_fields.specs.declared.refusal.RefusalKind.TheVariants.{BadField}
 use Rattle.json_fields.specs.Field.{Spot, only_keys, one_of, required}
 use Rattle.json_fields.specs.Items.{each}
 use Rattle.json_fields.specs.Number.{number_at}
-use Rattle.json_fields.specs.Place.{Place}
+use Rattle.json_fields.specs.Place.{DocumentPlace}
 use Rattle.json_fields.specs.Read.{Read, ◌>>=◌, refuse}
 use Rattle.mbuf_defrag.specs.Plan.{plan}
 use Rattle.script_fields.specs.declared.counts.Counts.{Counts}
@@ -47,7 +47,7 @@ pub record IsClusterOf (chain : List Span) (before : List Va) (c : Va) : Type 0 
   pub apart : list_any (shares c.0) chain ≡ false
 
 -- another one is refused
-abbrev pub cluster_or : List Span → List Va → Place → ℕ → Read Va
+abbrev pub cluster_or : List Span → List Va → DocumentPlace → ℕ → Read Va
 cluster_or chain before place va =
     if not (va % 4096 == 0) || list_any (is_cluster va) before || list_any (shares va) chain then refuse BadField place
     else Ok (record { 0 = va })
@@ -65,8 +65,8 @@ unfoldable pub clusters_field : List Span → Spot → Read (List Va)
 clusters_field chain here = required (codes "clusters") here >>= clusters_at chain
 
 -- a send, which may not have the key `flags`, and so has no flags
-unfoldable pub send_at : List Op → Counts → Spot → Read Op
-send_at before c here =
+unfoldable pub read_send : List Op → Counts → Spot → Read Op
+read_send before c here =
     only_keys (one_of (codes "op" ∷ codes "map" ∷ codes "entries" ∷ codes "clusters" ∷ codes "then" ∷ [])) here
     >>= (λ _.
     loaded_map_at before here >>= (λ map.

@@ -8,10 +8,10 @@ ghost use Rattle.busdma_base.specs.Scenarios.Script.{IsItem, is_ring_step};
 ghost use Rattle.json_fields.specs.Read.{Gives, GivesSeen};
 ghost use Rattle.json_fields.specs.Field.{spot_of};
 ghost use Rattle.json_fields.specs.Items.{each};
-ghost use Rattle.script_fields.specs.Counts.{IsWithin, with_items, having_read, stepped};
-ghost use Rattle.script_read.specs.Items.{sync_item_at, sync_range_item_at, dev_read_at};
-ghost use Rattle.script_read.specs.Items.{dev_write_at, raw_read_at, raw_write_at};
-ghost use Rattle.script_read.specs.Items.{item_by, item_at, then_at, then_field};
+ghost use Rattle.script_fields.specs.Counts.{IsWithin, with_items, having_read, one_step_counted};
+ghost use Rattle.script_read.specs.Items.{sync_item_at, sync_range_item_at, read_dev_read as dev_read_at};
+ghost use Rattle.script_read.specs.Items.{read_dev_write as dev_write_at, raw_read_at, raw_write_at};
+ghost use Rattle.script_read.specs.Items.{item_by, read_item as item_at, then_at, then_field};
 
 use busdma_base::{Item, ItemList, ItemWord, ListOf, NameUse};
 use json_fields::{Node, RefusalKind, Stop};
@@ -51,7 +51,7 @@ fn sync_range(here: &Node, before: &NamedOps) -> Result<Item, Stop>
     })
 }
 
-#[tactic(auto, unfolding(crate::specs::Items::dev_read_at))]
+#[tactic(auto, unfolding(crate::specs::Items::read_dev_read))]
 fn dev_read(here: &Node, before: &NamedOps, counts: &mut Counts) -> Result<Item, Stop>
     requires within { IsWithin counts.old }
     ensures value { Gives result (dev_read_at before.now counts.old (spot_of here.now)) }
@@ -68,7 +68,7 @@ fn dev_read(here: &Node, before: &NamedOps, counts: &mut Counts) -> Result<Item,
     Ok(Item::DevRead { map, off, len })
 }
 
-#[tactic(auto, unfolding(crate::specs::Items::dev_write_at))]
+#[tactic(auto, unfolding(crate::specs::Items::read_dev_write))]
 fn dev_write(here: &Node, before: &NamedOps) -> Result<Item, Stop>
     ensures value { Gives result (dev_write_at before.now (spot_of here.now)) }
     ensures valid { IfOk result (IsItem before.now) }
@@ -140,14 +140,14 @@ fn item_by(
     }
 }
 
-#[tactic(auto, unfolding(crate::specs::Items::item_at))]
+#[tactic(auto, unfolding(crate::specs::Items::read_item))]
 fn item(here: &Node, before: &NamedOps, counts: &mut Counts) -> Result<Item, Stop>
     requires within { IsWithin counts.old }
     ensures value { Gives result (item_at before.now counts.old (spot_of here.now)) }
     ensures valid { IfOk result (IsItem before.now) }
     ensures of_load { IfOk result (λ i. is_ring_step i ≡ false) }
     ensures counted { IfOk result
-        (λ i. counts.new ≡ having_read (stepped counts.old) (read_by_item i)) }
+        (λ i. counts.new ≡ having_read (one_step_counted counts.old) (read_by_item i)) }
     ensures within { IfOk result (λ _. IsWithin counts.new) }
 {
     here.members()?;

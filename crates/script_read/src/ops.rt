@@ -40,9 +40,9 @@ fn limits(here: &Node) -> Result<TagLimits, Stop>
     })
 }
 
-#[tactic(auto, unfolding(crate::specs::Ops::tag_at))]
+#[tactic(auto, unfolding(crate::specs::Ops::read_tag))]
 pub(crate) fn tag(here: &Node, before: &NamedOps) -> Result<Op, Stop>
-    ensures value { Gives result (ops.tag_at before.now (spot_of here.now)) }
+    ensures value { Gives result (ops.read_tag before.now (spot_of here.now)) }
     ensures valid { IfOk result (IsOp before.now) }
     ensures quiet { IfOk result IsQuiet }
 {
@@ -87,9 +87,9 @@ fn space_limits(here: &Node) -> Result<SpaceLimits, Stop>
     })
 }
 
-#[tactic(auto, unfolding(crate::specs::Ops::iommu_tag_at))]
+#[tactic(auto, unfolding(crate::specs::Ops::read_iommu_tag))]
 pub(crate) fn iommu_tag(here: &Node, before: &NamedOps) -> Result<Op, Stop>
-    ensures value { Gives result (ops.iommu_tag_at before.now (spot_of here.now)) }
+    ensures value { Gives result (ops.read_iommu_tag before.now (spot_of here.now)) }
     ensures valid { IfOk result (IsOp before.now) }
     ensures quiet { IfOk result IsQuiet }
 {
@@ -118,9 +118,9 @@ pub(crate) fn tag_destroy(here: &Node, before: &NamedOps) -> Result<Op, Stop>
     Ok(Op::TagDestroy { tag })
 }
 
-#[tactic(auto, unfolding(crate::specs::Ops::map_at))]
+#[tactic(auto, unfolding(crate::specs::Ops::read_map))]
 pub(crate) fn map(here: &Node, before: &NamedOps) -> Result<Op, Stop>
-    ensures value { Gives result (ops.map_at before.now (spot_of here.now)) }
+    ensures value { Gives result (ops.read_map before.now (spot_of here.now)) }
     ensures valid { IfOk result (IsOp before.now) }
     ensures quiet { IfOk result IsQuiet }
 {

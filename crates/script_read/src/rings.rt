@@ -15,9 +15,9 @@ use script_fields::{
     Counts, NamedOps, STEPS, byte_field, byte_or, new_name, short_field, used_name,
 };
 
-#[tactic(auto, unfolding(crate::specs::Rings::ring_at))]
+#[tactic(auto, unfolding(crate::specs::Rings::read_ring))]
 pub(crate) fn ring(here: &Node, before: &NamedOps) -> Result<Op, Stop>
-    ensures value { Gives result (rings.ring_at before.now (spot_of here.now)) }
+    ensures value { Gives result (rings.read_ring before.now (spot_of here.now)) }
     ensures valid { IfOk result (IsOp before.now) }
     ensures quiet { IfOk result IsQuiet }
 {

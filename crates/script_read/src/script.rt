@@ -9,7 +9,7 @@ ghost use Rattle.busdma_base.specs.Scenarios.Valid.{LoadsFrom};
 ghost use Rattle.json_fields.specs.Read.{Gives, GivesSeen};
 ghost use Rattle.json_fields.specs.Field.{spot_of};
 ghost use Rattle.json_fields.specs.Items.{each};
-ghost use Rattle.script_fields.specs.Counts.{IsWithin, with_op, with_ops, stepped};
+ghost use Rattle.script_fields.specs.Counts.{IsWithin, with_op, with_ops, one_step_counted};
 ghost use Rattle.script_read.specs.Script.{op_by, op_at, script_at};
 
 use crate::load::{load, load_bio, load_mbuf, load_vector};
@@ -67,7 +67,7 @@ fn op(here: &Node, pages: &[PageRun], before: &NamedOps, counts: &mut Counts) ->
     ensures value { Gives result (op_at pages.now before.now counts.old (spot_of here.now)) }
     ensures valid { IfOk result (IsOp before.now) }
     ensures own { IfOk result (LoadsFrom pages.now) }
-    ensures counted { IfOk result (λ o. counts.new ≡ with_op (stepped counts.old) o) }
+    ensures counted { IfOk result (λ o. counts.new ≡ with_op (one_step_counted counts.old) o) }
     ensures within { IfOk result (λ _. IsWithin counts.new) }
 {
     here.members()?;

@@ -173,10 +173,10 @@ fn planned(
 }
 
 /// A send of an mbuf chain, whose own step is counted. It has no flags.
-#[tactic(auto, unfolding(crate::specs::Sends::send_at))]
+#[tactic(auto, unfolding(crate::specs::Sends::read_send))]
 pub(crate) fn send(here: &Node, before: &NamedOps, counts: &mut Counts) -> Result<Op, Stop>
     requires within { IsWithin counts.old }
-    ensures value { Gives result (sends.send_at before.now counts.old (spot_of here.now)) }
+    ensures value { Gives result (sends.read_send before.now counts.old (spot_of here.now)) }
     ensures valid { IfOk result (IsOp before.now) }
     ensures counted { IfOk result (λ o. counts.new ≡ with_op counts.old o) }
     ensures within { IfOk result (λ _. IsWithin counts.new) }

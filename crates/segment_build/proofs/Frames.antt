@@ -16,7 +16,7 @@ use Rattle.busdma_machine.specs.Tags.TagFlags.{keep_pg_offset}
 use Rattle.busdma_rules.specs.Segments.Building.{IsPlaceable, placed_pieces}
 use Rattle.busdma_rules.specs.Segments.Pieces.{chunk_pieces, piece_len, pieces_of}
 use Rattle.busdma_rules.specs.Segments.Trace.{IsPage, bus_addresses, chunk_len, first_page, in_page, page_offset}
-use Rattle.busdma_rules.specs.Segments.Trace.{placed}
+use Rattle.busdma_rules.specs.Segments.Trace.{chunks_in_pages as placed}
 use Rattle.busdma_rules.proofs.Segments.Places.{pieces_step, piece_some, piece_fits}
 
 -- a boundary divides the frame's size or is a multiple of it

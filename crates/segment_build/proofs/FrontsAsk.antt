@@ -22,7 +22,8 @@ use Rattle.busdma_rules.specs.Segments.Chunks.{chunks_from, chunks_of, chunks_of
 use Rattle.segment_build.specs.Conditions.{HasRooms}
 use Rattle.busdma_rules.specs.Segments.Pieces.{chunk_pieces, pieces_of}
 use Rattle.segment_build.specs.Streams.{FrontsAskNoMore, stream_chunks}
-use Rattle.busdma_rules.specs.Segments.Trace.{bus_addresses, chunk_len, first_page, in_page, page_offset, placed}
+use Rattle.busdma_rules.specs.Segments.Trace.{bus_addresses, chunk_len, first_page}
+use Rattle.busdma_rules.specs.Segments.Trace.{in_page, page_offset, chunks_in_pages as placed}
 use Rattle.segment_build.proofs.Chunking.{chunks_of_parts, stream_of_entries}
 use Rattle.busdma_rules.proofs.Segments.Counting.{need_append, need_first, pieces_append}
 use Rattle.busdma_rules.proofs.Segments.OneWindow.{all_first, all_second}

@@ -22,7 +22,8 @@ use Rattle.busdma_rules.specs.Segments.Building.{IsPlaceable, placed_pieces}
 use Rattle.busdma_rules.specs.Segments.Chunks.{chunks_of, need_of}
 use Rattle.segment_build.specs.Cutting.{after, after_part, closed, closed_part, opened, uncut}
 use Rattle.busdma_rules.specs.Segments.Pieces.{chunk_pieces, piece_len, pieces_of}
-use Rattle.busdma_rules.specs.Segments.Trace.{bus_addresses, chunk_len, first_page, in_page, page_offset, placed}
+use Rattle.busdma_rules.specs.Segments.Trace.{bus_addresses, chunk_len, first_page}
+use Rattle.busdma_rules.specs.Segments.Trace.{in_page, page_offset, chunks_in_pages as placed}
 use Rattle.segment_build.proofs.Chunking.{after_append, chunks_are, closed_append, cut_at}
 use Rattle.busdma_rules.proofs.Segments.Counting.{chunk_bytes, chunks_bytes, need_small, pieces_append}
 use Rattle.busdma_rules.proofs.Segments.Places.{pieces_from, pieces_are_from}

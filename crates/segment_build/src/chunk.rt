@@ -6,7 +6,7 @@ ghost use Rattle.busdma_machine.specs.Machine.Entry.{IsEntry, entries_bytes, ent
 ghost use Rattle.busdma_machine.specs.Runs.{byte_count};
 ghost use Rattle.busdma_rules.specs.Segments.Chunks.{chunks_of, need_of};
 ghost use Rattle.segment_build.specs.Cutting.{after, closed};
-ghost use Rattle.busdma_rules.specs.Segments.Trace.{IsPage, in_page, placed};
+ghost use Rattle.busdma_rules.specs.Segments.Trace.{IsPage, in_page, chunks_in_pages};
 
 use crate::cutter::Cutter;
 use crate::laws::tag_is_effective;
@@ -92,7 +92,7 @@ pub fn need(chunks: &[Chunk]) -> u32
 pub fn place(chunks: &mut [Chunk], pages: &[Pa], keep: bool)
     requires pages { AllByRecursion IsPage pages.now }
     requires need { need_of chunks.old ≡ length pages.now }
-    ensures { chunks.new ≡ placed keep chunks.old pages.now }
+    ensures { chunks.new ≡ chunks_in_pages keep chunks.old pages.now }
 {
     let mut used = 0;
     for chunk in chunks.iter_mut() {

@@ -21,8 +21,8 @@ abbrev pub round_at : ℕ → ℕ → List Op
 round_at x number = round_after (drawn (2 * number) x)
 
 -- the operations of n rounds that draw after x
-abbrev pub rounds : ℕ → ℕ → List Op
-rounds n x = flat_map (round_at x) (run_of 0 n)
+abbrev pub storm_rounds : ℕ → ℕ → List Op
+storm_rounds n x = flat_map (round_at x) (run_of 0 n)
 
 -- a device that reaches 24 bits, and takes up to 8192 bytes in up to four segments
 abbrev pub limits : TagLimits
@@ -38,8 +38,8 @@ limits = record {
 }
 
 -- the tag `t` and its maps `m0` and `m1`, with which a script begins
-abbrev pub opening : List Op
-opening = op.Tag (codes "t") None limits ∷ op.Map (codes "m0") 0 ∷ op.Map (codes "m1") 0 ∷ []
+abbrev pub storm_setup : List Op
+storm_setup = op.Tag (codes "t") None limits ∷ op.Map (codes "m0") 0 ∷ op.Map (codes "m1") 0 ∷ []
 
 -- the 16 pages of the driver with this number, in frames above those that its device reaches
 abbrev pub pages : ℕ → List PageRun
@@ -47,7 +47,7 @@ pages number = record { va = record { 0 = 0x100000 }; frame = 4096 + 16 * number
 
 -- a driver of n rounds that draw after x
 abbrev pub driver_after : ℕ → ℕ → ℕ → Driver
-driver_after number n x = record { pages = pages number; script = opening ++ rounds n x }
+driver_after number n x = record { pages = pages number; script = storm_setup ++ storm_rounds n x }
 
 -- the driver with this number in a storm of n rounds: all rounds of those before it are drawn first
 abbrev pub driver : ℕ → ℕ → ℕ → Driver
@@ -58,8 +58,8 @@ abbrev pub frames : List FrameRun
 frames = record { first = 16; count = 32 } ∷ record { first = 4096; count = 64 } ∷ []
 
 -- a storm of n rounds of each of four drivers, with a seed
-abbrev pub storm : ℕ → ℕ → Scenario
-storm n seed = record {
+abbrev pub storm_scenario : ℕ → ℕ → Scenario
+storm_scenario n seed = record {
   frames = frames;
   max_bpages = 4;
   drivers = map (driver n seed) (run_of 0 4);

@@ -25,9 +25,9 @@ count_lines journal =
     ++ count_line (codes "deferred") (deferred journal.zones))
 
 -- how the run ended
-abbrev pub end_line : Journal → List ℕ
-end_line journal = codes "end " ++ (end_word journal.end ++ codes "\n")
+abbrev pub storm_end_line : Journal → List ℕ
+storm_end_line journal = codes "end " ++ (end_word journal.end ++ codes "\n")
 
 -- the five lines of a summary
 abbrev pub summary : ℕ → ℕ → Journal → List ℕ
-summary n seed journal = storm_line n seed ++ (count_lines journal ++ end_line journal)
+summary n seed journal = storm_line n seed ++ (count_lines journal ++ storm_end_line journal)

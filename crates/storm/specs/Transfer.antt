@@ -17,8 +17,8 @@ length_drawn p = 1 + p / 8192 % 8192
 -- the transfer of a round with the numbers p and q: its map, the second or third operation of the script;
 -- where its bytes begin, in the first 13 of the driver's 16 pages; how many are loaded; how many of them are
 -- read and written, 64 at most; and the byte that is written
-abbrev pub transfer : ℕ → ℕ → Transfer
-transfer p q = record {
+abbrev pub storm_transfer : ℕ → ℕ → Transfer
+storm_transfer p q = record {
   map = 1 + p % 2;
   va = record { 0 = 0x100000 + 4096 * (q / 512 % 13) + p / 2 % 4096 };
   len = length_drawn p;
@@ -51,4 +51,4 @@ from_device t =
 
 -- the operations of a round with the numbers p and q
 unfoldable pub round : ℕ → ℕ → List Op
-round p q = if q % 2 == 0 then to_device (transfer p q) else from_device (transfer p q)
+round p q = if q % 2 == 0 then to_device (storm_transfer p q) else from_device (storm_transfer p q)

@@ -5,15 +5,15 @@ ghost use Rattle.std.specs.List.{AllByRecursion};
 ghost use Rattle.busdma_base.specs.declared.scenarios.scenario.Driver.{Driver};
 ghost use Rattle.busdma_base.specs.Scenarios.Script.{steps_of};
 ghost use Rattle.busdma_base.specs.Scenarios.Valid.{IsValid};
-ghost use Rattle.storm.specs.Scenario.{storm};
+ghost use Rattle.storm.specs.Scenario.{storm_scenario};
 
 /// A storm of up to 256 rounds is a valid scenario.
 pub fn storms_are_valid()
-    ensures { (n seed : ℕ) → n ≤ 256 → IsValid (storm n seed) }
+    ensures { (n seed : ℕ) → n ≤ 256 → IsValid (storm_scenario n seed) }
 {}
 
 /// Each driver of a storm has three operations and, for each round, seven operations and items: 1795
 /// where it has 256 rounds.
 pub fn storms_have_seven_steps_a_round()
-    ensures { (n seed : ℕ) → AllByRecursion (λ (d : Driver). steps_of d.script ≡ 3 + 7 * n) (storm n seed).drivers }
+    ensures { (n seed : ℕ) → AllByRecursion (λ (d : Driver). steps_of d.script ≡ 3 + 7 * n) (storm_scenario n seed).drivers }
 {}

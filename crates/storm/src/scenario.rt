@@ -32,7 +32,7 @@ fn named(alloc: Global, text: &str) -> Result<Name, AllocError>
 }
 
 fn opening(alloc: Global) -> Result<Vec<Op>, AllocError>
-    ensures { IfOk result (λ script. script.items ≡ spec.opening) }
+    ensures { IfOk result (λ script. script.items ≡ spec.storm_setup) }
 {
     let tag = Op::Tag {
         name: named(alloc, "t")?,
@@ -70,7 +70,7 @@ fn push_rounds(
     n: u32,
     generator: &mut Generator,
 ) -> Result<(), AllocError>
-    ensures script { OnOk result (script.new.items ≡ script.old.items ++ spec.rounds n generator.old.last) }
+    ensures script { OnOk result (script.new.items ≡ script.old.items ++ spec.storm_rounds n generator.old.last) }
     ensures drawn { OnOk result (generator.new.last ≡ drawn (2 * n) generator.old.last) }
 {
     for _number in 0..n {
@@ -112,7 +112,7 @@ fn driver(
 }
 
 fn drivers(alloc: Global, n: u32, seed: u64) -> Result<Vec<Driver>, AllocError>
-    ensures { IfOk result (λ drivers. drivers.items ≡ (spec.storm n seed).drivers) }
+    ensures { IfOk result (λ drivers. drivers.items ≡ (spec.storm_scenario n seed).drivers) }
 {
     let mut generator = Generator { last: seed };
     let mut drivers = Vec::new(alloc);
@@ -128,7 +128,7 @@ pub fn storm_scenario(alloc: Global, n: u32, seed: u64) -> Result<Scenario, Allo
     requires rounds { 1 ≤ n }
     requires few { n ≤ 256 }
     requires seed { 1 ≤ seed }
-    ensures { IfOk result (λ scenario. scenario ≡ spec.storm n seed) }
+    ensures { IfOk result (λ scenario. scenario ≡ spec.storm_scenario n seed) }
 {
     let low = FrameRun {
         first: 16,

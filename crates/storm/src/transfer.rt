@@ -21,7 +21,7 @@ pub(crate) struct Transfer {
 impl Transfer {
     /// The transfer of a round that drew these numbers.
     fn drawn(p: u64, q: u64) -> Transfer
-        ensures { result ≡ spec.transfer p q }
+        ensures { result ≡ spec.storm_transfer p q }
     {
         let len = 1 + p / 8192 % 8192;
         Transfer {

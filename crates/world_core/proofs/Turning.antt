@@ -11,7 +11,7 @@ use Rattle.busdma_machine.specs.declared.bounce.hold.HubCall.TheVariants.{TakeCa
 use Rattle.busdma_machine.specs.declared.bounce.hold.HubReply.{HubReply}
 use Rattle.busdma_machine.specs.declared.bounce.hold.HubReply.TheVariants.{Nothing}
 use Rattle.busdma_machine.specs.Bounce.Account.{Account}
-use Rattle.busdma_machine.specs.Bounce.AccountStep.{Outcome, account_step}
+use Rattle.busdma_machine.specs.Bounce.AccountStep.{AccountReply as Outcome, account_step}
 use Rattle.busdma_machine.specs.Bounce.Door.{Seen, Holds, Passes, account}
 use Rattle.busdma_machine.specs.Bounce.History.{IsSound, account_of, is_kept}
 use Rattle.busdma_machine.proofs.Accounts.LaneEntries.{account_of-append, sound-rest}

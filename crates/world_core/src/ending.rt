@@ -4,7 +4,7 @@ ghost use Rattle.std.specs.Prelude.{◌≡◌};
 ghost use Rattle.std.specs.List.{list_all};
 ghost use Rattle.lane_core.specs.LaneIdeal.{ideal};
 ghost use Rattle.ideal_world.specs.Ends as ends;
-ghost use Rattle.ideal_world.specs.Ends.{end_of};
+ghost use Rattle.ideal_world.specs.Ends.{world_end};
 ghost use Rattle.ideal_world.specs.World.{has_ended};
 ghost use Rattle.world_core.specs.Ideal.{ideal_world};
 
@@ -14,7 +14,7 @@ use busdma_base::{End, Journal, JournalEntry};
 impl World<'_> {
     /// How a run ends that has come to rest here.
     pub fn end(&self) -> End
-        ensures { result ≡ end_of (ideal_world self.now) }
+        ensures { result ≡ world_end (ideal_world self.now) }
     {
         if self.all_ended() {
             End::Finished

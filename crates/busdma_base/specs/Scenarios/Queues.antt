@@ -20,8 +20,8 @@ queued_from load_at place (i ∷ items) =
     record { load_at = load_at; place = place; item = i } ∷ queued_from load_at (place + 1) items
 
 -- all items of a load, in order
-abbrev pub queued : ℕ → List Item → List QueuedItem
-queued load_at items = queued_from load_at 0 items
+abbrev pub queued_items : ℕ → List Item → List QueuedItem
+queued_items load_at items = queued_from load_at 0 items
 
 -- a name is that of the map that was made at a place
 abbrev pub is_map_at : ℕ → UsedName → Bool

@@ -78,7 +78,7 @@ const ITEM_WORDS: [ItemWord; 7] = [
 impl OpWord {
     /// The word as scenarios and reports have it.
     pub fn text(self) -> &'static str
-        ensures text { result.now ≡ words.op_text self }
+        ensures text { result.now ≡ words.op_word_text self }
         ensures read_again { words.op_word_of result.now ≡ Some self }
     {
         match self {
@@ -120,7 +120,7 @@ impl OpWord {
 impl ItemWord {
     /// The word as scenarios and reports have it.
     pub fn text(self) -> &'static str
-        ensures text { result.now ≡ words.item_text self }
+        ensures text { result.now ≡ words.item_word_text self }
         ensures read_again { words.item_word_of result.now ≡ Some self }
     {
         match self {

@@ -11,7 +11,8 @@ use Rattle.std.proofs.lemmas.List.Elements.{All-nil, All-cons, All-head, All-tai
 use Rattle.busdma_machine.specs.declared.name.MapId.{MapId}
 use Rattle.busdma_machine.specs.declared.bounce.zone.Waiter.{Waiter}
 use Rattle.busdma_machine.specs.Bounce.Account.{Account, Zone, Held, same_map, zone_at, no_zone, free, reserved, active}
-use Rattle.busdma_machine.specs.Bounce.Serving.{is_holding, handed, queued, returned, completed, left_waiting, promised}
+use Rattle.busdma_machine.specs.Bounce.Serving.{is_holding, handed, waiting_at_tail as queued}
+use Rattle.busdma_machine.specs.Bounce.Serving.{returned, completed, left_waiting, promised}
 use Rattle.busdma_machine.specs.Bounce.Serving.{served}
 use Rattle.busdma_machine.specs.Bounce.Conditions.{IsIdle, times_held}
 use Rattle.busdma_machine.specs.Bounce.WellFormed.{Lacks, IsWellFormed}

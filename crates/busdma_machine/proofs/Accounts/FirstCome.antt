@@ -17,10 +17,12 @@ use Rattle.busdma_machine.specs.Bounce.Account.{Account, Zone, zone_at, no_zone,
 use Rattle.busdma_machine.specs.Bounce.Conditions.{MayCall}
 use Rattle.busdma_machine.specs.Bounce.FirstCome.{queued_by, completed_by, called_from, queued_in, completed_in}
 use Rattle.busdma_machine.specs.Bounce.FirstCome.{called_in, waiting_in, ready_in, line}
-use Rattle.busdma_machine.specs.Bounce.Growth.{without_map}
+use Rattle.busdma_machine.specs.Bounce.Growth.{without_zone_map as without_map}
 use Rattle.busdma_machine.specs.Bounce.History.{IsSound, after_entry, account_of}
-use Rattle.busdma_machine.specs.Bounce.Serving.{handed, queued, returned, completed, left_waiting, served}
-use Rattle.busdma_machine.specs.Bounce.AccountStep.{Outcome, account_step, as_pages, attached, created, grabbed, released, placed}
+use Rattle.busdma_machine.specs.Bounce.Serving.{handed, waiting_at_tail as queued, returned}
+use Rattle.busdma_machine.specs.Bounce.Serving.{completed, left_waiting, served}
+use Rattle.busdma_machine.specs.Bounce.AccountStep.{AccountReply as Outcome, account_step, as_pages, attached}
+use Rattle.busdma_machine.specs.Bounce.AccountStep.{created, grabbed, released, memory_placed as placed}
 use Rattle.busdma_machine.specs.Bounce.AccountStep.{called_from as taken_from}
 use Rattle.busdma_machine.specs.Bounce.ServingOrder.{maps_of}
 use Rattle.busdma_machine.specs.Bounce.WellFormed.{Lacks, IsWellFormed}

@@ -15,11 +15,13 @@ use Rattle.busdma_machine.specs.declared.bounce.hold.HubReply.TheVariants.{Nothi
 use Rattle.busdma_machine.specs.declared.bounce.hold.HubReply.TheVariants.{Called}
 use Rattle.busdma_machine.specs.declared.bounce.hold.HoldEntry.{HoldEntry}
 use Rattle.busdma_machine.specs.Bounce.Account.{Account, Zone, zone_at, with_zone, no_zone, free}
-use Rattle.busdma_machine.specs.Bounce.Growth.{serves_tag, new_zone, zones_for, zone_of, with_zone_for, grown}
-use Rattle.busdma_machine.specs.Bounce.Growth.{growth_for_map, with_map}
-use Rattle.busdma_machine.specs.Bounce.Serving.{handed, queued, returned}
-use Rattle.busdma_machine.specs.Bounce.AccountStep.{Outcome, account_step, as_pages, attached, created, grabbed, released}
-use Rattle.busdma_machine.specs.Bounce.AccountStep.{called_from, placed}
+use Rattle.busdma_machine.specs.Bounce.Growth.{serves_tag, new_zone, zones_for}
+use Rattle.busdma_machine.specs.Bounce.Growth.{zone_for_tag as zone_of, with_zone_for, grown}
+use Rattle.busdma_machine.specs.Bounce.Growth.{growth_for_map, with_zone_map as with_map}
+use Rattle.busdma_machine.specs.Bounce.Serving.{handed, waiting_at_tail as queued, returned}
+use Rattle.busdma_machine.specs.Bounce.AccountStep.{AccountReply as Outcome, account_step, as_pages}
+use Rattle.busdma_machine.specs.Bounce.AccountStep.{attached, created, grabbed, released}
+use Rattle.busdma_machine.specs.Bounce.AccountStep.{called_from, memory_placed as placed}
 use Rattle.busdma_machine.specs.Bounce.History.{after_entry, account_of}
 use Rattle.busdma_machine.specs.Bounce.KeptZones.{KeepsZones}
 use Rattle.busdma_machine.proofs.Accounts.Counting.{get_or-set_as}

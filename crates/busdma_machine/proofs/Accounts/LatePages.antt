@@ -21,14 +21,16 @@ use Rattle.busdma_machine.specs.declared.bounce.hold.HubReply.TheVariants.{Nothi
 use Rattle.busdma_machine.specs.declared.bounce.hold.HubReply.TheVariants.{Called, Run, NoRun}
 use Rattle.busdma_machine.specs.declared.bounce.hold.HoldEntry.{HoldEntry}
 use Rattle.busdma_machine.specs.Bounce.Account.{Account, Zone, zone_at, no_zone, free, reserved, active, total}
-use Rattle.busdma_machine.specs.Bounce.AccountStep.{Outcome, account_step, as_pages, attached, created, grabbed, released}
-use Rattle.busdma_machine.specs.Bounce.AccountStep.{called_from, placed}
+use Rattle.busdma_machine.specs.Bounce.AccountStep.{AccountReply as Outcome, account_step, as_pages}
+use Rattle.busdma_machine.specs.Bounce.AccountStep.{attached, created, grabbed, released}
+use Rattle.busdma_machine.specs.Bounce.AccountStep.{called_from, memory_placed as placed}
 use Rattle.busdma_machine.specs.Bounce.Conditions.{MayCall, times_held}
-use Rattle.busdma_machine.specs.Bounce.Growth.{with_zone_for, zone_of, grown, growth_for_tag, growth_for_map, with_map}
-use Rattle.busdma_machine.specs.Bounce.Growth.{without_map}
+use Rattle.busdma_machine.specs.Bounce.Growth.{with_zone_for, zone_for_tag as zone_of, grown}
+use Rattle.busdma_machine.specs.Bounce.Growth.{growth_for_tag, growth_for_map, with_zone_map as with_map}
+use Rattle.busdma_machine.specs.Bounce.Growth.{without_zone_map as without_map}
 use Rattle.busdma_machine.specs.Bounce.History.{IsOpening, IsSound, after_entry, account_of}
 use Rattle.busdma_machine.specs.Bounce.LatePages.{grown_by, late_with, late_from, late_pages, to_call}
-use Rattle.busdma_machine.specs.Bounce.Serving.{handed, queued, left_waiting, promised}
+use Rattle.busdma_machine.specs.Bounce.Serving.{handed, waiting_at_tail as queued, left_waiting, promised}
 use Rattle.busdma_machine.specs.Bounce.WellFormed.{Lacks, IsWellFormed}
 use Rattle.busdma_machine.proofs.Accounts.Counting.{get_or-set_as}
 use Rattle.busdma_machine.proofs.Accounts.Counts.{handed-other, handed-reserved, handed-zone, head-inside}

@@ -16,11 +16,13 @@ use Rattle.busdma_machine.specs.declared.bounce.hold.HubCall.TheVariants.{TakeCa
 use Rattle.busdma_machine.specs.declared.bounce.hold.HubReply.TheVariants.{Nothing, Granted, Queued, NoPages, Called}
 use Rattle.busdma_machine.specs.declared.bounce.hold.HoldEntry.{HoldEntry}
 use Rattle.busdma_machine.specs.Bounce.Account.{Account, Zone, Held, zone_at, with_zone, no_zone, free, total}
-use Rattle.busdma_machine.specs.Bounce.Growth.{serves_tag, zones_for, zone_of, with_zone_for, frames_below, added, grown}
-use Rattle.busdma_machine.specs.Bounce.Growth.{maxpages, wanted_by_tag, wanted_by_map, with_map}
-use Rattle.busdma_machine.specs.Bounce.Serving.{is_holding, handed, queued, returned, served}
-use Rattle.busdma_machine.specs.Bounce.AccountStep.{Outcome, account_step, as_pages, created, grabbed, called_from}
-use Rattle.busdma_machine.specs.Bounce.AccountStep.{placed}
+use Rattle.busdma_machine.specs.Bounce.Growth.{serves_tag, zones_for, zone_for_tag as zone_of}
+use Rattle.busdma_machine.specs.Bounce.Growth.{with_zone_for, frames_below, added, grown}
+use Rattle.busdma_machine.specs.Bounce.Growth.{maxpages, wanted_by_tag, wanted_by_map, with_zone_map as with_map}
+use Rattle.busdma_machine.specs.Bounce.Serving.{is_holding, handed, waiting_at_tail as queued, returned, served}
+use Rattle.busdma_machine.specs.Bounce.AccountStep.{AccountReply as Outcome, account_step, as_pages}
+use Rattle.busdma_machine.specs.Bounce.AccountStep.{created, grabbed, called_from}
+use Rattle.busdma_machine.specs.Bounce.AccountStep.{memory_placed as placed}
 use Rattle.busdma_machine.specs.Bounce.Conditions.{MayCall, times_held}
 use Rattle.busdma_machine.specs.Bounce.History.{IsRising, IsOpening, IsSound, after_entry, account_of}
 use Rattle.busdma_machine.specs.Bounce.LowPages.{EndsWithin, PagesLieLow}

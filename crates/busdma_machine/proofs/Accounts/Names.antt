@@ -11,11 +11,16 @@ use Rattle.busdma_machine.specs.declared.tags.tag.TagLimits.{TagLimits}
 use Rattle.busdma_machine.specs.declared.bounce.hold.HubReply.TheVariants.{Granted, Queued, NoPages}
 use Rattle.busdma_machine.specs.Bounce.Account.{Account, Zone, Held, Memory, same_map, zone_at, with_zone, no_zone, free}
 use Rattle.busdma_machine.specs.Bounce.Account.{total}
-use Rattle.busdma_machine.specs.Bounce.Growth.{serves_tag, new_zone, zones_for, zone_of, with_zone_for, added, grown}
-use Rattle.busdma_machine.specs.Bounce.Growth.{maxpages, wanted_by_map, with_map, without_map}
-use Rattle.busdma_machine.specs.Bounce.Serving.{is_holding, handed, queued, returned, completed, left_waiting, served}
-use Rattle.busdma_machine.specs.Bounce.MemoryRuns.{with_memory, without_memory, frames_of}
-use Rattle.busdma_machine.specs.Bounce.AccountStep.{Outcome, as_pages, attached, created, grabbed, released, placed}
+use Rattle.busdma_machine.specs.Bounce.Growth.{serves_tag, new_zone, zones_for}
+use Rattle.busdma_machine.specs.Bounce.Growth.{zone_for_tag as zone_of, with_zone_for, added, grown}
+use Rattle.busdma_machine.specs.Bounce.Growth.{maxpages, wanted_by_map}
+use Rattle.busdma_machine.specs.Bounce.Growth.{with_zone_map as with_map, without_zone_map as without_map}
+use Rattle.busdma_machine.specs.Bounce.Serving.{is_holding, handed, waiting_at_tail as queued}
+use Rattle.busdma_machine.specs.Bounce.Serving.{returned, completed, left_waiting, served}
+use Rattle.busdma_machine.specs.Bounce.MemoryRuns.{with_memory_run as with_memory}
+use Rattle.busdma_machine.specs.Bounce.MemoryRuns.{without_memory_run as without_memory, frames_of}
+use Rattle.busdma_machine.specs.Bounce.AccountStep.{AccountReply as Outcome, as_pages, attached}
+use Rattle.busdma_machine.specs.Bounce.AccountStep.{created, grabbed, released, memory_placed as placed}
 use Rattle.busdma_machine.proofs.Accounts.Counting.{get_or-set_as, sum_by-set_less, sum_by-set_like}
 use Rattle.busdma_machine.proofs.Accounts.Counting.{count_by-filter_keeps, count_by-map_none, count_by-append}
 use Rattle.busdma_machine.proofs.Accounts.Counting.{count_by-one_no, count_by-push_no}

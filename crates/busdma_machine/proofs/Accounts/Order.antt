@@ -13,10 +13,13 @@ use Rattle.busdma_machine.specs.declared.bounce.hold.HubCall.TheVariants.{TakeCa
 use Rattle.busdma_machine.specs.declared.bounce.hold.HubReply.TheVariants.{Nothing, Granted, Queued, NoPages, Called}
 use Rattle.busdma_machine.specs.declared.bounce.hold.HoldEntry.{HoldEntry}
 use Rattle.busdma_machine.specs.Bounce.Account.{Account, Zone, zone_at, no_zone, free, total}
-use Rattle.busdma_machine.specs.Bounce.Growth.{with_zone_for, zone_of, added, grown, maxpages, wanted_by_map, with_map}
-use Rattle.busdma_machine.specs.Bounce.Serving.{complete, handed, queued, returned, completed, left_waiting, served}
-use Rattle.busdma_machine.specs.Bounce.AccountStep.{Outcome, account_step, as_pages, attached, created, grabbed, released}
-use Rattle.busdma_machine.specs.Bounce.AccountStep.{called_from, placed}
+use Rattle.busdma_machine.specs.Bounce.Growth.{with_zone_for, zone_for_tag as zone_of, added}
+use Rattle.busdma_machine.specs.Bounce.Growth.{grown, maxpages, wanted_by_map, with_zone_map as with_map}
+use Rattle.busdma_machine.specs.Bounce.Serving.{complete, handed, waiting_at_tail as queued}
+use Rattle.busdma_machine.specs.Bounce.Serving.{returned, completed, left_waiting, served}
+use Rattle.busdma_machine.specs.Bounce.AccountStep.{AccountReply as Outcome, account_step, as_pages}
+use Rattle.busdma_machine.specs.Bounce.AccountStep.{attached, created, grabbed, released}
+use Rattle.busdma_machine.specs.Bounce.AccountStep.{called_from, memory_placed as placed}
 use Rattle.busdma_machine.specs.Bounce.History.{IsSound, after_entry, account_of}
 use Rattle.busdma_machine.specs.Bounce.ServingOrder.{ServesNobody, lacking, first_gets, TooFew, ServesFront}
 use Rattle.busdma_machine.specs.Bounce.ServingOrder.{ServesInOrder, maps_of, joined_by, called_by, joined, called}

@@ -15,12 +15,16 @@ use Rattle.busdma_machine.specs.declared.bounce.hold.HubReply.TheVariants.{Nothi
 use Rattle.busdma_machine.specs.declared.bounce.hold.HoldEntry.{HoldEntry}
 use Rattle.busdma_machine.specs.Bounce.Account.{Account, Zone, Held, Memory, same_map, zone_at, with_zone, no_zone, free}
 use Rattle.busdma_machine.specs.Bounce.Account.{total}
-use Rattle.busdma_machine.specs.Bounce.Growth.{serves_tag, zones_for, zone_of, with_zone_for, added, grown, maxpages}
-use Rattle.busdma_machine.specs.Bounce.Growth.{wanted_by_map, with_map}
-use Rattle.busdma_machine.specs.Bounce.Serving.{is_holding, handed, queued, returned, completed, left_waiting, served}
-use Rattle.busdma_machine.specs.Bounce.MemoryRuns.{in_run, with_memory, put_in, put_all, frames_of, without_memory}
-use Rattle.busdma_machine.specs.Bounce.AccountStep.{Outcome, account_step, as_pages, created, grabbed, called_from}
-use Rattle.busdma_machine.specs.Bounce.AccountStep.{placed}
+use Rattle.busdma_machine.specs.Bounce.Growth.{serves_tag, zones_for, zone_for_tag as zone_of}
+use Rattle.busdma_machine.specs.Bounce.Growth.{with_zone_for, added, grown, maxpages}
+use Rattle.busdma_machine.specs.Bounce.Growth.{wanted_by_map, with_zone_map as with_map}
+use Rattle.busdma_machine.specs.Bounce.Serving.{is_holding, handed, waiting_at_tail as queued}
+use Rattle.busdma_machine.specs.Bounce.Serving.{returned, completed, left_waiting, served}
+use Rattle.busdma_machine.specs.Bounce.MemoryRuns.{in_run, with_memory_run as with_memory, put_in}
+use Rattle.busdma_machine.specs.Bounce.MemoryRuns.{put_all, frames_of, without_memory_run as without_memory}
+use Rattle.busdma_machine.specs.Bounce.AccountStep.{AccountReply as Outcome, account_step, as_pages}
+use Rattle.busdma_machine.specs.Bounce.AccountStep.{created, grabbed, called_from}
+use Rattle.busdma_machine.specs.Bounce.AccountStep.{memory_placed as placed}
 use Rattle.busdma_machine.specs.Bounce.Conditions.{MayCall, times_held}
 use Rattle.busdma_machine.specs.Bounce.History.{IsRising, IsOpening, IsSound, after_entry, account_of}
 use Rattle.busdma_machine.specs.Bounce.Places.{times, places, frames_where, frame_total}

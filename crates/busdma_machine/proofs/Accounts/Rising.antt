@@ -14,11 +14,13 @@ use Rattle.busdma_machine.specs.declared.bounce.hold.HubCall.TheVariants.{TakeCa
 use Rattle.busdma_machine.specs.declared.bounce.hold.HubReply.TheVariants.{Nothing, Granted, Queued, NoPages, Called}
 use Rattle.busdma_machine.specs.declared.bounce.hold.HoldEntry.{HoldEntry}
 use Rattle.busdma_machine.specs.Bounce.Account.{Account, zone_at, free}
-use Rattle.busdma_machine.specs.Bounce.Growth.{with_zone_for, zone_of, grown, growth_for_map, with_map}
-use Rattle.busdma_machine.specs.Bounce.Serving.{handed, queued}
+use Rattle.busdma_machine.specs.Bounce.Growth.{with_zone_for, zone_for_tag as zone_of}
+use Rattle.busdma_machine.specs.Bounce.Growth.{grown, growth_for_map, with_zone_map as with_map}
+use Rattle.busdma_machine.specs.Bounce.Serving.{handed, waiting_at_tail as queued}
 use Rattle.busdma_machine.specs.Bounce.MemoryRuns.{in_run, put_in, put_all, frames_of}
-use Rattle.busdma_machine.specs.Bounce.AccountStep.{Outcome, account_step, as_pages, created, grabbed, called_from}
-use Rattle.busdma_machine.specs.Bounce.AccountStep.{placed}
+use Rattle.busdma_machine.specs.Bounce.AccountStep.{AccountReply as Outcome, account_step, as_pages}
+use Rattle.busdma_machine.specs.Bounce.AccountStep.{created, grabbed, called_from}
+use Rattle.busdma_machine.specs.Bounce.AccountStep.{memory_placed as placed}
 use Rattle.busdma_machine.specs.Bounce.History.{IsRising, IsOpening, IsSound, after_entry, account_of}
 use Rattle.busdma_machine.specs.Bounce.Places.{times, places}
 use Rattle.busdma_machine.specs.Bounce.WellFormed.{IsWellFormed}

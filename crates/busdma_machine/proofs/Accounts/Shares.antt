@@ -12,10 +12,11 @@ use Rattle.busdma_machine.specs.declared.bounce.hold.HubCall.TheVariants.{TakeCa
 use Rattle.busdma_machine.specs.declared.bounce.hold.HubReply.TheVariants.{Nothing, Granted, Queued, NoPages, Called}
 use Rattle.busdma_machine.specs.declared.bounce.hold.HoldEntry.{HoldEntry}
 use Rattle.busdma_machine.specs.Bounce.Account.{Account, zone_at, free}
-use Rattle.busdma_machine.specs.Bounce.Growth.{zone_of, with_zone_for, growth_for_map}
-use Rattle.busdma_machine.specs.Bounce.Serving.{handed, queued}
+use Rattle.busdma_machine.specs.Bounce.Growth.{zone_for_tag as zone_of, with_zone_for, growth_for_map}
+use Rattle.busdma_machine.specs.Bounce.Serving.{handed, waiting_at_tail as queued}
 use Rattle.busdma_machine.specs.Bounce.MemoryRuns.{frames_of}
-use Rattle.busdma_machine.specs.Bounce.AccountStep.{Outcome, account_step, as_pages, grabbed, called_from, placed}
+use Rattle.busdma_machine.specs.Bounce.AccountStep.{AccountReply as Outcome, account_step, as_pages}
+use Rattle.busdma_machine.specs.Bounce.AccountStep.{grabbed, called_from, memory_placed as placed}
 use Rattle.busdma_machine.specs.Bounce.Conditions.{MayCall, IsIdle}
 use Rattle.busdma_machine.specs.Bounce.History.{IsSound, after_entry, account_of}
 use Rattle.busdma_machine.specs.Bounce.Share.{Same, share}

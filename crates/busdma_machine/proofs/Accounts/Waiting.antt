@@ -13,10 +13,13 @@ use Rattle.busdma_machine.specs.declared.bounce.hold.HubCall.TheVariants.{TakeCa
 use Rattle.busdma_machine.specs.declared.bounce.hold.HubReply.TheVariants.{Nothing, Called}
 use Rattle.busdma_machine.specs.declared.bounce.hold.HoldEntry.{HoldEntry}
 use Rattle.busdma_machine.specs.Bounce.Account.{Account, Zone, same_map, zone_at, with_zone, no_zone}
-use Rattle.busdma_machine.specs.Bounce.Growth.{zone_of, with_zone_for, grown, growth_for_map, with_map, without_map}
+use Rattle.busdma_machine.specs.Bounce.Growth.{zone_for_tag as zone_of, with_zone_for, grown}
+use Rattle.busdma_machine.specs.Bounce.Growth.{growth_for_map}
+use Rattle.busdma_machine.specs.Bounce.Growth.{with_zone_map as with_map, without_zone_map as without_map}
 use Rattle.busdma_machine.specs.Bounce.Serving.{handed, returned}
-use Rattle.busdma_machine.specs.Bounce.AccountStep.{Outcome, account_step, as_pages, created, grabbed, released}
-use Rattle.busdma_machine.specs.Bounce.AccountStep.{called_from, placed}
+use Rattle.busdma_machine.specs.Bounce.AccountStep.{AccountReply as Outcome, account_step, as_pages}
+use Rattle.busdma_machine.specs.Bounce.AccountStep.{created, grabbed, released}
+use Rattle.busdma_machine.specs.Bounce.AccountStep.{called_from, memory_placed as placed}
 use Rattle.busdma_machine.specs.Bounce.Conditions.{MayCall, IsIdle, times_listed}
 use Rattle.busdma_machine.specs.Bounce.History.{IsSound, after_entry, account_of}
 use Rattle.busdma_machine.specs.Bounce.ServingOrder.{called_by, called}

@@ -13,12 +13,15 @@ use Rattle.busdma_machine.specs.declared.bounce.hold.HubCall.TheVariants.{TakeCa
 use Rattle.busdma_machine.specs.declared.bounce.hold.HubReply.TheVariants.{Nothing, Granted, Queued, NoPages, Called}
 use Rattle.busdma_machine.specs.declared.bounce.hold.HoldEntry.{HoldEntry}
 use Rattle.busdma_machine.specs.Bounce.Account.{Account, Zone, zone_at, with_zone, no_zone, free, reserved, active, total}
-use Rattle.busdma_machine.specs.Bounce.Growth.{serves_tag, zones_for, zone_of, with_zone_for, added, grown, maxpages}
-use Rattle.busdma_machine.specs.Bounce.Growth.{wanted_by_map, with_map, without_map}
-use Rattle.busdma_machine.specs.Bounce.Serving.{handed, queued}
-use Rattle.busdma_machine.specs.Bounce.MemoryRuns.{with_memory, without_memory}
-use Rattle.busdma_machine.specs.Bounce.AccountStep.{Outcome, account_step, as_pages, attached, created, grabbed}
-use Rattle.busdma_machine.specs.Bounce.AccountStep.{called_from, placed}
+use Rattle.busdma_machine.specs.Bounce.Growth.{serves_tag, zones_for, zone_for_tag as zone_of}
+use Rattle.busdma_machine.specs.Bounce.Growth.{with_zone_for, added, grown, maxpages}
+use Rattle.busdma_machine.specs.Bounce.Growth.{wanted_by_map}
+use Rattle.busdma_machine.specs.Bounce.Growth.{with_zone_map as with_map, without_zone_map as without_map}
+use Rattle.busdma_machine.specs.Bounce.Serving.{handed, waiting_at_tail as queued}
+use Rattle.busdma_machine.specs.Bounce.MemoryRuns.{with_memory_run as with_memory, without_memory_run as without_memory}
+use Rattle.busdma_machine.specs.Bounce.AccountStep.{AccountReply as Outcome, account_step, as_pages}
+use Rattle.busdma_machine.specs.Bounce.AccountStep.{attached, created, grabbed}
+use Rattle.busdma_machine.specs.Bounce.AccountStep.{called_from, memory_placed as placed}
 use Rattle.busdma_machine.specs.Bounce.Conditions.{MayCall, IsIdle, times_held}
 use Rattle.busdma_machine.specs.Bounce.History.{IsOpening, IsSound, after_entry, account_of}
 use Rattle.busdma_machine.specs.Bounce.WellFormed.{Lacks, IsWellFormed}

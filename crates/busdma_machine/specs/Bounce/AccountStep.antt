@@ -13,13 +13,14 @@ use Rattle.busdma_machine.specs.declared.bounce.hold.HubReply.{HubReply}
 use Rattle.busdma_machine.specs.declared.bounce.hold.HubReply.TheVariants.{Nothing, Grown, Granted, Queued, NoPages}
 use Rattle.busdma_machine.specs.declared.bounce.hold.HubReply.TheVariants.{Served, Called, Run, NoRun}
 use Rattle.busdma_machine.specs.Bounce.Account.{Account, zone_at, free}
-use Rattle.busdma_machine.specs.Bounce.Growth.{with_zone_for, zone_of, grown, growth_for_tag, growth_for_map, with_map}
-use Rattle.busdma_machine.specs.Bounce.Growth.{without_map}
-use Rattle.busdma_machine.specs.Bounce.Serving.{handed, queued, returned, completed, served}
-use Rattle.busdma_machine.specs.Bounce.MemoryRuns.{frames_for, lowest_run, with_memory, without_memory}
+use Rattle.busdma_machine.specs.Bounce.Growth.{with_zone_for, zone_for_tag, grown}
+use Rattle.busdma_machine.specs.Bounce.Growth.{growth_for_tag, growth_for_map, with_zone_map}
+use Rattle.busdma_machine.specs.Bounce.Growth.{without_zone_map}
+use Rattle.busdma_machine.specs.Bounce.Serving.{handed, waiting_at_tail, returned, completed, served}
+use Rattle.busdma_machine.specs.Bounce.MemoryRuns.{frames_for, lowest_run, with_memory_run, without_memory_run}
 
 -- the account after a call, and the reply
-pub record Outcome : Type 0 where
+pub record AccountReply : Type 0 where
   pub account : Account
   pub reply : HubReply
 
@@ -28,38 +29,38 @@ abbrev pub as_pages : List ℕ → List Pa
 as_pages pages = map (λ p. record { 0 = p }) pages
 
 -- the first allocation of a tag: its zone is looked up and grows
-abbrev pub attached : TagLimits → Account → Outcome
+abbrev pub attached : TagLimits → Account → AccountReply
 attached t a =
     let b : Account = with_zone_for t a in
-    let z : ℕ = zone_of t a.zones in
+    let z : ℕ = zone_for_tag t a.zones in
     let growth : GrownBy = growth_for_tag t b z in
     record { account = grown b z growth.added; reply = Grown growth }
 
 -- the making of a map: its zone is looked up and grows, and the map joins it where it is made
-abbrev pub created : MapId → TagLimits → Bool → Account → Outcome
+abbrev pub created : MapId → TagLimits → Bool → Account → AccountReply
 created m t first_done a =
     let b : Account = with_zone_for t a in
-    let z : ℕ = zone_of t a.zones in
+    let z : ℕ = zone_for_tag t a.zones in
     let growth : GrownBy = growth_for_map t first_done b z in
     let c : Account = grown b z growth.added in
-    record { account = if growth.made then with_map c z m else c; reply = Grown growth }
+    record { account = if growth.made then with_zone_map c z m else c; reply = Grown growth }
 
 -- the wish of a map for pages: it gets them, is refused, or waits
-abbrev pub grabbed : MapId → ℕ → ℕ → Bool → Account → Outcome
+abbrev pub grabbed : MapId → ℕ → ℕ → Bool → Account → AccountReply
 grabbed m z need nowait a =
     let pages : List ℕ = take need (zone_at a z).avail in
     if nat_le need (free a z) then record { account = handed a m z need; reply = Granted (as_pages pages) }
     else if nowait then record { account = a; reply = NoPages }
-    else record { account = queued a m z need; reply = Queued (free a z) }
+    else record { account = waiting_at_tail a m z need; reply = Queued (free a z) }
 
 -- the return of a page, after which its zone serves
-abbrev pub released : MapId → ℕ → ℕ → Account → Outcome
+abbrev pub released : MapId → ℕ → ℕ → Account → AccountReply
 released m z page a =
     let b : Account = returned a m z page in
     record { account = served b z; reply = Served (length (completed (free b z) (zone_at b z).wait)) }
 
 -- the head of a callback list is taken by its lane, and gets its pages; nobody else takes it
-abbrev pub called_from : List Waiter → ℕ → Account → Outcome
+abbrev pub called_from : List Waiter → ℕ → Account → AccountReply
 called_from [] lane a = record { account = a; reply = Nothing }
 called_from (w ∷ ws) lane a =
     let b : Account = record a { ready = ws } in
@@ -69,18 +70,18 @@ called_from (w ∷ ws) lane a =
     else record { account = a; reply = Nothing }
 
 -- a memory gets n frames from the first of a run on, where there is one
-abbrev pub placed : MapId → ℕ → Option ℕ → Account → Outcome
-placed m n None a = record { account = a; reply = NoRun }
-placed m n (Some first) a = record { account = with_memory a m first n; reply = Run (record { 0 = first }) n }
+abbrev pub memory_placed : MapId → ℕ → Option ℕ → Account → AccountReply
+memory_placed m n None a = record { account = a; reply = NoRun }
+memory_placed m n (Some first) a = record { account = with_memory_run a m first n; reply = Run (record { 0 = first }) n }
 
 -- the step of a lane's call
-abbrev pub account_step : ℕ → HubCall → Account → Outcome
+abbrev pub account_step : ℕ → HubCall → Account → AccountReply
 account_step lane (AttachTag t) a = attached t a
 account_step lane (CreateMap m t first_done) a = created m t first_done a
-account_step lane (DestroyMap m z) a = record { account = without_map a z.0 m; reply = Nothing }
+account_step lane (DestroyMap m z) a = record { account = without_zone_map a z.0 m; reply = Nothing }
 account_step lane (Grab m z need nowait) a = grabbed m z.0 need nowait a
 account_step lane (Release m z page) a = released m z.0 page.0 a
 account_step lane TakeCallback a = called_from a.ready lane a
 account_step lane (MemAlloc m t) a =
-    placed m (frames_for t.maxsize) (lowest_run t.maxsize t.boundary t.lowaddr.0 a.bank) a
-account_step lane (MemFree m) a = record { account = without_memory a m; reply = Nothing }
+    memory_placed m (frames_for t.maxsize) (lowest_run t.maxsize t.boundary t.lowaddr.0 a.bank) a
+account_step lane (MemFree m) a = record { account = without_memory_run a m; reply = Nothing }

@@ -30,8 +30,8 @@ first_place test [] = 0
 first_place test (x ∷ xs) = if test x then 0 else suc (first_place test xs)
 
 -- the number of the first zone that serves the tag, or of the one that is made for it
-abbrev pub zone_of : TagLimits → List Zone → ℕ
-zone_of t zs = first_place (serves_tag t) zs
+abbrev pub zone_for_tag : TagLimits → List Zone → ℕ
+zone_for_tag t zs = first_place (serves_tag t) zs
 
 -- the account in which the tag has its zone
 abbrev pub with_zone_for : TagLimits → Account → Account
@@ -93,10 +93,10 @@ growth_for_map t first_done a z =
     record { zone = record { 0 = z }; added = n; made = first_done || n == wanted }
 
 -- a map joins the maps of its zone, and leaves them
-abbrev pub with_map : Account → ℕ → MapId → Account
-with_map a z m = let zone : Zone = zone_at a z in with_zone a z (record zone { maps = zone.maps ++ m ∷ [] })
+abbrev pub with_zone_map : Account → ℕ → MapId → Account
+with_zone_map a z m = let zone : Zone = zone_at a z in with_zone a z (record zone { maps = zone.maps ++ m ∷ [] })
 
-abbrev pub without_map : Account → ℕ → MapId → Account
-without_map a z m =
+abbrev pub without_zone_map : Account → ℕ → MapId → Account
+without_zone_map a z m =
     let zone : Zone = zone_at a z in
     with_zone a z (record zone { maps = filter (λ n. not (same_map m n)) zone.maps })

@@ -50,8 +50,8 @@ abbrev pub frames_but : ℕ → ℕ → List ℕ → List ℕ
 frames_but first n frames = filter (λ f. not (in_run first n f)) frames
 
 -- the n frames from first on go from the bank to a memory
-abbrev pub with_memory : Account → MapId → ℕ → ℕ → Account
-with_memory a m first n = record a {
+abbrev pub with_memory_run : Account → MapId → ℕ → ℕ → Account
+with_memory_run a m first n = record a {
   bank = frames_but first n a.bank;
   mems = a.mems ++ record { mem = m; frames = frames_in first n a.bank } ∷ [];
 }
@@ -72,8 +72,8 @@ frames_of m [] = []
 frames_of m (x ∷ xs) = if same_map m x.mem then x.frames ++ frames_of m xs else frames_of m xs
 
 -- the frames of a memory return to the bank
-abbrev pub without_memory : Account → MapId → Account
-without_memory a m = record a {
+abbrev pub without_memory_run : Account → MapId → Account
+without_memory_run a m = record a {
   bank = put_all (frames_of m a.mems) a.bank;
   mems = filter (λ x. not (same_map m x.mem)) a.mems;
 }

@@ -20,8 +20,8 @@ handed a m z need =
     }
 
 -- the map joins the tail of the zone's waiting list, with all free pages promised to it
-abbrev pub queued : Account → MapId → ℕ → ℕ → Account
-queued a m z need =
+abbrev pub waiting_at_tail : Account → MapId → ℕ → ℕ → Account
+waiting_at_tail a m z need =
     let zone : Zone = zone_at a z in
     let waiter : Waiter = record { map = m; zone = record { 0 = z }; need = need; have = free a z } in
     with_zone a z (record zone { wait = zone.wait ++ waiter ∷ [] })

@@ -6,7 +6,7 @@ use Rattle.busdma_machine.specs.declared.bounce.hold.HubCall.{HubCall}
 use Rattle.busdma_machine.specs.declared.bounce.hold.HubCall.TheVariants.{CreateMap, Grab}
 use Rattle.busdma_machine.specs.declared.bounce.hold.HoldEntry.{HoldEntry}
 use Rattle.busdma_machine.specs.Bounce.Account.{Account, fresh_account}
-use Rattle.busdma_machine.specs.Bounce.AccountStep.{Outcome, account_step}
+use Rattle.busdma_machine.specs.Bounce.AccountStep.{AccountReply, account_step}
 use Rattle.busdma_machine.specs.Bounce.MemoryRuns.{frames_from}
 use Rattle.busdma_machine.specs.Bounce.WorkedExample.{low_tag, map_of}
 
@@ -44,5 +44,5 @@ both_waiting = record {
 abbrev pub entries_of : Account → List (ℕ × HubCall) → List HoldEntry
 entries_of a [] = []
 entries_of a (c ∷ cs) =
-    let o : Outcome = account_step c.0 c.1 a in
+    let o : AccountReply = account_step c.0 c.1 a in
     record { lane = record { 0 = c.0 }; call = c.1; reply = o.reply } ∷ entries_of o.account cs

@@ -10,7 +10,7 @@ use Rattle.busdma_machine.specs.declared.bounce.hold.HubReply.{HubReply}
 use Rattle.busdma_machine.specs.declared.bounce.hold.HubReply.TheVariants.{Nothing, Grown, Granted, Queued, NoPages}
 use Rattle.busdma_machine.specs.declared.bounce.hold.HubReply.TheVariants.{Served, Called, Run, NoRun}
 use Rattle.busdma_machine.specs.Bounce.Account.{Account, fresh_account}
-use Rattle.busdma_machine.specs.Bounce.AccountStep.{Outcome, account_step, as_pages}
+use Rattle.busdma_machine.specs.Bounce.AccountStep.{AccountReply, account_step, as_pages}
 use Rattle.busdma_machine.specs.Bounce.MemoryRuns.{frames_from}
 
 -- the frames 0x10 to 0x17 and 0x1000 to 0x100f are free; maxmem is 0x1010, and max_bpages 2
@@ -80,7 +80,7 @@ counts_after = record {
 -- what calls answer, one after another
 abbrev pub answers : Account → List (ℕ × HubCall) → List HubReply
 answers a [] = []
-answers a (c ∷ cs) = let o : Outcome = account_step c.0 c.1 a in o.reply ∷ answers o.account cs
+answers a (c ∷ cs) = let o : AccountReply = account_step c.0 c.1 a in o.reply ∷ answers o.account cs
 
 -- the account after calls
 abbrev pub after_calls : Account → List (ℕ × HubCall) → Account

@@ -4,7 +4,8 @@ use Rattle.std.proofs.Common.{slice_get, refl, ap, ◌∙◌, arith, leb, ltb, e
 use Rattle.std.specs.List.{filter, list_any}
 use Rattle.std.proofs.lemmas.Bool.{leb-true, lt-ltb, le-ltb, eq-eqb, ne_eqb}
 use Rattle.std.proofs.lemmas.Bool.Decides.{nat_tests}
-use Rattle.busdma_rules.specs.Iommu.Space.{DeviceRun, AreRuns, begins_at, end_of, frame_at, gap, has_page, put_run}
+use Rattle.busdma_rules.specs.Iommu.Space.{DeviceRun, AreRuns, begins_at, run_end as end_of}
+use Rattle.busdma_rules.specs.Iommu.Space.{frame_of_page as frame_at, gap, has_page, put_run}
 use Rattle.busdma_rules.proofs.Iommu.Runs.{all-stay, begins-behind, gap-low}
 
 -- the pages of a run that is entered stand for its frames

@@ -4,7 +4,8 @@ use Rattle.std.proofs.Common.{length, Some, slice_get, refl, sym, ap, subst, ari
 use Rattle.std.specs.List.{Contains, filter, list_any}
 use Rattle.std.proofs.lemmas.Bool.{false≢true, ne_eqb}
 use Rattle.std.proofs.lemmas.Bool.Decides.{nat_tests}
-use Rattle.busdma_rules.specs.Iommu.Space.{AreRuns, DeviceRun, begins_at, end_of, gap, has_page, meets, put_run}
+use Rattle.busdma_rules.specs.Iommu.Space.{AreRuns, DeviceRun, begins_at, run_end as end_of}
+use Rattle.busdma_rules.specs.Iommu.Space.{gap, has_page, meets, put_run}
 use Rattle.busdma_rules.proofs.Iommu.Runs.{get-at, gap-free}
 
 module _ {X : Type 0} where

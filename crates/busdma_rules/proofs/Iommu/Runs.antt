@@ -6,7 +6,8 @@ use Rattle.std.proofs.lemmas.Bool.{cases_lt, ltb-true, ltb-false, leb-true, leb-
 use Rattle.std.proofs.lemmas.Bool.{ne_eqb, false≢true}
 use Rattle.std.specs.List.{filter, list_any}
 use Rattle.std.proofs.lemmas.Bool.Decides.{nat_tests}
-use Rattle.busdma_rules.specs.Iommu.Space.{DeviceRun, Space, IsRunIn, AreRuns, begins_at, end_of, gap, has_page}
+use Rattle.busdma_rules.specs.Iommu.Space.{DeviceRun, Space, IsRunIn, AreRuns}
+use Rattle.busdma_rules.specs.Iommu.Space.{begins_at, run_end as end_of, gap, has_page}
 use Rattle.busdma_rules.specs.Iommu.Space.{first_free, least_from, may_take, meets, put_run}
 
 -- runs that rise from a page on rise from each lower one

@@ -2,7 +2,8 @@
 use Rattle.std.proofs.Common.{◌≡◌, ℕ, ◌+◌, ◌-◌, ◌*◌, ◌/◌, ◌%◌, ◌<◌, ◌≤◌, true, List, [], ◌∷◌, zero, suc, length, Some}
 use Rattle.std.proofs.Common.{slice_get, option_map, ap, ◌∙◌, arith}
 use Rattle.std.proofs.lemmas.Bool.{le-leb, lt-ltb}
-use Rattle.busdma_rules.specs.Iommu.Space.{AreRuns, DeviceRun, Space, end_of, entered, first_free, frame_at, has_page}
+use Rattle.busdma_rules.specs.Iommu.Space.{AreRuns, DeviceRun, Space, run_end as end_of}
+use Rattle.busdma_rules.specs.Iommu.Space.{entered, first_free, frame_of_page as frame_at, has_page}
 use Rattle.busdma_rules.specs.Iommu.Space.{put_run, translated}
 use Rattle.busdma_rules.proofs.Iommu.Entering.{frame-own}
 use Rattle.busdma_rules.proofs.Iommu.Runs.{taken-gap}

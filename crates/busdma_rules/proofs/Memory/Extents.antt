@@ -9,7 +9,7 @@ use Rattle.busdma_machine.specs.declared.machine.address.Extent.{Extent}
 use Rattle.busdma_machine.specs.Machine.Entry.{AreJoined}
 use Rattle.busdma_machine.specs.Runs.{run_of, addresses, IsExtent}
 use Rattle.busdma_rules.specs.Memory.Translation.{Translation}
-use Rattle.busdma_rules.specs.Memory.Extents.{extents_of, reached, then_reached, with_byte}
+use Rattle.busdma_rules.specs.Memory.Extents.{extents_of, reached_addresses as reached, then_reached, with_byte}
 use Rattle.busdma_rules.proofs.Memory.Paged.{IsPaged}
 
 -- an extent of n bytes from an address on

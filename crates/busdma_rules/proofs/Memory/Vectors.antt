@@ -12,7 +12,7 @@ use Rattle.busdma_machine.specs.Machine.Entry.{HasPart, IsEntry, entries_address
 use Rattle.busdma_machine.specs.Runs.{addresses, run_of}
 use Rattle.busdma_machine.specs.Machine.Spans.{span_addresses}
 use Rattle.busdma_rules.specs.Memory.Translation.{Translation, physical_or_0}
-use Rattle.busdma_rules.specs.Memory.Extents.{extents_of, reached}
+use Rattle.busdma_rules.specs.Memory.Extents.{extents_of, reached_addresses as reached}
 use Rattle.busdma_rules.specs.Memory.Vectors.{entries_of, judged_spans, with_entry}
 use Rattle.busdma_rules.proofs.Memory.Extents.{AreExtents, begins, reached_extents}
 use Rattle.busdma_rules.proofs.Memory.Paged.{IsPaged}

@@ -9,7 +9,7 @@ use Rattle.busdma_machine.specs.declared.report.Judged.TheVariants.{Refused}
 use Rattle.busdma_machine.specs.Judging.{judged, refused_or}
 use Rattle.busdma_machine.specs.Runs.{run_of}
 use Rattle.busdma_rules.specs.Memory.Translation.{Translation, missing, physical_or_0, unreached}
-use Rattle.busdma_rules.specs.Memory.Extents.{reached, then_reached}
+use Rattle.busdma_rules.specs.Memory.Extents.{reached_addresses as reached, then_reached}
 
 eqb_suc : (a b : ℕ) → nat_eq (suc a) (suc b) ≡ nat_eq a b
 eqb_suc a b = elim (eqb_tells a b) [

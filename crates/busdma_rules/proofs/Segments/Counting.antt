@@ -19,7 +19,7 @@ use Rattle.busdma_rules.specs.Segments.Building.{IsPlaceable, placed_pieces, tag
 use Rattle.busdma_rules.specs.Segments.Chunks.{bounced_of, chunk_limit, chunk_of, chunks_from, chunks_of}
 use Rattle.busdma_rules.specs.Segments.Chunks.{chunks_of_bytes, chunks_within, need_of}
 use Rattle.busdma_rules.specs.Segments.Pieces.{chunk_pieces, pieces_of}
-use Rattle.busdma_rules.specs.Segments.Trace.{bus_addresses, chunk_len, first_page, in_page, placed}
+use Rattle.busdma_rules.specs.Segments.Trace.{bus_addresses, chunk_len, first_page, in_page, chunks_in_pages as placed}
 use Rattle.busdma_rules.proofs.Segments.Chunking.{limit_reaches}
 use Rattle.busdma_rules.proofs.Segments.Places.{run_length}
 use Rattle.busdma_rules.proofs.Segments.Sound.{made_len}

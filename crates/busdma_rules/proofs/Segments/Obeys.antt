@@ -24,7 +24,7 @@ use Rattle.busdma_rules.specs.Segments.Obeying.{segments_bytes}
 use Rattle.busdma_rules.specs.Segments.Pieces.{chunk_pieces, pieces_of}
 use Rattle.busdma_rules.specs.Segments.Segmentation.{segment_bytes}
 use Rattle.busdma_rules.specs.Segments.Trace.{IsPlaced, bus_addresses, bus_extent, bus_trace, chunk_len, first_page}
-use Rattle.busdma_rules.specs.Segments.Trace.{in_page, page_offset, placed}
+use Rattle.busdma_rules.specs.Segments.Trace.{in_page, page_offset, chunks_in_pages as placed}
 use Rattle.busdma_rules.proofs.Segments.Bytes.{all_rise, bus_is_run, pieces_bytes, segmentation_bytes}
 use Rattle.busdma_rules.proofs.Segments.Chunking.{limit_reaches}
 use Rattle.busdma_rules.proofs.Segments.Counting.{chunk_bytes}

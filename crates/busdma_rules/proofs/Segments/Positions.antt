@@ -12,7 +12,7 @@ use Rattle.busdma_machine.specs.Runs.{run_of}
 use Rattle.busdma_rules.specs.Segments.Obeying.{segments_bytes}
 use Rattle.busdma_rules.specs.Segments.Segmentation.{segment_bytes}
 use Rattle.busdma_rules.specs.Segments.Trace.{IsPlaced, bus_addresses, bus_extent, bus_trace, chunk_len, first_page}
-use Rattle.busdma_rules.specs.Segments.Trace.{in_page, placed}
+use Rattle.busdma_rules.specs.Segments.Trace.{in_page, chunks_in_pages as placed}
 use Rattle.busdma_rules.proofs.Segments.Bytes.{bus_is_run}
 use Rattle.busdma_rules.proofs.Segments.Counting.{chunk_bytes}
 use Rattle.busdma_rules.proofs.Segments.Places.{run_length}

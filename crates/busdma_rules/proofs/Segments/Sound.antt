@@ -20,7 +20,8 @@ use Rattle.busdma_machine.specs.Tags.TagFlags.{keep_pg_offset}
 use Rattle.busdma_rules.specs.Segments.Building.{IsPlaceable, tag_placed}
 use Rattle.busdma_rules.specs.Segments.Chunks.{rounded_up, to_frame_end, chunk_limit, first_extent, extent_from}
 use Rattle.busdma_rules.specs.Segments.Chunks.{chunk_of, chunks_within, chunks_of_bytes, chunks_from, chunks_of}
-use Rattle.busdma_rules.specs.Segments.Trace.{IsPage, IsPlaced, chunk_len, first_page, in_page, page_offset, placed}
+use Rattle.busdma_rules.specs.Segments.Trace.{IsPage, IsPlaced, chunk_len}
+use Rattle.busdma_rules.specs.Segments.Trace.{first_page, in_page, page_offset, chunks_in_pages as placed}
 use Rattle.busdma_rules.proofs.Segments.Chunking.{limit_reaches}
 
 -- ---- alignments divide a frame

@@ -17,12 +17,12 @@ pub record Space : Type 0 where
   pub runs : List DeviceRun
 
 -- the page behind a run
-abbrev pub end_of : DeviceRun → ℕ
-end_of r = r.first + length r.frames
+abbrev pub run_end : DeviceRun → ℕ
+run_end r = r.first + length r.frames
 
 -- a page is one of a run's
 abbrev pub has_page : ℕ → DeviceRun → Bool
-has_page p r = nat_le r.first p && nat_lt p (end_of r)
+has_page p r = nat_le r.first p && nat_lt p (run_end r)
 
 -- one of the k pages from `first` on is a run's
 abbrev pub meets : ℕ → ℕ → DeviceRun → Bool
@@ -60,29 +60,29 @@ abbrev pub is_live : Space → ℕ → Bool
 is_live s first = list_any (begins_at first) s.runs
 
 -- the space without the run that begins at a page
-abbrev pub left : ℕ → Space → Space
-left first s = record s { runs = filter (λ r. not (begins_at first r)) s.runs }
+abbrev pub run_unmapped : ℕ → Space → Space
+run_unmapped first s = record s { runs = filter (λ r. not (begins_at first r)) s.runs }
 
 -- the frame for which a page stands, by the first of these runs that has it
-abbrev pub frame_at : List DeviceRun → ℕ → Option ℕ
-frame_at [] p = None
-frame_at (r ∷ rs) p = if has_page p r then slice_get r.frames (p - r.first) else frame_at rs p
+abbrev pub frame_of_page : List DeviceRun → ℕ → Option ℕ
+frame_of_page [] p = None
+frame_of_page (r ∷ rs) p = if has_page p r then slice_get r.frames (p - r.first) else frame_of_page rs p
 
 -- where the byte at a device address lies: as far into the frame as into the device page
 abbrev pub translated : Space → ℕ → Option ℕ
-translated s a = option_map (λ f. 4096 * f + a % 4096) (frame_at s.runs (a / 4096))
+translated s a = option_map (λ f. 4096 * f + a % 4096) (frame_of_page s.runs (a / 4096))
 
 -- a run that begins at a page or behind it, ends at or before another, and stands for frames
 pub record IsRunIn (low high : ℕ) (r : DeviceRun) : Type 0 where
   pub behind : low ≤ r.first
   pub some : 0 < length r.frames
-  pub reached : end_of r ≤ high
+  pub reached : run_end r ≤ high
   pub numbered : All (λ f. f < 2 ^ 30) r.frames
 
 -- such runs rise: each begins behind the one before it
 abbrev pub AreRuns : ℕ → ℕ → List DeviceRun → Type 0
 AreRuns low high [] = Unit {0}
-AreRuns low high (r ∷ rs) = IsRunIn low high r × AreRuns (end_of r) high rs
+AreRuns low high (r ∷ rs) = IsRunIn low high r × AreRuns (run_end r) high rs
 
 -- what is true of each space: its pages lie below 2^64 as addresses, and its runs rise from page 1 on
 pub record IsSpace (s : Space) : Type 0 where
@@ -93,4 +93,4 @@ pub record IsSpace (s : Space) : Type 0 where
 -- between or behind runs that rise from a page on
 abbrev pub gap : ℕ → ℕ → List DeviceRun → ℕ
 gap low k [] = low
-gap low k (r ∷ rs) = if nat_le (low + k) r.first then low else gap (end_of r) k rs
+gap low k (r ∷ rs) = if nat_le (low + k) r.first then low else gap (run_end r) k rs

@@ -63,9 +63,9 @@ abbrev pub load_bytes : Loans → ℕ → ℕ → ℕ → List ℕ
 load_bytes loans m off len = addresses_of (stretch off len (loan_of loans m).positions)
 
 -- a buffer of these bytes that lends nothing
-abbrev pub unlent : List ℕ → List Position
-unlent bytes = map (λ a. record { pa = a; to_read = false; to_write = false }) bytes
+abbrev pub unlent_positions : List ℕ → List Position
+unlent_positions bytes = map (λ a. record { pa = a; to_read = false; to_write = false }) bytes
 
 -- the loan of a map over these bytes that lends nothing
 abbrev pub new_loan : Bool → List ℕ → Loan
-new_loan coherent bytes = record { coherent = coherent; positions = unlent bytes }
+new_loan coherent bytes = record { coherent = coherent; positions = unlent_positions bytes }

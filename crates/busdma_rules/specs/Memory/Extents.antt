@@ -21,6 +21,6 @@ then_reached None others = []
 then_reached (Some pa) others = pa ∷ others
 
 -- the physical addresses of n bytes from a virtual address on, up to the first that cannot be reached
-abbrev pub reached : Translation → ℕ → ℕ → List ℕ
-reached t va zero = []
-reached t va (suc n) = then_reached (t va) (reached t (va + 1) n)
+abbrev pub reached_addresses : Translation → ℕ → ℕ → List ℕ
+reached_addresses t va zero = []
+reached_addresses t va (suc n) = then_reached (t va) (reached_addresses t (va + 1) n)

@@ -5,7 +5,7 @@ use Rattle.busdma_machine.specs.declared.machine.chunk.Entry.{Entry}
 use Rattle.busdma_machine.specs.declared.report.Judged.{Judged}
 use Rattle.busdma_machine.specs.Judging.{judged}
 use Rattle.busdma_machine.specs.Machine.Spans.{span_addresses}
-use Rattle.busdma_rules.specs.Memory.Extents.{extents_of, reached}
+use Rattle.busdma_rules.specs.Memory.Extents.{extents_of, reached_addresses}
 use Rattle.busdma_rules.specs.Memory.Translation.{Translation, unreached}
 
 -- the entry of the bytes at these physical addresses, rounded or not, before other entries; no byte is no entry
@@ -17,7 +17,7 @@ with_entry rounded (pa ∷ pas) es = record { rounded = rounded; parts = extents
 abbrev pub entries_of : Bool → Translation → List Span → List Entry
 entries_of rounded t [] = []
 entries_of rounded t (s ∷ ss) =
-    let pas = reached t s.va.0 s.len in
+    let pas = reached_addresses t s.va.0 s.len in
     with_entry rounded pas (if length pas == s.len then entries_of rounded t ss else [])
 
 -- what stands in the way of the bytes of spans, the first of them at an offset of the load

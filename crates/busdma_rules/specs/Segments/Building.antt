@@ -6,11 +6,11 @@ use Rattle.busdma_machine.specs.declared.machine.chunk.Chunk.{Chunk}
 use Rattle.busdma_machine.specs.declared.tags.tag.TagLimits.{TagLimits}
 use Rattle.busdma_machine.specs.Tags.TagFlags.{keep_pg_offset}
 use Rattle.busdma_rules.specs.Segments.Pieces.{chunk_pieces}
-use Rattle.busdma_rules.specs.Segments.Trace.{IsPlaced, chunk_len, page_offset, placed}
+use Rattle.busdma_rules.specs.Segments.Trace.{IsPlaced, chunk_len, page_offset, chunks_in_pages}
 
 -- a tag's chunks in these pages
 abbrev pub tag_placed : TagLimits → List Chunk → List Pa → List Chunk
-tag_placed t cs pages = placed (keep_pg_offset t.flags) cs pages
+tag_placed t cs pages = chunks_in_pages (keep_pg_offset t.flags) cs pages
 
 -- the pieces of a tag's chunks in these pages
 abbrev pub placed_pieces : TagLimits → List Chunk → List Pa → List Segment

@@ -31,10 +31,10 @@ abbrev pub first_page : List Pa → Pa
 first_page pages = slice_index_or pages 0 (record { 0 = 0 })
 
 -- the chunks in their pages: the first that is bounced has the first page, and so on
-abbrev pub placed : Bool → List Chunk → List Pa → List Chunk
-placed keep [] pages = []
-placed keep (c ∷ cs) pages =
-    if c.bounced then in_page keep (first_page pages) c ∷ placed keep cs (drop 1 pages) else c ∷ placed keep cs pages
+abbrev pub chunks_in_pages : Bool → List Chunk → List Pa → List Chunk
+chunks_in_pages keep [] pages = []
+chunks_in_pages keep (c ∷ cs) pages =
+    if c.bounced then in_page keep (first_page pages) c ∷ chunks_in_pages keep cs (drop 1 pages) else c ∷ chunks_in_pages keep cs pages
 
 -- the bus addresses of the bytes of a chunk: from its place in a page on, or those of the bytes
 abbrev pub bus_from : Option Pa → Chunk → List ℕ
@@ -50,7 +50,7 @@ bus_trace cs = flat_map bus_addresses cs
 
 -- the bus addresses of the bytes of a tag's chunks with these pages, one for each byte
 abbrev pub trace : TagLimits → List Chunk → List Pa → List ℕ
-trace t cs pages = bus_trace (placed (keep_pg_offset t.flags) cs pages)
+trace t cs pages = bus_trace (chunks_in_pages (keep_pg_offset t.flags) cs pages)
 
 -- the first address of a frame of a number below 2^30
 abbrev pub IsPage : Pa → Type 0

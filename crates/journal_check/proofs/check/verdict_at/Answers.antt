@@ -4,7 +4,7 @@ use Rattle.busdma_base.specs.declared.journals.journal.Journal.{Journal}
 use Rattle.busdma_base.specs.declared.journals.journal.JournalEntry.{JournalEntry}
 use Rattle.busdma_base.specs.declared.scenarios.scenario.Scenario.{Scenario}
 use Rattle.busdma_machine.specs.declared.bounce.zone.ZoneCounts.{ZoneCounts}
-use Rattle.ideal_world.specs.Ends.{IsAtRest, end_of}
+use Rattle.ideal_world.specs.Ends.{IsAtRest, world_end as end_of}
 use Rattle.ideal_world.specs.World.{WorldState, opening_world, zone_counts}
 use Rattle.ideal_world.proofs.Opens.{opens-well}
 use Rattle.world_core.specs.Ideal.{ideal_world}

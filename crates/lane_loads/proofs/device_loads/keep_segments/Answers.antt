@@ -6,7 +6,7 @@ use Rattle.std.specs.List.{each_same}
 use Rattle.busdma_base.specs.declared.journals.answer.Answer.TheVariants.{Segments}
 use Rattle.busdma_machine.specs.Machine.Entry.{entries_addresses}
 use Rattle.busdma_machine.specs.Machine.PageList.{RoomyPages, page_addresses}
-use Rattle.busdma_base.specs.Scenarios.Queues.{queued}
+use Rattle.busdma_base.specs.Scenarios.Queues.{queued_items as queued}
 use Rattle.busdma_rules.specs.Lending.Loans.{Loan, loan_of, new_loan, no_loan}
 use Rattle.phys_memory.specs.Memory.{wire}
 use Rattle.ideal_lane.proofs.Falling.{queued-from}

@@ -13,14 +13,14 @@ use Rattle.ideal_lane.proofs.Falling.{queued-from}
 use Rattle.ideal_lane.proofs.Lookups.{get_put}
 use Rattle.busdma_machine.specs.Machine.Entry.{entries_addresses}
 use Rattle.busdma_machine.specs.Machine.PageList.{page_addresses}
-use Rattle.busdma_base.specs.Scenarios.Queues.{queued}
+use Rattle.busdma_base.specs.Scenarios.Queues.{queued_items as queued}
 use Rattle.busdma_rules.specs.Lending.Loans.{loan_of, new_loan, no_loan}
 use Rattle.busdma_rules.specs.Segments.Building.{placed_pieces, tag_placed}
 use Rattle.busdma_rules.specs.Segments.Chunks.{bounced_of}
 use Rattle.busdma_rules.specs.Segments.Segmentation.{segmentation}
 use Rattle.ideal_lane.specs.Loads.{is_coherent, limits_of, load_entries, loaded, staged, unpaged}
 use Rattle.ideal_lane.specs.State.{LaneState, Loaded}
-use Rattle.ideal_lane.specs.Unloads.{unlent}
+use Rattle.ideal_lane.specs.Unloads.{loan_forgotten as unlent}
 use Rattle.lane_state.specs.Ideal.{ideal_of}
 use Rattle.lane_state.specs.Kept.{map_of, return_of}
 use Rattle.lane_state.specs.Loading.{bio_of, map_chunks}

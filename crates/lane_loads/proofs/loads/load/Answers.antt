@@ -4,7 +4,7 @@ use Rattle.busdma_machine.specs.declared.bounce.hold.HubCall.TheVariants.{Grab}
 use Rattle.busdma_base.specs.declared.journals.answer.Answer.TheVariants.{Refused}
 use Rattle.busdma_machine.specs.declared.report.Errno.TheVariants.{EINVAL}
 use Rattle.busdma_machine.specs.declared.machine.chunk.Chunk.{Chunk}
-use Rattle.ideal_lane.specs.Loads.{granted, limits_of, zone_of}
+use Rattle.ideal_lane.specs.Loads.{granted, limits_of, zone_of_map as zone_of}
 use Rattle.ideal_lane.specs.Asking.{Gives}
 use Rattle.ideal_lane.specs.Outcomes.{gives, is_idle}
 use Rattle.ideal_lane.specs.State.{LaneMap, named}

@@ -11,7 +11,7 @@ use Rattle.busdma_base.specs.declared.scenarios.script.Item.{Item}
 use Rattle.busdma_machine.specs.Bounce.Door.{Allows, Holds, account, grab_reply}
 use Rattle.lane_tables.specs.Schedule.{Schedule}
 use Rattle.ideal_lane.proofs.Lookups.{get_put}
-use Rattle.ideal_lane.specs.Loads.{granted, limits_of, load_entries, zone_of}
+use Rattle.ideal_lane.specs.Loads.{granted, limits_of, load_entries, zone_of_map as zone_of}
 use Rattle.ideal_lane.specs.Standing.{Stands}
 use Rattle.ideal_lane.specs.State.{LaneMap, LaneState, named}
 use Rattle.lane_state.specs.Covered.{is_idle_map, pages_due}

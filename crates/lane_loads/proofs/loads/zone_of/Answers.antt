@@ -1,7 +1,7 @@
 use Rattle.std.proofs.Common.{◌≡◌, unwrap_or, sym, ap, ◌∙◌}
 use Rattle.std.specs.FinMap.{get}
 use Rattle.busdma_machine.specs.declared.name.ZoneId.{ZoneId}
-use Rattle.ideal_lane.specs.Loads.{zone_of}
+use Rattle.ideal_lane.specs.Loads.{zone_of_map as zone_of}
 use Rattle.lane_state.specs.Kept.{map_of}
 use Rattle.lane_state.proofs.Keeping.{idle-there}
 use Rattle.lane_state.proofs.MapValues.{image-some}

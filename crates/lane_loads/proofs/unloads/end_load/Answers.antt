@@ -10,7 +10,7 @@ use Rattle.busdma_rules.specs.Lending.Syncing.{lost_by_forgetting}
 use Rattle.loan_table.specs.Table.{AreIn, set_all}
 use Rattle.ideal_lane.specs.Loads.{emptied, unpaged}
 use Rattle.ideal_lane.specs.State.{LaneState}
-use Rattle.ideal_lane.specs.Unloads.{pages_of, unlent}
+use Rattle.ideal_lane.specs.Unloads.{pages_of, loan_forgotten as unlent}
 use Rattle.lane_state.specs.declared.kept.KeptMap.{KeptMap}
 use Rattle.lane_state.specs.Covered.{AreOwn, has_load, is_tried, pages_due}
 use Rattle.lane_state.specs.Held.{devices_of, held as held_memory}

@@ -1,5 +1,5 @@
 use Rattle.std.proofs.Common.{◌≡◌, ◌≤◌, [], true, length, ap, sym, ◌∙◌, subst, IfSome}
-use Rattle.busdma_rules.specs.Iommu.Space.{is_live, left}
+use Rattle.busdma_rules.specs.Iommu.Space.{is_live, run_unmapped as left}
 use Rattle.ideal_lane.specs.Tags.{with_space}
 use Rattle.ideal_lane.specs.Unloads.{first_of, segments_in, unmapped}
 use Rattle.lane_state.specs.Covered.{has_load}

@@ -1,6 +1,6 @@
 use Rattle.std.proofs.Common.{◌≡◌, Some, None, true, is_some, refl, ap, sym, ◌∙◌, subst, IfSome, unwrap_or}
 use Rattle.std.specs.FinMap.{get, insert}
-use Rattle.busdma_rules.specs.Iommu.Space.{Space, is_live, left}
+use Rattle.busdma_rules.specs.Iommu.Space.{Space, is_live, run_unmapped as left}
 use Rattle.ideal_lane.specs.State.{no_space}
 use Rattle.ideal_lane.specs.Tags.{with_space}
 use Rattle.lane_state.specs.declared.kept.KeptTag.{KeptTag}

@@ -4,7 +4,7 @@ use Rattle.ideal_lane.specs.Asking.{Gives}
 use Rattle.ideal_lane.specs.Loads.{unpaged}
 use Rattle.ideal_lane.specs.Outcomes.{gives}
 use Rattle.ideal_lane.specs.State.{LaneState}
-use Rattle.ideal_lane.specs.Unloads.{pages_of, unlent}
+use Rattle.ideal_lane.specs.Unloads.{pages_of, loan_forgotten as unlent}
 use Rattle.busdma_base.specs.declared.journals.answer.Answer.TheVariants.{Done}
 use Rattle.lane_state.specs.Covered.{has_load}
 use Rattle.lane_state.specs.Ideal.{given, ideal_of}

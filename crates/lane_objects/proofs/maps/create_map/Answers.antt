@@ -6,7 +6,7 @@ use Rattle.busdma_base.specs.declared.journals.answer.Answer.TheVariants.{Grown}
 use Rattle.busdma_machine.specs.declared.name.MapId.{MapId}
 use Rattle.busdma_machine.specs.declared.tags.tag.TagLimits.{TagLimits}
 use Rattle.busdma_machine.specs.Bounce.Door.{Allows, Holds}
-use Rattle.ideal_lane.specs.Maps.{bounces, created, map, with_map}
+use Rattle.ideal_lane.specs.Maps.{bounces, map_by_reply as created, map, with_map}
 use Rattle.ideal_lane.specs.State.{LaneState, named}
 use Rattle.ideal_lane.specs.Tags.{with_tag}
 use Rattle.lane_state.specs.Held.{devices_of, held}

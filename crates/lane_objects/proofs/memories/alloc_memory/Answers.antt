@@ -42,14 +42,14 @@ returns-in_default-clause-done g c =
     ∙ ap (λ (x : LaneState). named x x.place) room in
     let t = told-some (λ (x : KeptTag). x.tag) (get h.tags.map c.args.tag) limits c.requires.tag in
     let asks : dmamem c.args.tag c.args.flags l
-    ≡ Asks (MemAlloc (named l l.place) limits) (memories.placed c.args.tag limits c.args.flags l) =
+    ≡ Asks (MemAlloc (named l l.place) limits) (memories.memory_by_reply c.args.tag limits c.args.flags l) =
     make-asks l c.args.tag c.args.flags (tag_of t.0) (image-some tag_of h.tags.map c.args.tag t.0 t.1)
-    ∙ ap (λ x. Asks (MemAlloc (named l l.place) x) (memories.placed c.args.tag x c.args.flags l)) t.2 in
+    ∙ ap (λ x. Asks (MemAlloc (named l l.place) x) (memories.memory_by_reply c.args.tag x c.args.flags l)) t.2 in
     let held : Holds d c.map_id-id.result.lane.0 (MemAlloc c.map_id-id.result limits) NoRun e =
     subst (λ o. Holds d c.map_id-id.result.lane.0 (MemAlloc c.map_id-id.result limits) (memory_reply o) e)
     c.in_default.is c.in_ok-pages.ensures.held in
     done-asks d h.id.0 (dmamem c.args.tag c.args.flags l) (MemAlloc (named l l.place) limits)
-    (memories.placed c.args.tag limits c.args.flags l) (given n (Refused ENOMEM)) e asks (record {
+    (memories.memory_by_reply c.args.tag limits c.args.flags l) (given n (Refused ENOMEM)) e asks (record {
       reply = NoRun;
       holds = subst (λ (m : MapId). Holds d m.lane.0 (MemAlloc m limits) NoRun e) id held;
       is = ap (λ (x : LaneState). record { lane = x; answer = Refused ENOMEM }) room;
@@ -96,9 +96,9 @@ returns-clause-done g c =
     ∙ ap (λ (x : LaneState). named x x.place) room in
     let t = told-some (λ (x : KeptTag). x.tag) (get h.tags.map c.args.tag) limits c.requires.tag in
     let asks : dmamem c.args.tag c.args.flags l
-    ≡ Asks (MemAlloc (named l l.place) limits) (memories.placed c.args.tag limits c.args.flags l) =
+    ≡ Asks (MemAlloc (named l l.place) limits) (memories.memory_by_reply c.args.tag limits c.args.flags l) =
     make-asks l c.args.tag c.args.flags (tag_of t.0) (image-some tag_of h.tags.map c.args.tag t.0 t.1)
-    ∙ ap (λ x. Asks (MemAlloc (named l l.place) x) (memories.placed c.args.tag x c.args.flags l)) t.2 in
+    ∙ ap (λ x. Asks (MemAlloc (named l l.place) x) (memories.memory_by_reply c.args.tag x c.args.flags l)) t.2 in
     let reply = memory_reply (Some c.in-Some.pages) in
     let held : Holds d c.map_id-id.result.lane.0 (MemAlloc c.map_id-id.result limits) reply e =
     subst (λ o. Holds d c.map_id-id.result.lane.0 (MemAlloc c.map_id-id.result limits) (memory_reply o) e)
@@ -111,7 +111,7 @@ returns-clause-done g c =
     let row : pages ≡ frames_from count first =
     row_is pages rising ∙ ap (λ q. frames_from q first) (length-map c.in-Some.pages.items page_address) in
     done-asks d h.id.0 (dmamem c.args.tag c.args.flags l) (MemAlloc (named l l.place) limits)
-    (memories.placed c.args.tag limits c.args.flags l) (given c.keep_memory.new.holdings c.keep_memory.result) e asks
+    (memories.memory_by_reply c.args.tag limits c.args.flags l) (given c.keep_memory.new.holdings c.keep_memory.result) e asks
     (record {
       reply = reply;
       holds = own;

@@ -2,7 +2,7 @@ use Rattle.std.proofs.Common.{◌≡◌, ◌+◌, ◌≤◌, ◌++◌, List, len
 use Rattle.std.proofs.Common.{length-append}
 use Rattle.busdma_base.specs.declared.journals.answer.Answer.TheVariants as answer
 use Rattle.busdma_base.specs.declared.scenarios.script.Item.{Item}
-use Rattle.busdma_base.specs.Scenarios.Queues.{queued}
+use Rattle.busdma_base.specs.Scenarios.Queues.{queued_items as queued}
 use Rattle.ideal_lane.proofs.Falling.{queued-from}
 use Rattle.ideal_lane.specs.Outcomes.{gives, unless_absent}
 use Rattle.ideal_lane.specs.State.{LaneRing}

@@ -1,7 +1,7 @@
 use Rattle.std.proofs.Common.{◌≡◌, ◌+◌, ◌≤◌, ◌++◌, length}
 use Rattle.std.specs.Vec.Iter.{into_iter_items}
 use Rattle.std.specs.VecDeque.{deque_capacity}
-use Rattle.busdma_base.specs.Scenarios.Queues.{queued, queued_from}
+use Rattle.busdma_base.specs.Scenarios.Queues.{queued_items as queued, queued_from}
 use Rattle.lane_tables.proofs.agenda.push_all.Given as goal
 
 -- what is pushed and what is left to push are all, and there is room for what is left

@@ -15,7 +15,7 @@ use Rattle.busdma_machine.specs.Machine.PageList.{page_address}
 use Rattle.lane_agreement.specs.View.{Return}
 use Rattle.lane_tables.specs.declared.queued.QueuedPage.{QueuedPage}
 use Rattle.ideal_lane.specs.State.{LaneState, named}
-use Rattle.ideal_lane.specs.Turns.{lane_step, script_turn, stepped, served as served_of}
+use Rattle.ideal_lane.specs.Turns.{lane_step, script_turn, stepped, maps_completed as served_of}
 use Rattle.ideal_lane.specs.Unloads.{given_back}
 use Rattle.lane_state.specs.Covered.{is_returning, pages_due}
 use Rattle.lane_state.specs.Held.{devices_of, held}

@@ -5,7 +5,7 @@ use Rattle.busdma_base.specs.Scenarios.Script.{IsItem, is_ring_step}
 use Rattle.json_fields.specs.Field.{spot_of}
 use Rattle.json_fields.specs.Items.{each}
 use Rattle.script_fields.specs.Counts.{IsWithin, with_items}
-use Rattle.script_read.specs.Items.{item_at}
+use Rattle.script_read.specs.Items.{read_item as item_at}
 use Rattle.script_read.proofs.items.each_item.Given as goal
 
 abbrev pub invariant-loop-value : goal.invariant-loop-value

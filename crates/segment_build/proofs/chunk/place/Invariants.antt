@@ -1,6 +1,6 @@
 use Rattle.std.proofs.Common.{◌≡◌, ◌+◌, ◌++◌, length, take, drop}
 use Rattle.busdma_rules.specs.Segments.Chunks.{need_of}
-use Rattle.busdma_rules.specs.Segments.Trace.{placed}
+use Rattle.busdma_rules.specs.Segments.Trace.{chunks_in_pages as placed}
 use Rattle.segment_build.proofs.chunk.place.Given as goal
 
 abbrev pub invariant-loop-chunk : goal.invariant-loop-chunk

@@ -2,7 +2,7 @@ use Rattle.std.proofs.Common.{◌≡◌, ◌++◌, ◌*◌, ◌-◌}
 use Rattle.std.specs.List.{flat_map}
 use Rattle.busdma_machine.specs.Runs.{run_of}
 use Rattle.storm.specs.Generator.{drawn}
-use Rattle.storm.specs.Scenario.{round_at, rounds}
+use Rattle.storm.specs.Scenario.{round_at, storm_rounds as rounds}
 use Rattle.storm.proofs.scenario.push_rounds.Given as goal
 
 abbrev pub invariant-loop-number : goal.invariant-loop-number

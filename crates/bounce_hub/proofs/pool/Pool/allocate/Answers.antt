@@ -6,9 +6,9 @@ use Rattle.busdma_machine.specs.declared.bounce.hold.HubCall.TheVariants.{MemAll
 use Rattle.busdma_machine.specs.declared.bounce.hold.HubReply.TheVariants.{Run}
 use Rattle.busdma_machine.specs.declared.machine.address.Pa.{Pa}
 use Rattle.busdma_machine.specs.Bounce.Account.{Memory}
-use Rattle.busdma_machine.specs.Bounce.AccountStep.{placed}
+use Rattle.busdma_machine.specs.Bounce.AccountStep.{memory_placed as placed}
 use Rattle.busdma_machine.specs.Machine.Page.{FrameBytes}
-use Rattle.busdma_machine.specs.Bounce.MemoryRuns.{frames_for, lowest_run, in_run, with_memory}
+use Rattle.busdma_machine.specs.Bounce.MemoryRuns.{frames_for, lowest_run, in_run, with_memory_run as with_memory}
 use Rattle.busdma_machine.specs.Machine.PageList.{page_addresses, page_address}
 use Rattle.frame_bank.specs.FrameBank.{free_frames, pages_left, is_in_run}
 use Rattle.busdma_machine.specs.Bounce.Door.{IsRow}

@@ -2,8 +2,8 @@ use Rattle.std.proofs.Common.{◌≡◌, ℕ, Bool, sym, ap, ◌∙◌, slice_ge
 use Rattle.busdma_machine.specs.declared.name.ZoneId.{ZoneId}
 use Rattle.busdma_machine.specs.declared.bounce.hold.HubReply.TheVariants.{Grown}
 use Rattle.busdma_machine.specs.Bounce.Account.{Account, total}
-use Rattle.busdma_machine.specs.Bounce.AccountStep.{Outcome}
-use Rattle.busdma_machine.specs.Bounce.Growth.{zone_of, with_zone_for, wanted_by_tag, added, grown}
+use Rattle.busdma_machine.specs.Bounce.AccountStep.{AccountReply as Outcome}
+use Rattle.busdma_machine.specs.Bounce.Growth.{zone_for_tag as zone_of, with_zone_for, wanted_by_tag, added, grown}
 use Rattle.bounce_hub.specs.Growing.{GrewBy, pages_of}
 use Rattle.bounce_hub.proofs.Agreeing.{agrees-as}
 use Rattle.bounce_hub.proofs.ZoneGrowth.{place-is, pages-is, attached-as}

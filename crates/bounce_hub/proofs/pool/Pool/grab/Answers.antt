@@ -3,7 +3,7 @@ use Rattle.busdma_machine.specs.declared.bounce.hold.HubCall.TheVariants.{Grab}
 use Rattle.busdma_machine.specs.declared.bounce.hold.HubReply.TheVariants.{Granted, Queued}
 use Rattle.busdma_machine.specs.Bounce.Account.{zone_at, free}
 use Rattle.busdma_machine.specs.Bounce.AccountStep.{as_pages}
-use Rattle.busdma_machine.specs.Bounce.Serving.{handed, queued}
+use Rattle.busdma_machine.specs.Bounce.Serving.{handed, waiting_at_tail as queued}
 use Rattle.busdma_machine.proofs.Accounts.Counts.{in_zones}
 use Rattle.bounce_zone.specs.ZonePages.{free_pages}
 use Rattle.bounce_hub.specs.declared.hub_zone.HubZone.{HubZone}

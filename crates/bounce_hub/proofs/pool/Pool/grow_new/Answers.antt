@@ -1,7 +1,7 @@
 use Rattle.std.proofs.Common.{◌≡◌, ℕ, ◌∷◌, ◌++◌, [], List, length, min, take, refl, sym, ap, ◌∙◌, arith}
 use Rattle.busdma_machine.specs.Bounce.Account.{Zone}
 use Rattle.busdma_machine.specs.Machine.Page.{FrameBytes}
-use Rattle.busdma_machine.specs.Bounce.Growth.{zone_of, with_zone_for, frames_below, added, grown}
+use Rattle.busdma_machine.specs.Bounce.Growth.{zone_for_tag as zone_of, with_zone_for, frames_below, added, grown}
 use Rattle.bounce_zone.specs.ZonePages.{ZonePages}
 use Rattle.frame_bank.specs.FrameBank.{Bank, free_frames}
 use Rattle.bounce_hub.specs.declared.hub_zone.HubZone.{HubZone}

@@ -1,6 +1,6 @@
 use Rattle.std.proofs.Common.{◌≡◌, List, not, ap, sym, subst, ◌∙◌, arith}
 use Rattle.std.specs.List.{filter, remove}
-use Rattle.busdma_rules.specs.Iommu.Space.{AreRuns, DeviceRun, Space, begins_at, is_live, left}
+use Rattle.busdma_rules.specs.Iommu.Space.{AreRuns, DeviceRun, Space, begins_at, is_live, run_unmapped as left}
 use Rattle.iommu_map.specs.Space.{place_of}
 use Rattle.iommu_map.proofs.Runs.{leaves}
 use Rattle.busdma_rules.proofs.Iommu.Runs.{runs-left}

@@ -1,6 +1,6 @@
 use Rattle.std.proofs.Common.{◌+◌, ◌*◌, ◌/◌, ◌%◌, ◌-◌, None, option_map, slice_get, length, cond, ap, sym, ◌∙◌, arith}
 use Rattle.std.proofs.lemmas.Bool.{le-leb, lt-leb}
-use Rattle.busdma_rules.specs.Iommu.Space.{Space, frame_at}
+use Rattle.busdma_rules.specs.Iommu.Space.{Space, frame_of_page as frame_at}
 use Rattle.iommu_map.specs.Space.{place_of}
 use Rattle.iommu_map.proofs.Runs.{ends-past, found, frame-found, get-past}
 use Rattle.busdma_rules.proofs.Iommu.Runs.{get-at}

@@ -1,5 +1,5 @@
 use Rattle.std.proofs.Common.{◌≡◌, ◌+◌, ◌≤◌, ◌<◌, ◌^◌, ◌++◌, ap, length, refl, arith, length-append}
-use Rattle.busdma_base.specs.Scenarios.Queues.{queued}
+use Rattle.busdma_base.specs.Scenarios.Queues.{queued_items as queued}
 use Rattle.lane_tables.proofs.QueueLemmas.{length-queued_from}
 use Rattle.lane_tables.proofs.agenda.Agenda.push_items.Goals as goal
 

@@ -1,5 +1,5 @@
 use Rattle.std.proofs.Common.{false, length, ap, sym, ◌∙◌, subst, arith}
-use Rattle.busdma_rules.specs.Memory.Extents.{reached}
+use Rattle.busdma_rules.specs.Memory.Extents.{reached_addresses as reached}
 use Rattle.phys_memory.specs.Walk.{run_stream}
 use Rattle.busdma_rules.specs.Memory.BioFrames.{AreFrames, in_frames}
 use Rattle.load_bio.proofs.InFrames.{frames_stream}

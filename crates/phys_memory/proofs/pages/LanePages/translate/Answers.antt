@@ -9,7 +9,7 @@ use Rattle.busdma_machine.specs.declared.machine.chunk.Part.{Part}
 use Rattle.phys_memory.specs.declared.walk.Walked.{Walked}
 use Rattle.phys_memory.specs.Memory.{physical}
 use Rattle.phys_memory.specs.Extents.{LiesIn}
-use Rattle.busdma_rules.specs.Memory.Extents.{reached}
+use Rattle.busdma_rules.specs.Memory.Extents.{reached_addresses as reached}
 use Rattle.busdma_rules.specs.Memory.Translation.{physical_or_0, unreached}
 use Rattle.phys_memory.specs.Walk.{IfParts, flat, verdict, walk_of, walked}
 use Rattle.phys_memory.proofs.Reached.{IsHeld, memory_paged}

@@ -2,7 +2,7 @@ use Rattle.std.proofs.Common.{sym, ◌∙◌, subst, ap}
 use Rattle.std.specs.List.{AllByRecursion}
 use Rattle.busdma_machine.specs.declared.tags.tag.TagLimits.{TagLimits}
 use Rattle.busdma_machine.specs.Tags.TagFlags.{keep_pg_offset}
-use Rattle.busdma_rules.specs.Segments.Trace.{IsPlaced, placed}
+use Rattle.busdma_rules.specs.Segments.Trace.{IsPlaced, chunks_in_pages as placed}
 use Rattle.busdma_rules.proofs.Segments.Sound.{placed_are}
 use Rattle.rules_tests.proofs.tests.lists.of_chunks.Goals as goal
 
