@@ -1,6 +1,6 @@
 -- Lists of numbers that do not fall.
 use Rattle.std.specs.Prelude.{ℕ, ◌+◌, ◌≤◌, ◌<◌, Bool, true, false, nat_le, List, [], ◌∷◌, ◌++◌, reverse, refl}
-use Rattle.std.specs.Prelude.{length, slice_index_or}
+use Rattle.std.specs.Prelude.{length, slice_index_or, ◌≢◌}
 use Rattle.std.specs.Coded.{Coded, code_by, coded×, coded_ℕ, coded_list}
 
 -- numbers in order, and for how many more there is room
@@ -38,3 +38,7 @@ pub record IsAround (items : List ℕ) (n low high : ℕ) : Type 0 where
   pub small : high ≤ length items
   pub below : (k d : ℕ) → k < low → slice_index_or items k d ≤ n
   pub above : (k d : ℕ) → high ≤ k → k < length items → n < slice_index_or items k d
+
+-- no number of the list is n
+abbrev pub IsAbsent : List ℕ → ℕ → Type 0
+IsAbsent items n = (k d : ℕ) → k < length items → slice_index_or items k d ≢ n

@@ -1,9 +1,9 @@
 //! Numbers in order, with the place of their last change.
 
-ghost use Rattle.std.specs.Prelude.{◌≡◌, ℕ, ◌+◌, ◌≤◌, ◌<◌, ◌++◌, ◌∷◌, [], length, reverse, take, drop};
+ghost use Rattle.std.specs.Prelude.{◌≡◌, ◌≢◌, ℕ, ◌+◌, ◌-◌, ◌≤◌, ◌<◌, ◌++◌, ◌∷◌, [], length, reverse, take, drop};
 ghost use Rattle.std.specs.Prelude.{slice_index_or, IfOk, IfSome, OnOk, OnErr, true, false, nat_le, vec_len, vec_capacity};
 ghost use Rattle.run_set.specs.Edges.{edge_if};
-ghost use Rattle.run_set.specs.Numbers.{count_le, one_if, stacked, Climbs, IsAround};
+ghost use Rattle.run_set.specs.Numbers.{count_le, one_if, stacked, Climbs, IsAbsent, IsAround};
 
 use std::alloc::{AllocError, Global};
 use std::marker::Model;
@@ -308,14 +308,14 @@ impl Line {
         self.before.push_reserved(n);
     }
 
-    /// Takes a number out, where it is seen to stand, and tells whether it did. That it does not stand, where
-    /// the answer is false, holds by the code alone.
+    /// Takes a number out once, if it is there, and returns whether it was.
     pub fn take(&mut self, n: u64) -> bool
         requires { Climbs 0 self.old.items }
         ensures climbs { Climbs 0 self.new.items }
         ensures taken { result ≡ true → (m : ℕ) →
             count_le self.new.items m + one_if (nat_le n m) ≡ count_le self.old.items m }
         ensures left { result ≡ false → self.new.items ≡ self.old.items }
+        ensures absent { result ≡ false → IsAbsent self.old.items n }
         ensures room { self.old.room ≤ self.new.room }
     {
         if pop_if(&mut self.behind, n) {
@@ -338,6 +338,7 @@ impl Line {
         ensures taken { result ≡ true → (m : ℕ) →
             count_le self.new.items m + one_if (nat_le n m) ≡ count_le self.old.items m }
         ensures left { result ≡ false → self.new.items ≡ self.old.items }
+        ensures absent { result ≡ false → IsAbsent self.old.items n }
         ensures room { self.old.room ≤ self.new.room }
     {
         let stood = self.count_to(n);
@@ -417,6 +418,8 @@ fn lies_between(before: &[u64], behind: &[u64], n: u64) -> bool
 fn pop_if(stack: &mut Vec<u64>, n: u64) -> bool
     ensures popped { result ≡ true → stack.old.items ≡ stack.new.items ++ n ∷ [] }
     ensures left { result ≡ false → stack.new.items ≡ stack.old.items }
+    ensures other { result ≡ false → 0 < length stack.old.items →
+        slice_index_or stack.old.items (length stack.old.items - 1) 0 ≢ n }
     ensures len { vec_len stack.new ≤ vec_len stack.old }
     ensures room { vec_capacity stack.new ≡ vec_capacity stack.old }
 {

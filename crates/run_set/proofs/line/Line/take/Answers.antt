@@ -1,4 +1,6 @@
-use Rattle.run_set.proofs.Lines.{climbs_popped, count_popped, poured}
+use Rattle.std.proofs.Common.{ℕ, List, ◌≡◌, ◌-◌, ◌<◌, length, get_or, sym, ◌∙◌, arith}
+use Rattle.run_set.specs.Numbers.{count_le, stacked}
+use Rattle.run_set.proofs.Lines.{climbs_popped, count_popped, is_absent, number_before, poured}
 use Rattle.run_set.proofs.line.Line.take.Goals as goal
 
 pub returns-then-pop_if-clause-climbs : goal.returns-then-pop_if-clause-climbs
@@ -30,3 +32,13 @@ returns-then-pop_if-2-clause-taken c e m =
       c.pop_if-2.ensures.popped c.if-pop_if-2.true,
       poured c.pop_if-2.new.stack.items b c.args.n,
     ) (count_popped c.pop_if-2.new.stack.items b c.args.n m)
+
+pub returns-then-lies_between-clause-absent : goal.returns-then-lies_between-clause-absent
+returns-then-lies_between-clause-absent c e =
+    let a = c.self.inside.before.items in
+    let b = c.self.inside.behind.items in
+    let one : c.deref.result.now ≡ a = c.deref.ensures.value ∙ c.pop_if-2.ensures.left c.if-pop_if-2.false in
+    let two : c.deref-2.result.now ≡ b = c.deref-2.ensures.value ∙ c.pop_if.ensures.left c.if-pop_if.false in
+    let counted : count_le (stacked a b) c.args.n ≡ length a = rw (one, two) at c.lies_between.ensures c.if-lies_between.true in
+    rw (← c.self.view_is) (is_absent (stacked a b) c.args.n (length a) (rw (← c.self.view_is) at c.requires) counted
+    (λ p q. c.pop_if-2.ensures.other c.if-pop_if-2.false p (number_before a b (length a - 1) 0 (omega arith) ∙ q)))

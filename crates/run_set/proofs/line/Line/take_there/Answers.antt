@@ -1,5 +1,6 @@
 use Rattle.std.proofs.Common.{◌≡◌, ◌-◌, get_or, sym, ◌∙◌, arith}
-use Rattle.run_set.proofs.Lines.{climbs_out, count_out}
+use Rattle.run_set.proofs.line.Line.take_there.Goals.{then-stood-eq0-via-then-stood-eq0, then-stood-eq0-via-else-stood-eq0+then-number_or-n}
+use Rattle.run_set.proofs.Lines.{climbs_out, count_out, is_absent}
 use Rattle.run_set.proofs.line.Line.take_there.Goals as goal
 
 pub returns-clause-climbs : goal.returns-clause-climbs
@@ -12,3 +13,11 @@ returns-clause-taken c e m =
     sym c.number_or.ensures ∙ c.if-number_or-n.false in
     let out = count_out c.args.self.now.items (c.count_to-stood.result - 1) m 0 (omega arith) in
     rw c.remove.ensures.items (rw is at out)
+
+pub returns-then-stood-eq0-clause-absent : goal.returns-then-stood-eq0-clause-absent
+returns-then-stood-eq0-clause-absent c e = elim c.then-stood-eq0.branch [
+  | then-stood-eq0-via-then-stood-eq0 w ↦ is_absent c.args.self.now.items c.args.n c.count_to-stood.result c.requires
+      (sym c.count_to-stood.ensures.is) (λ p q. absurd (omega (arith, w.if-stood-eq0)))
+  | then-stood-eq0-via-else-stood-eq0+then-number_or-n w ↦ is_absent c.args.self.now.items c.args.n c.count_to-stood.result
+      c.requires (sym c.count_to-stood.ensures.is) (λ p q. w.if-number_or-n.true (w.number_or.ensures ∙ q))
+]
