@@ -6,23 +6,25 @@ use Rattle.std.specs.Prelude.{IfSome, IsSome, IsSomeAnd}
 use Rattle.std.specs.Result.{IsErrAnd}
 use Rattle.io_edge.specs.Reading.{TakesAll}
 use Rattle.busdma_base.specs.declared.scenarios.scenario.Scenario.{Scenario}
-use Rattle.json_fields.specs.declared.refusal.Refusal.{Refusal}
-use Rattle.scenario_read.specs.declared.reading.Reading.TheVariants.{Good, Bad}
-use Rattle.scenario_read.specs.Scenario.{scenario_of}
-use Rattle.journal_check.specs.declared.verdict.Verdict.{Verdict}
-use Rattle.journal_check.specs.declared.verdict.Verdict.TheVariants.{Yes, No}
-use Rattle.journal_check.specs.Header.{Cut, cut_of}
-use Rattle.command_words.specs.declared.command.Command.TheVariants.{Check}
-use Rattle.command_words.specs.Command.{command}
+use Rattle.scenario_format.specs.declared.refusal.Refusal.{Refusal}
+use Rattle.scenario_format.specs.declared.reading.Reading.TheVariants.{Good, Bad}
+use Rattle.scenario_format.specs.Scenarios.Scenario.{scenario_of}
+use Rattle.program_rules.specs.declared.verdict.Verdict.{Verdict}
+use Rattle.program_rules.specs.declared.verdict.Verdict.TheVariants.{Yes, No}
+use Rattle.program_rules.specs.Verdicts.Header.{Cut, cut_of}
+use Rattle.program_rules.specs.declared.command.Command.TheVariants.{Check}
+use Rattle.program_rules.specs.Commands.Words.{command}
 use Rattle.busdma_cmd.specs.declared.cause.Cause.{Cause}
 use Rattle.busdma_cmd.specs.declared.cause.Cause.TheVariants as cause
-use Rattle.busdma_cmd.specs.declared.outcome.Outcome.{Outcome}
-use Rattle.busdma_cmd.specs.Checks.{Checked, ChecksBy, HasVerdict, Judges, ReadsVerdict, checked_outcome, verdict_journal, verdict_line, verdict_status}
-use Rattle.busdma_cmd.specs.Edges.{Edges, NoReadFailed, WriteFailed, NoWriteFailed, WroteNothing, WroteAll, WrotePart, input_limit}
+use Rattle.program_rules.specs.declared.program_end.ProgramEnd.{ProgramEnd}
+use Rattle.program_rules.specs.Commands.Checks.{Checked, HasVerdict, verdict_journal, verdict_line, verdict_status}
+use Rattle.busdma_cmd.specs.Checks.{ChecksBy, Judges, ReadsVerdict, checked_outcome}
+use Rattle.program_rules.specs.Commands.Edges.{Edges, NoReadFailed, WriteFailed, NoWriteFailed, WroteNothing, WroteAll}
+use Rattle.program_rules.specs.Commands.Edges.{WrotePart, input_limit}
 use Rattle.busdma_cmd.specs.Ends.{CountsReads, outcome}
-use Rattle.busdma_cmd.specs.Judging.{bad_header, command_reading as judged, scenario_behind_header}
-use Rattle.busdma_cmd.specs.Outcome.{Done, IsComplete, IsDone, Keeps, KeepsJournal, Unwritten}
-use Rattle.busdma_cmd.specs.Runs.{IsReader}
+use Rattle.program_rules.specs.Commands.Judging.{bad_header, command_reading as judged, scenario_behind_header}
+use Rattle.program_rules.specs.Commands.Keeps.{Done, IsComplete, IsDone, Keeps, KeepsJournal, Unwritten}
+use Rattle.program_rules.specs.Commands.Runs.{IsReader}
 use Rattle.busdma_cmd.proofs.Endings.{done_answers, done_of_reading, long_keeps, no_memory_keeps, none_is_some, not_done, other_of_reading, refused_keeps, unread_keeps, unwritten_answers}
 use Rattle.busdma_cmd.proofs.Taking.{AsksFor, all_at_most, if_command, not_gave_too_many, of_command, some_command}
 
@@ -69,7 +71,7 @@ of_asked words n asked keeps = subst (λ o. IsSomeAnd o (λ c. KeepsJournal c n)
 verdict_keeps : (words : List (List ℕ)) (e : Edges) (v : Verdict) → AsksFor words Check → NoReadFailed e → NoWriteFailed e
     → Checked e v → WroteAll (verdict_line v) e → Keeps words e (checked_outcome (Ok v))
 verdict_keeps words e v asked well_read well_written checked wrote =
-    let o : Outcome = checked_outcome (Ok v) in
+    let o : ProgramEnd = checked_outcome (Ok v) in
     let few : verdict_status v ≤ 1 = small v in
     record {
       known = inl (is_done v);
@@ -102,7 +104,7 @@ line_unwritten_keeps : (words : List (List ℕ)) (e : Edges) (v : Verdict) → A
     → WriteFailed e → Checked e v → WrotePart (verdict_line v) e
     → Keeps words e (checked_outcome (Err cause.LineUnwritten))
 line_unwritten_keeps words e v asked well_read failed checked wrote =
-    let o : Outcome = checked_outcome (Err cause.LineUnwritten) in
+    let o : ProgramEnd = checked_outcome (Err cause.LineUnwritten) in
     record {
       known = inr (inr (inr (inr (inr (inl refl)))));
       no_command = λ is. absurd (omega arith);

@@ -8,22 +8,25 @@ use Rattle.busdma_base.specs.declared.journals.journal.Journal.{Journal}
 use Rattle.busdma_base.specs.declared.journals.journal.JournalEntry.{JournalEntry}
 use Rattle.busdma_base.specs.declared.journals.journal.End.{End}
 use Rattle.busdma_base.specs.declared.journals.journal.End.TheVariants.{Finished, Stuck}
-use Rattle.json_fields.specs.declared.refusal.Refusal.{Refusal}
-use Rattle.scenario_read.specs.declared.reading.Reading.TheVariants.{Good, Bad}
+use Rattle.scenario_format.specs.declared.refusal.Refusal.{Refusal}
+use Rattle.scenario_format.specs.declared.reading.Reading.TheVariants.{Good, Bad}
 use Rattle.std.specs.Prelude.{IfSome, IsSomeAnd}
 use Rattle.ideal_world.specs.Ends.{status, status_by, has_report}
 use Rattle.busdma_cmd.specs.declared.cause.Cause.{Cause}
 use Rattle.busdma_cmd.specs.declared.cause.Cause.TheVariants as cause
-use Rattle.busdma_cmd.specs.declared.outcome.Outcome.{Outcome}
-use Rattle.command_words.specs.declared.command.Command.{Command}
-use Rattle.command_words.specs.declared.command.Command.TheVariants.{Replay, Run, Storm, Check}
-use Rattle.command_words.specs.Command.{command}
-use Rattle.busdma_cmd.specs.Edges.{Edges, ReadFailed, NoReadFailed, ReadNothing, ReadAll, ReadAtMost, ReadTooMany, input_limit}
-use Rattle.busdma_cmd.specs.Edges.{WriteFailed, NoWriteFailed, WroteNothing, WroteAll, WrotePart}
+use Rattle.program_rules.specs.declared.program_end.ProgramEnd.{ProgramEnd}
+use Rattle.program_rules.specs.declared.command.Command.{Command}
+use Rattle.program_rules.specs.declared.command.Command.TheVariants.{Replay, Run, Storm, Check}
+use Rattle.program_rules.specs.Commands.Words.{command}
+use Rattle.program_rules.specs.Commands.Edges.{Edges, ReadFailed, NoReadFailed, ReadNothing, ReadAll, ReadAtMost}
+use Rattle.program_rules.specs.Commands.Edges.{ReadTooMany, input_limit}
+use Rattle.program_rules.specs.Commands.Edges.{WriteFailed, NoWriteFailed, WroteNothing, WroteAll, WrotePart}
 use Rattle.busdma_cmd.specs.Ends.{OfInput, CountsReads, Makes, Stops, StopsReading, EndsBy, outcome}
-use Rattle.busdma_cmd.specs.Judging.{command_reading as judged}
-use Rattle.busdma_cmd.specs.Outcome.{IsDone, IsOfReading, HasWritten, KeepsJournal, Ran, RanAndWrote, RanUnwritten, Done, Unwritten, WasRefused, AnswersInput, AnswersReading, IsComplete, Keeps}
-use Rattle.busdma_cmd.specs.Runs.{IsRead, IsReader, Runs}
+use Rattle.program_rules.specs.Commands.Judging.{command_reading as judged}
+use Rattle.program_rules.specs.Commands.Keeps.{IsDone, IsOfReading, HasWritten, KeepsJournal, Ran, RanAndWrote}
+use Rattle.program_rules.specs.Commands.Keeps.{RanUnwritten, Done, Unwritten, WasRefused, AnswersInput, AnswersReading}
+use Rattle.program_rules.specs.Commands.Keeps.{IsComplete, Keeps}
+use Rattle.program_rules.specs.Commands.Runs.{IsRead, IsReader, Runs}
 use Rattle.busdma_cmd.proofs.Taking.{AsksFor, all_at_most, if_command, is_long, not_gave_too_many, not_long, not_too_many, nothing_at_most, of_command, one_more_at_most, runs_few, runs_read, runs_unread, same_judged, some_command}
 
 -- ---- the fields
@@ -87,7 +90,7 @@ none_is_some is = absurd (cc)
 -- ---- each ending
 
 -- what was read, and is good, is answered by what is done
-pub done_answers : (c : Command) (e : Edges) (o : Outcome) (bytes : List ℕ) (scenario : Scenario) → ReadAll bytes e
+pub done_answers : (c : Command) (e : Edges) (o : ProgramEnd) (bytes : List ℕ) (scenario : Scenario) → ReadAll bytes e
     → judged c bytes ≡ Good scenario → IsDone o.status → AnswersInput c e o
 done_answers c e o bytes scenario read good done = record {
   short = λ input is short unread unwritten.
@@ -107,13 +110,13 @@ done_complete (Storm n seed) e j scenario runs done = λ unwritten. inl done
 done_complete Check e j scenario runs done = absurd runs
 
 -- a command that ran a scenario has done its work, or could not write
-done_run : (c : Command) (e : Edges) (o : Outcome) → RanAndWrote c e o → Done c e o
+done_run : (c : Command) (e : Edges) (o : ProgramEnd) → RanAndWrote c e o → Done c e o
 done_run Replay e o ran = ran
 done_run Run e o ran = ran
 done_run (Storm n seed) e o ran = ran
 done_run Check e o ran = absurd ran.ran.runs
 
-unwritten_run : (c : Command) (e : Edges) (o : Outcome) → RanUnwritten c e o → Unwritten c e o
+unwritten_run : (c : Command) (e : Edges) (o : ProgramEnd) → RanUnwritten c e o → Unwritten c e o
 unwritten_run Replay e o ran = ran
 unwritten_run Run e o ran = ran
 unwritten_run (Storm n seed) e o ran = ran
@@ -167,7 +170,7 @@ done_keeps words c e j asked well_read well_written ends =
     }
 
 -- where the sink failed, nothing is asked of it
-pub unwritten_answers : (c : Command) (e : Edges) (o : Outcome) (bytes : List ℕ) (scenario : Scenario) → ReadAll bytes e
+pub unwritten_answers : (c : Command) (e : Edges) (o : ProgramEnd) (bytes : List ℕ) (scenario : Scenario) → ReadAll bytes e
     → judged c bytes ≡ Good scenario → WriteFailed e → AnswersInput c e o
 unwritten_answers c e o bytes scenario read good failed = record {
   short = λ input is short unread unwritten. absurd (unwritten failed);
@@ -226,7 +229,7 @@ unwritten_keeps words c e j asked well_read failed ends =
     }
 
 -- what comes of the input makes a command that reads it complete
-reader_complete : (c : Command) (e : Edges) (o : Outcome) → IsReader c → AnswersInput c e o → IsComplete c e o
+reader_complete : (c : Command) (e : Edges) (o : ProgramEnd) → IsReader c → AnswersInput c e o → IsComplete c e o
 reader_complete Replay e o reader answers = answers
 reader_complete Run e o reader answers = answers
 reader_complete (Storm n seed) e o reader answers = absurd reader

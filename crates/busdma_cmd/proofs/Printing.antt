@@ -9,10 +9,10 @@ use Rattle.std.specs.Io.KnownBytes.{Appends}
 use Rattle.io_edge.specs.Faults.{Rose}
 use Rattle.io_edge.specs.Writing.{WritesPart}
 use Rattle.io_edge.proofs.Giving.{appends_both}
-use Rattle.busdma_cmd.specs.declared.outcome.Outcome.{Outcome}
-use Rattle.busdma_cmd.specs.Edges.{Edges}
-use Rattle.busdma_cmd.specs.ProgramCall.{Answers}
-use Rattle.busdma_cmd.specs.Line.{Prints, Writes, WritesLine, refused_line, status_line}
+use Rattle.program_rules.specs.declared.program_end.ProgramEnd.{ProgramEnd}
+use Rattle.program_rules.specs.Commands.Edges.{Edges}
+use Rattle.program_rules.specs.Commands.ProgramCall.{Answers}
+use Rattle.program_rules.specs.Commands.Line.{Prints, Writes, WritesLine, refused_line, status_line}
 
 -- a text was written as the answer of the writing says
 pub writes : {A B : Type 0} (ran : Result A B) (text : List ℕ) (before after : Option (List ℕ))
@@ -54,14 +54,14 @@ writes_before first second before after faults now (n, less, part) rose =
     )
 
 -- of a run that was done and written nothing is printed
-pub silent : (o : Outcome) (before : Option (List ℕ)) (faults : ℕ) → o.status ≤ 2
+pub silent : (o : ProgramEnd) (before : Option (List ℕ)) (faults : ℕ) → o.status ≤ 2
     → Prints o before before faults faults
 silent o before faults small =
     let done : nat_le o.status 2 ≡ true = grind (arith, nat_tests) in
     inl (rw done (refl, refl))
 
 -- of a refused scenario its line is printed, or that of status 71
-pub refused_prints : (o : Outcome) (before after : Option (List ℕ)) (faults now : ℕ) → o.status ≡ 65
+pub refused_prints : (o : ProgramEnd) (before after : Option (List ℕ)) (faults now : ℕ) → o.status ≡ 65
     → WritesLine (refused_line o.fault) before after faults now
     ⊎ WritesLine (Some (status_line 71)) before after faults now
     → Prints o before after faults now
@@ -72,7 +72,7 @@ refused_prints o before after faults now is (inl wrote) =
 refused_prints o before after faults now is (inr wrote) = inr (is, wrote)
 
 -- of every other outcome the line of its status is printed
-pub status_prints : (o : Outcome) (before after : Option (List ℕ)) (faults now : ℕ) → 2 < o.status
+pub status_prints : (o : ProgramEnd) (before after : Option (List ℕ)) (faults now : ℕ) → 2 < o.status
     → (o.status ≡ 65 → ⊥) → WritesLine (Some (status_line o.status)) before after faults now
     → Prints o before after faults now
 status_prints o before after faults now high other wrote =
@@ -81,9 +81,9 @@ status_prints o before after faults now high other wrote =
     inl (rw more (rw plain wrote))
 
 -- an outcome of a call has a refusal at 65 alone
-pub refused_at : (words : Option (List (List ℕ))) (e : Edges) (o : Outcome) → Answers words e o
+pub refused_at : (words : Option (List (List ℕ))) (e : Edges) (o : ProgramEnd) → Answers words e o
     → IsSome o.fault ↔ (o.status ≡ 65)
 refused_at (Some words) e o answers = answers.fault
 refused_at None e o answers =
-    subst (λ (x : Outcome). IsSome x.fault ↔ (x.status ≡ 65)) (sym answers.0)
+    subst (λ (x : ProgramEnd). IsSome x.fault ↔ (x.status ≡ 65)) (sym answers.0)
     (λ is. absurd (cc), λ is. absurd (omega arith))

@@ -11,15 +11,15 @@ use Rattle.busdma_base.specs.declared.journals.journal.Journal.{Journal}
 use Rattle.std.specs.Prelude.{IfSome, IsSomeAnd}
 use Rattle.busdma_cmd.specs.declared.cause.Cause.{Cause}
 use Rattle.busdma_cmd.specs.declared.cause.Cause.TheVariants as cause
-use Rattle.command_words.specs.declared.command.Command.{Command}
-use Rattle.command_words.specs.declared.command.Command.TheVariants.{Replay, Run, Storm, Check}
-use Rattle.command_words.specs.Command.{command}
-use Rattle.busdma_cmd.specs.Edges.{Edges, ReadNothing, ReadAll, ReadAtMost, input_limit}
-use Rattle.busdma_cmd.specs.Edges.{WriteFailed, WroteNothing, WrotePart}
+use Rattle.program_rules.specs.declared.command.Command.{Command}
+use Rattle.program_rules.specs.declared.command.Command.TheVariants.{Replay, Run, Storm, Check}
+use Rattle.program_rules.specs.Commands.Words.{command}
+use Rattle.program_rules.specs.Commands.Edges.{Edges, ReadNothing, ReadAll, ReadAtMost, input_limit}
+use Rattle.program_rules.specs.Commands.Edges.{WriteFailed, WroteNothing, WrotePart}
 use Rattle.busdma_cmd.specs.Ends.{Reads, CountsReads, Stops, StopsReading, EndsBy}
-use Rattle.busdma_cmd.specs.Judging.{command_reading as judged}
-use Rattle.busdma_cmd.specs.Outcome.{GaveTooMany}
-use Rattle.busdma_cmd.specs.Runs.{IsMadeOf, IsRead, IsReader, Runs, text_of}
+use Rattle.program_rules.specs.Commands.Judging.{command_reading as judged}
+use Rattle.program_rules.specs.Commands.Keeps.{GaveTooMany}
+use Rattle.program_rules.specs.Commands.Runs.{IsMadeOf, IsRead, IsReader, Runs, text_of}
 
 -- ---- what is taken
 

@@ -5,18 +5,19 @@ use Rattle.io_edge.specs.Reading.{Takes, TakesAtMost, TakesAll}
 use Rattle.busdma_base.specs.Scenarios.Valid.{IsValid}
 use Rattle.busdma_base.specs.declared.scenarios.scenario.Scenario.{Scenario}
 use Rattle.busdma_base.specs.declared.journals.journal.Journal.{Journal}
-use Rattle.scenario_read.specs.declared.reading.Reading.{Reading}
-use Rattle.scenario_read.specs.declared.reading.Reading.TheVariants.{Good, Bad}
-use Rattle.scenario_read.specs.Scenario.{scenario_of}
+use Rattle.scenario_format.specs.declared.reading.Reading.{Reading}
+use Rattle.scenario_format.specs.declared.reading.Reading.TheVariants.{Good, Bad}
+use Rattle.scenario_format.specs.Scenarios.Scenario.{scenario_of}
 use Rattle.ideal_world.specs.Ends.{status}
 use Rattle.busdma_cmd.specs.declared.cause.Cause.{Cause}
 use Rattle.busdma_cmd.specs.declared.cause.Cause.TheVariants as cause
-use Rattle.busdma_cmd.specs.declared.outcome.Outcome.{Outcome}
-use Rattle.command_words.specs.declared.command.Command.{Command}
-use Rattle.command_words.specs.declared.command.Command.TheVariants.{Replay, Run, Storm, Check}
-use Rattle.busdma_cmd.specs.Edges.{Edges, ReadNothing, WriteFailed, NoWriteFailed, WroteNothing, WroteAll, WrotePart, input_limit}
-use Rattle.busdma_cmd.specs.Judging.{scenario_behind_header}
-use Rattle.busdma_cmd.specs.Runs.{IsMadeOf, Runs, text_of}
+use Rattle.program_rules.specs.declared.program_end.ProgramEnd.{ProgramEnd}
+use Rattle.program_rules.specs.declared.command.Command.{Command}
+use Rattle.program_rules.specs.declared.command.Command.TheVariants.{Replay, Run, Storm, Check}
+use Rattle.program_rules.specs.Commands.Edges.{Edges, ReadNothing, WriteFailed, NoWriteFailed, WroteNothing, WroteAll}
+use Rattle.program_rules.specs.Commands.Edges.{WrotePart, input_limit}
+use Rattle.program_rules.specs.Commands.Judging.{scenario_behind_header}
+use Rattle.program_rules.specs.Commands.Runs.{IsMadeOf, Runs, text_of}
 
 -- P holds of all the bytes that were left, which are not too many, and nothing is left
 abbrev pub OfInput : Option (List ℕ) → Option (List ℕ) → (List ℕ → Type 0) → Type 0
@@ -65,7 +66,7 @@ EndsBy c e (Err (cause.WriteFailed journal)) = WriteFailed e × Makes c e journa
 EndsBy c e (Err why) = Stops c e why × WroteNothing e
 
 -- the outcome of a run that ended so
-abbrev pub outcome : Result Journal Cause → Outcome
+abbrev pub outcome : Result Journal Cause → ProgramEnd
 outcome (Ok journal) = record { status = status journal; journal = Some journal; fault = None }
 outcome (Err (cause.Refused refusal)) =
     record { status = 65; journal = None; fault = Some refusal }

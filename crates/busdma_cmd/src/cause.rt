@@ -4,7 +4,7 @@ ghost use Rattle.std.specs.Prelude.{◌≡◌};
 ghost use Rattle.busdma_cmd.specs.declared.cause.Cause.TheVariants.{OutOfMemory as no_memory};
 
 use busdma_base::Journal;
-use scenario_read::Refusal;
+use scenario_format::Refusal;
 use std::alloc::AllocError;
 
 /// Why a command does not end with its whole text written.

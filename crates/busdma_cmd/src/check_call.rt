@@ -1,18 +1,19 @@
 //! The command that judges a printed journal.
 
 ghost use Rattle.std.specs.Prelude.{◌≡◌, IfOk, string_bytes};
-ghost use Rattle.busdma_cmd.specs.Checks as spec;
-ghost use Rattle.busdma_cmd.specs.Judging as judging;
+ghost use Rattle.program_rules.specs.Commands.Checks as spec;
+ghost use Rattle.program_rules.specs.Commands.Judging as judging;
 ghost use Rattle.busdma_cmd.specs.Checks.{ChecksBy, Judges, ReadsVerdict, checked_outcome};
-ghost use Rattle.busdma_cmd.specs.Edges.{edges};
+ghost use Rattle.program_rules.specs.Commands.Edges.{edges};
 ghost use Rattle.busdma_cmd.specs.Ends.{CountsReads};
 
 use crate::cause::Cause;
 use crate::command::{INPUT_LIMIT, outcome_of};
-use crate::outcome::Outcome;
 use io_edge::{Input, Sink, Source, read_up_to, write_all};
-use journal_check::{Verdict, check_text, cut_of};
-use scenario_read::{PathText, Reading, Refusal, RefusalKind, scenario_of};
+use journal_check::{check_text, cut_of};
+use program_rules::{ProgramEnd, Verdict};
+use scenario_format::{PathText, Reading, Refusal, RefusalKind};
+use scenario_read::scenario_of;
 use std::alloc::{AllocError, Global};
 
 /// The refusal of an input without a right header, which has no path.
@@ -80,16 +81,16 @@ pub(crate) fn check_input<S: Source, K: Sink>(
 }
 
 /// The outcome of a check.
-pub(crate) fn outcome_of_check(checked: Result<Verdict, Cause>) -> Outcome
+pub(crate) fn outcome_of_check(checked: Result<Verdict, Cause>) -> ProgramEnd
     ensures { result ≡ checked_outcome checked }
 {
     match checked {
-        Ok(Verdict::Yes(journal)) => Outcome {
+        Ok(Verdict::Yes(journal)) => ProgramEnd {
             status: 0,
             journal: Some(journal),
             fault: None,
         },
-        Ok(Verdict::No(_)) => Outcome {
+        Ok(Verdict::No(_)) => ProgramEnd {
             status: 1,
             journal: None,
             fault: None,

@@ -3,19 +3,20 @@
 ghost use Rattle.std.specs.Prelude.{◌≡◌, ◌≢◌, ◌≤◌, ℕ, IfOk, List, Option, map, string_bytes};
 ghost use Rattle.busdma_base.specs.Scenarios.Valid.{IsValid};
 ghost use Rattle.command_words.specs.Command.{run_words};
-ghost use Rattle.command_words.specs.declared.command.Command.TheVariants.{Replay, Storm};
-ghost use Rattle.busdma_cmd.specs.Edges.{edges};
-ghost use Rattle.busdma_cmd.specs.Outcome.{Keeps};
+ghost use Rattle.program_rules.specs.declared.command.Command.TheVariants.{Replay, Storm};
+ghost use Rattle.program_rules.specs.Commands.Edges.{edges};
+ghost use Rattle.program_rules.specs.Commands.Keeps.{Keeps};
 ghost use Rattle.busdma_cmd.specs.Ends.{Reads, CountsReads, EndsBy, outcome};
 
 use crate::cause::Cause;
 use crate::check_call::{check_input, outcome_of_check};
-use crate::outcome::Outcome;
 use busdma_base::{Journal, Scenario};
-use command_words::{Command, command_of, run_is_one_word, storms_are_small};
+use command_words::{command_of, run_is_one_word, storms_are_small};
 use io_edge::{Input, Sink, Source, read_up_to, write_all};
+use program_rules::{Command, ProgramEnd};
 use report_text::write_report;
-use scenario_read::{Reading, scenario_of_owned};
+use scenario_format::Reading;
+use scenario_read::scenario_of_owned;
 use std::alloc::{AllocError, Global};
 use storm::{storm_scenario, storms_are_valid, summary};
 use world_core::{replay, status};
@@ -79,7 +80,7 @@ fn run_storm<K: Sink>(alloc: Global, n: u32, seed: u64, sink: &mut K) -> Result<
 }
 
 /// The outcome of a run.
-pub(crate) fn outcome_of(ran: Result<Journal, Cause>) -> Outcome
+pub(crate) fn outcome_of(ran: Result<Journal, Cause>) -> ProgramEnd
     ensures { result ≡ outcome ran }
 {
     let (status, journal, fault) = match ran {
@@ -91,7 +92,7 @@ pub(crate) fn outcome_of(ran: Result<Journal, Cause>) -> Outcome
         Err(Cause::LineUnwritten) => (73, None, None),
         Err(Cause::ReadFailed) => (74, None, None),
     };
-    Outcome {
+    ProgramEnd {
         status,
         journal,
         fault,
@@ -105,7 +106,7 @@ pub fn plain_command<S: Source, K: Sink>(
     words: &[String],
     source: &mut S,
     sink: &mut K,
-) -> Outcome
+) -> ProgramEnd
     requires { map string_bytes words.now ≢ run_words }
     ensures { Keeps (map string_bytes words.now)
         (edges S.left S.faults K.held K.faults source.old source.new sink.old sink.new)
@@ -122,7 +123,7 @@ pub fn plain_command<S: Source, K: Sink>(
             run_is_one_word();
             unreachable!()
         }
-        Ok(None) => Outcome {
+        Ok(None) => ProgramEnd {
             status: 64,
             journal: None,
             fault: None,

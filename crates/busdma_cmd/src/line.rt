@@ -1,12 +1,12 @@
 //! The line on standard error.
 
 ghost use Rattle.std.specs.Prelude.{◌≡◌, ◌↔◌, IfOk, IsSome};
-ghost use Rattle.busdma_cmd.specs.Line as text;
-ghost use Rattle.busdma_cmd.specs.Outcome.{IsStatus};
+ghost use Rattle.program_rules.specs.Commands.Line as text;
+ghost use Rattle.program_rules.specs.Commands.Keeps.{IsStatus};
 
-use crate::outcome::Outcome;
 use busdma_base::ByteList;
-use json_fields::Refusal;
+use program_rules::ProgramEnd;
+use scenario_format::Refusal;
 use std::alloc::{AllocError, Global};
 
 /// The line of a status that alone says what is printed, without its line feed.
@@ -24,7 +24,7 @@ pub(crate) fn status_line(status: u8) -> &'static str
 
 /// The line that tells why a run did not go well, without its line feed; None for the statuses 0, 1
 /// and 2. The only error is that memory ran out.
-pub fn fault_line(alloc: Global, outcome: &Outcome) -> Result<Option<ByteList>, AllocError>
+pub fn fault_line(alloc: Global, outcome: &ProgramEnd) -> Result<Option<ByteList>, AllocError>
     requires known { IsStatus outcome.now.status }
     requires fault { IsSome outcome.now.fault ↔ (outcome.now.status ≡ 65) }
     ensures { IfOk result (λ line. line ≡ text.line_of outcome.now) }

@@ -1,17 +1,17 @@
 //! A call of the program, from its words to its status.
 
 ghost use Rattle.std.specs.Prelude.{◌≡◌, ◌↔◌, ◌⊎◌, IsSome, Some, map, option_map, string_bytes};
-ghost use Rattle.busdma_cmd.specs.Edges.{edges};
-ghost use Rattle.busdma_cmd.specs.Line as text;
-ghost use Rattle.busdma_cmd.specs.Line.{Prints, WritesLine};
-ghost use Rattle.busdma_cmd.specs.ProgramCall.{Answers, KeepsCall};
+ghost use Rattle.program_rules.specs.Commands.Edges.{edges};
+ghost use Rattle.program_rules.specs.Commands.Line as text;
+ghost use Rattle.program_rules.specs.Commands.Line.{Prints, WritesLine};
+ghost use Rattle.program_rules.specs.Commands.ProgramCall.{Answers, KeepsCall};
 
 use crate::gate::Open;
 use crate::line::{refused_line, status_line};
-use crate::outcome::Outcome;
 use crate::top_call::top;
 use io_edge::{Sink, Source, write_all};
-use json_fields::Refusal;
+use program_rules::ProgramEnd;
+use scenario_format::Refusal;
 use std::alloc::{AllocError, Global};
 use std::env;
 use std::env::Env;
@@ -60,7 +60,7 @@ fn print_refusal<E: Sink>(alloc: Global, fault: &Option<Refusal>, errors: &mut E
 /// Prints the line that tells why a run did not go well, with its line feed. Where there is no memory for
 /// that of a refused scenario, it prints that of status 71; the others take none. Where the line
 /// cannot be printed whole, the status alone tells.
-fn print_fault<E: Sink>(alloc: Global, outcome: &Outcome, errors: &mut E)
+fn print_fault<E: Sink>(alloc: Global, outcome: &ProgramEnd, errors: &mut E)
     requires { IsSome outcome.now.fault ↔ (outcome.now.status ≡ 65) }
     ensures { Prints outcome.now
         (E.held errors.old) (E.held errors.new) (E.faults errors.old) (E.faults errors.new) }
@@ -80,14 +80,14 @@ fn run_words<R: Threads + Wait + Sync, S: Source, K: Sink>(
     words: Option<Vec<String>>,
     source: &mut S,
     sink: &mut K,
-) -> Outcome
+) -> ProgramEnd
     ensures { Answers (option_map (λ w. map string_bytes w.items) words)
         (edges S.left S.faults K.held K.faults source.old source.new sink.old sink.new)
         result }
 {
     match words {
         Some(words) => top(rt, alloc, &words, source, sink, &Open),
-        None => Outcome {
+        None => ProgramEnd {
             status: 71,
             journal: None,
             fault: None,

@@ -2,18 +2,18 @@
 
 ghost use Rattle.std.specs.Prelude.{◌≡◌};
 ghost use Rattle.command_words.specs.Command.{run_words};
-ghost use Rattle.command_words.specs.declared.command.Command.TheVariants.{Run};
-ghost use Rattle.busdma_cmd.specs.Edges.{edges};
+ghost use Rattle.program_rules.specs.declared.command.Command.TheVariants.{Run};
+ghost use Rattle.program_rules.specs.Commands.Edges.{edges};
 ghost use Rattle.busdma_cmd.specs.Ends.{CountsReads, EndsBy};
-ghost use Rattle.busdma_cmd.specs.Outcome.{Keeps};
+ghost use Rattle.program_rules.specs.Commands.Keeps.{Keeps};
 
 use crate::cause::Cause;
 use crate::command::{outcome_of, read_scenario};
-use crate::outcome::Outcome;
 use busdma_base::Journal;
 use io_edge::{Sink, Source};
 use lane_rounds::Gate;
 use lane_run::run_lanes;
+use program_rules::ProgramEnd;
 use report_text::write_report;
 use std::alloc::Global;
 use std::sync::Wait;
@@ -49,7 +49,7 @@ pub fn run_command<R: Threads + Wait + Sync, S: Source, K: Sink, G: Gate + Sync>
     source: &mut S,
     sink: &mut K,
     gate: &G,
-) -> Outcome
+) -> ProgramEnd
     ensures { Keeps run_words
         (edges S.left S.faults K.held K.faults source.old source.new sink.old sink.new)
         result }

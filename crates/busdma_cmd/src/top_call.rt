@@ -1,15 +1,15 @@
 //! The call that the program makes.
 
 ghost use Rattle.std.specs.Prelude.{◌≡◌, map, string_bytes};
-ghost use Rattle.busdma_cmd.specs.Edges.{edges};
-ghost use Rattle.busdma_cmd.specs.Outcome.{Keeps};
+ghost use Rattle.program_rules.specs.Commands.Edges.{edges};
+ghost use Rattle.program_rules.specs.Commands.Keeps.{Keeps};
 
 use crate::command::plain_command;
-use crate::outcome::Outcome;
 use crate::run_call::run_command;
 use command_words::is_run;
 use io_edge::{Sink, Source};
 use lane_rounds::Gate;
+use program_rules::ProgramEnd;
 use std::alloc::Global;
 use std::sync::Wait;
 use std::thread::Threads;
@@ -23,7 +23,7 @@ pub fn top<R: Threads + Wait + Sync, S: Source, K: Sink, G: Gate + Sync>(
     source: &mut S,
     sink: &mut K,
     gate: &G,
-) -> Outcome
+) -> ProgramEnd
     ensures { Keeps (map string_bytes words.now)
         (edges S.left S.faults K.held K.faults source.old source.new sink.old sink.new)
         result }

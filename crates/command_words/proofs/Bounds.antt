@@ -6,10 +6,11 @@ use Rattle.std.specs.Str.Parse.{digits_value}
 use Rattle.std.proofs.lemmas.Bool.Decides.{nat_tests}
 use Rattle.std.proofs.lemmas.Slice.Eq.{bytes_eq-Decides}
 use Rattle.clap.proofs.WalkLemmas.{both}
-use Rattle.command_words.specs.declared.command.Command.{Command}
-use Rattle.command_words.specs.declared.command.Command.TheVariants.{Replay, Run, Storm, Check}
-use Rattle.command_words.specs.Command.{command, is_numeral, number}
-use Rattle.command_words.specs.Command.{run_words, storm_command as storm, storm_of, writes_number}
+use Rattle.program_rules.specs.declared.command.Command.{Command}
+use Rattle.program_rules.specs.declared.command.Command.TheVariants.{Replay, Run, Storm, Check}
+use Rattle.program_rules.specs.Commands.Words.{command, is_numeral, number}
+use Rattle.command_words.specs.Command.{run_words}
+use Rattle.program_rules.specs.Commands.Words.{storm_command as storm, storm_of, writes_number}
 
 number_bounds : (most : ℕ) (word : List ℕ) (k : ℕ) → number most word ≡ Some k → (1 ≤ k) × (k ≤ most)
 number_bounds most word k = go (writes_number most word) refl

@@ -5,7 +5,7 @@ use Rattle.std.specs.Str.Parse.{digits_value}
 use Rattle.std.specs.List.{list_any}
 use Rattle.std.proofs.lemmas.Slice.Eq.{bytes_eq-Decides}
 use Rattle.clap.proofs.WalkLemmas.{both}
-use Rattle.command_words.specs.Command.{command, is_numeral, number, storm_of, writes_number}
+use Rattle.program_rules.specs.Commands.Words.{command, is_numeral, number, storm_of, writes_number}
 use Rattle.command_words.specs.Line.{is_flag}
 
 -- a word that begins with a hyphen is not a text that does not

@@ -9,8 +9,8 @@ use Rattle.clap.specs.Simple.{subcommand_rows, subcommand_rows_of}
 use Rattle.clap.specs.declared.parser.matches.ArgMatches.{ArgMatches}
 use Rattle.clap.specs.declared.parser.matches.ArgMatches.TheViews.{out-ArgMatches, out-SubCommand}
 use Rattle.clap.specs.declared.parser.matches.SubCommand.{SubCommand}
-use Rattle.command_words.specs.declared.command.Command.{Command}
-use Rattle.command_words.specs.declared.command.Command.TheVariants.{Replay, Run, Check}
+use Rattle.program_rules.specs.declared.command.Command.{Command}
+use Rattle.program_rules.specs.declared.command.Command.TheVariants.{Replay, Run, Check}
 use Rattle.command_words.specs.Line.{met, storm_asked}
 
 -- the storm of the words that were found

@@ -6,7 +6,7 @@ use Rattle.std.specs.Str.{all_ascii_digits}
 use Rattle.std.specs.Str.Parse.{IsNumeral, digits_value, without_leading_plus}
 use Rattle.std.proofs.lemmas.Str.Parse.{numerals_by_value, tells_all_ascii_digits, without_leading_plus_none}
 use Rattle.clap.proofs.WalkLemmas.{both}
-use Rattle.command_words.specs.Command.{is_numeral, number, writes_number}
+use Rattle.program_rules.specs.Commands.Words.{is_numeral, number, writes_number}
 
 -- the digits write a number of 64 bits
 abbrev Numeral : List ℕ → Type 0

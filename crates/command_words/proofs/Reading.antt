@@ -22,7 +22,7 @@ use Rattle.clap.specs.Faults.{bundle_fault, entered_fault, fault_of, flag_word_f
 use Rattle.clap.proofs.OnLiterals.{clap_on_literals}
 use Rattle.clap.proofs.WalkLemmas.{walk_stopped}
 use Rattle.clap.proofs.FaultLemmas.{stopped_fault}
-use Rattle.command_words.specs.Command.{command, storm_command as storm}
+use Rattle.program_rules.specs.Commands.Words.{command, storm_command as storm}
 use Rattle.command_words.specs.Line.{is_flag, line, met, storm_line}
 
 neither : (a b : Bool) → (a || b) ≡ false → (a ≡ false) × (b ≡ false)

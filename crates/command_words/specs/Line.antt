@@ -2,9 +2,9 @@
 use Rattle.std.specs.Prelude.{◌==◌, Bool, List, Option, Some, None, codes, slice_index, true, if◌then◌else◌}
 use Rattle.std.specs.Str.{bytes_eq}
 use Rattle.clap.specs.Words.{App, Row, Rule, Text, first_of, new_app, new_rule, with_rule, with_subcommand}
-use Rattle.command_words.specs.declared.command.Command.{Command}
-use Rattle.command_words.specs.declared.command.Command.TheVariants.{Replay, Run, Check}
-use Rattle.command_words.specs.Command.{storm_command}
+use Rattle.program_rules.specs.declared.command.Command.{Command}
+use Rattle.program_rules.specs.declared.command.Command.TheVariants.{Replay, Run, Check}
+use Rattle.program_rules.specs.Commands.Words.{storm_command}
 
 -- the word begins with a hyphen
 abbrev pub is_flag : Text → Bool

@@ -3,27 +3,16 @@
 ghost use Rattle.std.specs.Prelude.{◌≡◌, ◌↔◌, IfOk, IsTrue, map, option_map, string_bytes};
 ghost use Rattle.std.specs.List.{list_any};
 ghost use Rattle.clap.specs.Words.{subcommand_rows_of};
-ghost use Rattle.command_words.specs.Command as spec;
+ghost use Rattle.command_words.specs.Command.{run_words};
+ghost use Rattle.program_rules.specs.Commands.Words as spec;
 ghost use Rattle.command_words.specs.Line as line;
 
 use crate::line::command_line;
 use crate::number::number;
 use clap::ArgMatches;
 use clap::error::ErrorKind;
+use program_rules::Command;
 use std::alloc::{AllocError, Global};
-
-/// A command of the program.
-#[derive(Clone, Copy, Debug, PartialEq, Eq)]
-pub enum Command {
-    /// Reads a scenario, replays its order and writes the report.
-    Replay,
-    /// Reads a scenario, runs its drivers on threads and writes the report.
-    Run,
-    /// Makes the storm of `n` rounds of each driver and a seed, replays it and writes its summary.
-    Storm { n: u32, seed: u64 },
-    /// Reads a scenario and a printed report, and writes the verdict on it.
-    Check,
-}
 
 /// The storm that two words ask for.
 fn storm_of(rounds: Option<&str>, seed: Option<&str>) -> Option<Command>
@@ -79,7 +68,7 @@ pub fn command_of(alloc: Global, words: &[String]) -> Result<Option<Command>, Al
 
 /// Whether the words ask for a run on threads.
 pub fn is_run(words: &[String]) -> bool
-    ensures { IsTrue result ↔ (map string_bytes words.now ≡ spec.run_words) }
+    ensures { IsTrue result ↔ (map string_bytes words.now ≡ run_words) }
 {
     match words {
         [word] => word.as_str() == "run",

@@ -1,8 +1,9 @@
 //! Laws of commands, each the contract of a function that does nothing.
 
 ghost use Rattle.std.specs.Prelude.{ℕ, ◌≡◌, ◌≤◌, List, Some};
-ghost use Rattle.command_words.specs.Command.{command, run_words};
-ghost use Rattle.command_words.specs.declared.command.Command.TheVariants.{Run, Storm};
+ghost use Rattle.program_rules.specs.Commands.Words.{command};
+ghost use Rattle.command_words.specs.Command.{run_words};
+ghost use Rattle.program_rules.specs.declared.command.Command.TheVariants.{Run, Storm};
 
 /// A storm that words ask for has 1 to 256 rounds, and a seed that is not 0.
 pub fn storms_are_small()

@@ -6,5 +6,5 @@ mod laws;
 mod line;
 mod number;
 
-pub use command::{Command, command_of, is_run};
+pub use command::{command_of, is_run};
 pub use laws::{run_is_one_word, storms_are_small};

@@ -1,7 +1,7 @@
 //! Numbers in words.
 
 ghost use Rattle.std.specs.Prelude.{◌≡◌};
-ghost use Rattle.command_words.specs.Command as spec;
+ghost use Rattle.program_rules.specs.Commands.Words as spec;
 
 /// How many digits a number has at the most, leading zeros among them.
 const MOST_DIGITS: usize = 20;

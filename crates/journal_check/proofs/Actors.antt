@@ -9,9 +9,9 @@ use Rattle.busdma_base.specs.declared.journals.journal.JournalEntry.{JournalEntr
 use Rattle.busdma_base.specs.declared.journals.journal.Side.{Side}
 use Rattle.busdma_base.specs.declared.journals.journal.Side.TheVariants as side
 use Rattle.busdma_base.specs.declared.scenarios.scenario.Scenario.{Scenario}
-use Rattle.report_text.specs.Answer.{answer_text}
-use Rattle.report_text.specs.Did.{did_text}
-use Rattle.report_text.specs.Report.{side_letter, actor_text, entry_line}
+use Rattle.program_rules.specs.Reports.Answer.{answer_text}
+use Rattle.program_rules.specs.Reports.Did.{did_text}
+use Rattle.program_rules.specs.Reports.Report.{side_letter, actor_text, entry_line}
 use Rattle.journal_check.proofs.Words.{number-there}
 
 -- what stands behind the number in the line of an entry: a space, the letter of its side, and the number of its driver

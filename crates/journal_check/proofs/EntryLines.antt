@@ -43,18 +43,18 @@ use Rattle.busdma_machine.specs.declared.report.Errno.{Errno}
 use Rattle.busdma_machine.specs.declared.report.Errno.TheVariants.{EINVAL, ENOMEM, EFBIG, EINPROGRESS, EBUSY}
 use Rattle.busdma_machine.specs.declared.report.ReportName.{ReportName}
 use Rattle.busdma_machine.specs.declared.report.ReportName.TheVariants as names
-use Rattle.report_text.specs.Answer.{errno_name, report_name, made_text, segment_text, byte_text, bytes_text}
-use Rattle.report_text.specs.Report.{journal_end_line as end_line, report}
-use Rattle.report_text.specs.Zone.{zone_lines}
-use Rattle.report_text.specs.Text.{hex, numbered}
-use Rattle.journal_check.specs.Lines.{lines}
-use Rattle.journal_check.specs.ReportLines.{entry_lines, closing_lines}
+use Rattle.program_rules.specs.Reports.Answer.{errno_name, report_name, made_text, segment_text, byte_text, bytes_text}
+use Rattle.program_rules.specs.Reports.Report.{journal_end_line as end_line, report}
+use Rattle.program_rules.specs.Reports.Zone.{zone_lines}
+use Rattle.program_rules.specs.Reports.Text.{hex, numbered}
+use Rattle.program_rules.specs.Verdicts.Lines.{lines}
+use Rattle.program_rules.specs.Verdicts.ReportLines.{entry_lines, closing_lines}
 use Rattle.journal_check.proofs.Lines.{lines-line, concat-lines}
-use Rattle.report_text.specs.Did.{did_text, script_of, name_made_at as name_at}
-use Rattle.report_text.specs.Did.{map_name, object_text, object_name, item_of_load as item_at}
-use Rattle.report_text.specs.Did.{again_text, op_text as report_op, item_text as report_item}
-use Rattle.report_text.specs.Answer.{answer_text}
-use Rattle.report_text.specs.Report.{side_letter, actor_text, entry_line}
+use Rattle.program_rules.specs.Reports.Did.{did_text, script_of, name_made_at as name_at}
+use Rattle.program_rules.specs.Reports.Did.{map_name, object_text, object_name, item_of_load as item_at}
+use Rattle.program_rules.specs.Reports.Did.{again_text, op_text as report_op, item_text as report_item}
+use Rattle.program_rules.specs.Reports.Answer.{answer_text}
+use Rattle.program_rules.specs.Reports.Report.{side_letter, actor_text, entry_line}
 use Rattle.journal_check.proofs.Lines.{over, and-both}
 use Rattle.journal_check.proofs.Digits.{glyph-high, digits-high, decimal-high, joined, lower}
 

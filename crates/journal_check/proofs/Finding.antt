@@ -4,14 +4,14 @@ use Rattle.std.specs.List.{concat}
 use Rattle.busdma_base.specs.declared.journals.journal.Journal.{Journal}
 use Rattle.busdma_base.specs.declared.journals.journal.JournalEntry.{JournalEntry}
 use Rattle.busdma_base.specs.declared.scenarios.scenario.Scenario.{Scenario}
-use Rattle.report_text.specs.Report.{journal_end_line as end_line}
-use Rattle.report_text.specs.Zone.{zone_lines}
+use Rattle.program_rules.specs.Reports.Report.{journal_end_line as end_line}
+use Rattle.program_rules.specs.Reports.Zone.{zone_lines}
 use Rattle.ideal_world.specs.Ends.{IsAtRest}
 use Rattle.ideal_world.specs.World.{WorldState}
 use Rattle.journal_check.specs.Following.{AreFollowedTo}
-use Rattle.journal_check.specs.Lines.{lines, alike}
-use Rattle.journal_check.specs.ReportLines.{closing_lines}
-use Rattle.journal_check.specs.Verdict.{CanGoOn, Follows, IsWhole, StopsAtEnd, StopsWithin, journal_at}
+use Rattle.program_rules.specs.Verdicts.Lines.{lines, alike}
+use Rattle.program_rules.specs.Verdicts.ReportLines.{closing_lines}
+use Rattle.program_rules.specs.Verdicts.Verdict.{CanGoOn, Follows, IsWhole, StopsAtEnd, StopsWithin, journal_at}
 use Rattle.journal_check.proofs.Lines.{concat-lines}
 
 -- texts with the same lines are the same

@@ -4,7 +4,7 @@ use Rattle.std.proofs.Common.{Option, Some, None, refl, sym, ap, ◌∙◌, arit
 use Rattle.std.proofs.lemmas.Bool.Decides.{nat_tests}
 use Rattle.std.proofs.lemmas.List.{take_all, drop_all}
 use Rattle.std.specs.List.{list_all, onto_first, position, position_or_len}
-use Rattle.journal_check.specs.Lines.{lines}
+use Rattle.program_rules.specs.Verdicts.Lines.{lines}
 use Rattle.journal_check.proofs.Lines.{over, and-both}
 
 -- where a byte first stands, or the end

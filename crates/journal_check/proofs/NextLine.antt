@@ -4,12 +4,12 @@ use Rattle.std.proofs.lemmas.Option.{same_Some}
 use Rattle.busdma_base.specs.declared.journals.journal.Actor.{Actor}
 use Rattle.busdma_base.specs.declared.journals.journal.JournalEntry.{JournalEntry}
 use Rattle.busdma_base.specs.declared.scenarios.scenario.Scenario.{Scenario}
-use Rattle.report_text.specs.Report.{entry_line}
+use Rattle.program_rules.specs.Reports.Report.{entry_line}
 use Rattle.ideal_world.specs.WellFormed.{IsWellFormed}
 use Rattle.ideal_world.specs.World.{WorldState, step, step_entry}
 use Rattle.ideal_world.proofs.Falling.{step-rests}
 use Rattle.ideal_world.proofs.Keeping.{step-named}
-use Rattle.journal_check.specs.Verdict.{CanGoOn, IsNext}
+use Rattle.program_rules.specs.Verdicts.Verdict.{CanGoOn, IsNext}
 use Rattle.journal_check.proofs.Verdicts.{steps-within}
 use Rattle.journal_check.specs.declared.stepping.Line.{Line}
 use Rattle.journal_check.specs.declared.stepping.Line.TheVariants.{Right, Wrong, Nobody}

@@ -3,12 +3,12 @@ use Rattle.std.proofs.Common.{◌≡◌, ℕ, suc, ◌+◌, ◌<◌, ◌≤◌, 
 use Rattle.std.proofs.lemmas.List.{append_assoc, drop-drop, drop_all}
 use Rattle.busdma_base.specs.declared.journals.journal.JournalEntry.{JournalEntry}
 use Rattle.busdma_base.specs.declared.scenarios.scenario.Scenario.{Scenario}
-use Rattle.report_text.specs.Report.{entry_line}
-use Rattle.journal_check.specs.Lines.{lines}
-use Rattle.journal_check.specs.ReportLines.{entry_lines}
+use Rattle.program_rules.specs.Reports.Report.{entry_line}
+use Rattle.program_rules.specs.Verdicts.Lines.{lines}
+use Rattle.program_rules.specs.Verdicts.ReportLines.{entry_lines}
 use Rattle.ideal_world.specs.Legal.{Leads}
 use Rattle.ideal_world.specs.World.{WorldState, opening_world, step, step_entry}
-use Rattle.journal_check.specs.Verdict.{CanGoOn, IsNext, IsWrong, StopsWithin}
+use Rattle.program_rules.specs.Verdicts.Verdict.{CanGoOn, IsNext, IsWrong, StopsWithin}
 use Rattle.journal_check.specs.declared.stepping.Line.{Line}
 use Rattle.journal_check.specs.declared.stepping.Line.TheVariants.{Right, Wrong, Nobody}
 use Rattle.journal_check.specs.Following.{IsJudged, AreFollowed, AreFollowedTo}

@@ -14,7 +14,7 @@ use Rattle.ideal_world.specs.World.{WorldState, WorldTurned, entry_of, step, ste
 use Rattle.ideal_world.proofs.Falling.{step-rests}
 use Rattle.ideal_world.proofs.Keeping.{step-named}
 use Rattle.ideal_world.proofs.Rest.{NoneSteps}
-use Rattle.journal_check.specs.Verdict.{CanGoOn}
+use Rattle.program_rules.specs.Verdicts.Verdict.{CanGoOn}
 use Rattle.journal_check.proofs.Verdicts.{at-rest}
 
 none-push : (w : WorldState) (actors : List Actor) (a : Actor) → NoneSteps w actors → step_entry w a ≡ None →

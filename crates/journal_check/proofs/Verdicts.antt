@@ -9,9 +9,9 @@ use Rattle.busdma_base.specs.declared.journals.journal.Journal.{Journal}
 use Rattle.busdma_base.specs.declared.journals.journal.JournalEntry.{JournalEntry}
 use Rattle.busdma_base.specs.declared.scenarios.scenario.Scenario.{Scenario}
 use Rattle.busdma_base.specs.Scenarios.Valid.{IsValid}
-use Rattle.report_text.specs.Report.{entry_line, report}
-use Rattle.journal_check.specs.Lines.{lines, alike}
-use Rattle.journal_check.specs.ReportLines.{entry_lines, closing_lines}
+use Rattle.program_rules.specs.Reports.Report.{entry_line, report}
+use Rattle.program_rules.specs.Verdicts.Lines.{lines, alike}
+use Rattle.program_rules.specs.Verdicts.ReportLines.{entry_lines, closing_lines}
 use Rattle.journal_check.proofs.EntryLines.{one-actor, lines-report, report-from_lines}
 use Rattle.journal_check.proofs.Judging as judging
 use Rattle.ideal_world.specs.Ends.{IsAtRest, world_end as end_of}
@@ -23,9 +23,10 @@ use Rattle.ideal_world.proofs.Falling.{step-falls}
 use Rattle.ideal_world.proofs.Keeping.{step-keeps, step-named}
 use Rattle.ideal_world.proofs.Opens.{opens-well}
 use Rattle.ideal_world.proofs.Rest.{NoneSteps, in_round}
-use Rattle.journal_check.specs.declared.verdict.Verdict.{Verdict}
-use Rattle.journal_check.specs.declared.verdict.Verdict.TheVariants.{Yes, No}
-use Rattle.journal_check.specs.Verdict.{Follows, journal_at, CanGoOn, IsNext, IsWrong, IsWhole, StopsWithin, StopsAtEnd, IsVerdict}
+use Rattle.program_rules.specs.declared.verdict.Verdict.{Verdict}
+use Rattle.program_rules.specs.declared.verdict.Verdict.TheVariants.{Yes, No}
+use Rattle.program_rules.specs.Verdicts.Verdict.{Follows, journal_at, CanGoOn, IsNext, IsWrong, IsWhole, StopsWithin}
+use Rattle.program_rules.specs.Verdicts.Verdict.{StopsAtEnd, IsVerdict}
 use Rattle.journal_check.specs.Laws.{BreaksAt}
 
 -- past the last driver no actor can step

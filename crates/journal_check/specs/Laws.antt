@@ -2,8 +2,8 @@
 use Rattle.std.specs.Prelude.{◌≡◌, ℕ, ◌+◌, List, take}
 use Rattle.busdma_base.specs.declared.journals.journal.Journal.{Journal}
 use Rattle.busdma_base.specs.declared.scenarios.scenario.Scenario.{Scenario}
-use Rattle.report_text.specs.Report.{report}
-use Rattle.journal_check.specs.Lines.{lines}
+use Rattle.program_rules.specs.Reports.Report.{report}
+use Rattle.program_rules.specs.Verdicts.Lines.{lines}
 use Rattle.ideal_world.specs.Legal.{IsLegal}
 
 -- the text has the first lines of a legal journal's report up to the line before this one, and with this one of none

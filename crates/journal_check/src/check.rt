@@ -2,19 +2,19 @@
 
 ghost use Rattle.std.specs.Prelude.{◌≡◌, ◌++◌, IfOk};
 ghost use Rattle.busdma_base.specs.Scenarios.Valid.{IsValid};
-ghost use Rattle.report_text.specs.Report as report;
-ghost use Rattle.report_text.specs.Zone as zone;
+ghost use Rattle.program_rules.specs.Reports.Report as report;
+ghost use Rattle.program_rules.specs.Reports.Zone as zone;
 ghost use Rattle.ideal_world.specs.WellFormed.{IsWellFormed};
 ghost use Rattle.world_core.specs.Ideal.{ideal_world};
 ghost use Rattle.journal_check.specs.Following.{AreFollowedTo, IsTried};
-ghost use Rattle.journal_check.specs.Verdict.{IsVerdict};
+ghost use Rattle.program_rules.specs.Verdicts.Verdict.{IsVerdict};
 
 use crate::closing::lines_alike;
 use crate::following::{Halt, follow};
-use crate::verdict::Verdict;
 use busdma_base::{Journal, JournalEntry, Scenario};
 use busdma_machine::ListOf;
 use lane_core::Turn;
+use program_rules::Verdict;
 use report_text::{end_line, zone_lines};
 use std::alloc::{AllocError, Global};
 use world_core::{World, round_of};

@@ -2,7 +2,7 @@
 
 ghost use Rattle.std.specs.Prelude.{◌≡◌, ◌≤◌, ◌<◌, ◌==◌, ◌∷◌, IfSome, length, take, drop};
 ghost use Rattle.std.specs.List.{position};
-ghost use Rattle.journal_check.specs.Lines.{lines};
+ghost use Rattle.program_rules.specs.Verdicts.Lines.{lines};
 
 /// Where a byte first stands in a text.
 pub(crate) fn place_of(text: &[u8], byte: u8) -> Option<usize>

@@ -1,7 +1,7 @@
 //! The header of an input: how many of its bytes are the scenario.
 
 ghost use Rattle.std.specs.Prelude.{◌≡◌, ◌≢◌, ◌++◌, ℕ, List, MatchOption, option_map};
-ghost use Rattle.journal_check.specs.Header as header;
+ghost use Rattle.program_rules.specs.Verdicts.Header as header;
 
 use crate::naming::first_number;
 use itoa::Buffer;

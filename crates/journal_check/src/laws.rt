@@ -6,16 +6,17 @@ ghost use Rattle.busdma_base.specs.declared.journals.journal.Journal.{Journal};
 ghost use Rattle.busdma_base.specs.declared.journals.journal.JournalEntry.{JournalEntry};
 ghost use Rattle.busdma_base.specs.declared.scenarios.scenario.Scenario.{Scenario};
 ghost use Rattle.busdma_base.specs.Scenarios.Valid.{IsValid};
-ghost use Rattle.report_text.specs.Report.{report};
+ghost use Rattle.program_rules.specs.Reports.Report.{report};
 ghost use Rattle.ideal_world.specs.Ends.{IsAtRest};
 ghost use Rattle.ideal_world.specs.Legal.{IsLegal, Leads};
 ghost use Rattle.ideal_world.specs.World.{WorldState, opening_world};
-ghost use Rattle.journal_check.specs.declared.verdict.Verdict.{Verdict};
-ghost use Rattle.journal_check.specs.declared.verdict.Verdict.TheVariants.{Yes, No};
-ghost use Rattle.journal_check.specs.Header.{Cut, IsCut, cut_of};
+ghost use Rattle.program_rules.specs.declared.verdict.Verdict.{Verdict};
+ghost use Rattle.program_rules.specs.declared.verdict.Verdict.TheVariants.{Yes, No};
+ghost use Rattle.program_rules.specs.Verdicts.Header.{Cut, cut_of};
+ghost use Rattle.journal_check.specs.Header.{IsCut};
 ghost use Rattle.journal_check.specs.Laws.{BreaksAt};
-ghost use Rattle.journal_check.specs.Lines.{lines};
-ghost use Rattle.journal_check.specs.Verdict.{IsVerdict};
+ghost use Rattle.program_rules.specs.Verdicts.Lines.{lines};
+ghost use Rattle.program_rules.specs.Verdicts.Verdict.{IsVerdict};
 
 /// The verdict is yes with a journal exactly where the journal is legal and the text is its report.
 pub fn yes_is_the_report()

@@ -10,7 +10,6 @@ mod header;
 mod laws;
 mod naming;
 mod stepping;
-mod verdict;
 
 pub use check::check_text;
 pub use header::cut_of;
@@ -18,4 +17,4 @@ pub use laws::{
     each_front_is_legal, inputs_have_headers, lines_are_the_text, no_is_where_it_breaks,
     one_verdict, yes_is_the_report,
 };
-pub use verdict::Verdict;
+pub use program_rules::Verdict;

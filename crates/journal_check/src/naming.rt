@@ -5,7 +5,7 @@ ghost use Rattle.std.specs.Fmt.{decimal};
 ghost use Rattle.busdma_base.specs.declared.journals.journal.JournalEntry.{JournalEntry as SeenEntry};
 ghost use Rattle.busdma_base.specs.declared.scenarios.scenario.Scenario.{Scenario as SeenScenario};
 ghost use Rattle.busdma_base.specs.declared.journals.journal.Side.{Side as SeenSide};
-ghost use Rattle.report_text.specs.Report.{entry_line, side_letter};
+ghost use Rattle.program_rules.specs.Reports.Report.{entry_line, side_letter};
 
 use crate::cutting::place_of;
 use busdma_base::{Actor, Side};

@@ -2,7 +2,7 @@
 use Rattle.std.proofs.Common.{◌≡◌, ℕ, suc, ◌<◌, ◌+◌, ◌*◌, List, [], ◌∷◌, ◌++◌, length, get_or, drop, Option, Some}
 use Rattle.std.proofs.Common.{None, option_map, refl, arith, append_assoc, ap, ◌∙◌}
 use Rattle.std.proofs.Math.Seq.{drop-cons}
-use Rattle.json_fields.specs.Text.{hex_byte, hex_bytes}
+use Rattle.scenario_format.specs.Json.Text.{hex_byte, hex_bytes}
 
 more_behind : (out : List ℕ) (x : ℕ) (r : Option (List ℕ))
     → option_map (λ ys. (out ++ x ∷ []) ++ ys) r ≡ option_map (λ ys. out ++ ys) (option_map (λ ys. x ∷ ys) r)

@@ -2,7 +2,7 @@
 use Rattle.std.proofs.Common.{◌≡◌, List, ◌∷◌, ℕ, Bool, true, false, string_bytes, Some, refl}
 use Rattle.serde_json.specs.View.{members_view}
 use Rattle.serde_json.proofs.Views.{Entry}
-use Rattle.json_fields.specs.Field.{unknown_key}
+use Rattle.scenario_format.specs.Json.Field.{unknown_key}
 
 pub known_first : (known : List ℕ → Bool) (e : Entry) (es rest : List Entry)
     → es ≡ e ∷ rest → known (string_bytes e.0) ≡ true →

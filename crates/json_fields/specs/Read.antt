@@ -1,28 +1,9 @@
--- What reading gives: a value, or the first refusal.
+-- What the code of a reader returns, by what reading gives.
 use Rattle.std.specs.Prelude.{◌≡◌, Result, Ok, Err}
-use Rattle.json_fields.specs.Place.{DocumentPlace, path_text}
-use Rattle.json_fields.specs.declared.refusal.RefusalKind.{RefusalKind}
-use Rattle.json_fields.specs.declared.refusal.Refusal.{Refusal}
-use Rattle.json_fields.specs.declared.refusal.Stop.{Stop}
-use Rattle.json_fields.specs.declared.refusal.Stop.TheVariants as stop
-
--- a value, or the first refusal
-abbrev pub Read : Type 0 → Type 0
-Read A = Result A Refusal
-
--- what is read next is read where nothing before was refused
-infixl 10 ◌>>=◌
-abbrev pub ◌>>=◌ : {A B : Type 0} → Read A → (A → Read B) → Read B
-(Ok x) >>= f = f x
-(Err r) >>= f = Err r
-
--- this is wrong at this place
-abbrev pub refusal : RefusalKind → DocumentPlace → Refusal
-refusal kind place = record { kind = kind; path = path_text place }
-
--- the reading ends with this refusal
-abbrev pub refuse : {A : Type 0} → RefusalKind → DocumentPlace → Read A
-refuse kind place = Err (refusal kind place)
+use Rattle.scenario_format.specs.declared.refusal.Refusal.{Refusal}
+use Rattle.json_fields.specs.declared.stop.Stop.{Stop}
+use Rattle.json_fields.specs.declared.stop.Stop.TheVariants as stop
+use Rattle.scenario_format.specs.Json.Read.{Read}
 
 -- the code stops with this refusal, unless memory ran out
 abbrev pub StopsWith : Stop → Refusal → Type 0

@@ -3,9 +3,9 @@
 
 mod node;
 mod path;
-mod refusal;
+mod stop;
 mod text;
 
 pub use node::Node;
 pub use path::Path;
-pub use refusal::{LimitName, PathText, Refusal, RefusalKind, Stop};
+pub use stop::Stop;

@@ -6,19 +6,23 @@ ghost use Rattle.std.specs.Str.{bytes_eq};
 ghost use Rattle.serde_json.specs.Find.{get_member};
 ghost use Rattle.serde_json.specs.View.{view, members_view};
 ghost use Rattle.busdma_base.specs.Scenarios.Names as names;
-ghost use Rattle.json_fields.specs.Place.{key, place_of};
-ghost use Rattle.json_fields.specs.Read.{Gives, GivesSeen, StopsWith, refusal};
-ghost use Rattle.json_fields.specs.Field.{spot_of, placed_at, item_of, field, required};
-ghost use Rattle.json_fields.specs.Field.{members_of, only_keys, unknown_key};
-ghost use Rattle.json_fields.specs.Number.{number_in as number_of_kind, number_at};
-ghost use Rattle.json_fields.specs.Number.{number_field, number_or};
-ghost use Rattle.json_fields.specs.Text.{read_name as name_at, read_bytes as bytes_at, text_at};
-ghost use Rattle.json_fields.specs.Items.{items_at};
+ghost use Rattle.scenario_format.specs.Json.Place.{key};
+ghost use Rattle.json_fields.specs.Place.{place_of};
+ghost use Rattle.json_fields.specs.Read.{Gives, GivesSeen, StopsWith};
+ghost use Rattle.scenario_format.specs.Json.Read.{refusal};
+ghost use Rattle.json_fields.specs.Field.{spot_of, placed_at};
+ghost use Rattle.scenario_format.specs.Json.Field.{item_of, field, required};
+ghost use Rattle.scenario_format.specs.Json.Field.{members_of, only_keys, unknown_key};
+ghost use Rattle.scenario_format.specs.Json.Number.{number_in as number_of_kind, number_at};
+ghost use Rattle.scenario_format.specs.Json.Number.{number_field, number_or};
+ghost use Rattle.scenario_format.specs.Json.Text.{read_name as name_at, read_bytes as bytes_at, text_at};
+ghost use Rattle.scenario_format.specs.Json.Items.{items_at};
 
 use crate::path::Path;
-use crate::refusal::{RefusalKind, Stop};
+use crate::stop::Stop;
 use crate::text::{hex_bytes, hex_number, is_name};
 use busdma_base::{ByteList, ListOf, Name};
+use scenario_format::RefusalKind;
 use serde_json::Value;
 use serde_json::value::Map;
 use std::alloc::Global;
@@ -59,7 +63,7 @@ impl<'v> Node<'v> {
     }
 
     /// The value at a key. A missing one is refused with the key's path.
-    #[tactic(auto, unfolding(crate::specs::Field::required))]
+    #[tactic(auto, unfolding(scenario_format::specs::Json::Field::required))]
     pub fn required<'a>(&'a self, name: &'a str) -> Result<Node<'a>, Stop>
         ensures { GivesSeen spot_of result (required name.now (spot_of self.now)) }
     {
@@ -104,7 +108,7 @@ impl<'v> Node<'v> {
 
     /// The value is an object, and has no key outside the table. The first other key, in byte
     /// order, is refused with its path.
-    #[tactic(auto, unfolding(crate::specs::Field::only_keys))]
+    #[tactic(auto, unfolding(scenario_format::specs::Json::Field::only_keys))]
     pub fn only_keys(&self, table: &[&str]) -> Result<(), Stop>
         ensures { Gives result
             (only_keys (λ key. list_any (λ k. bytes_eq k.now key) table.now) (spot_of self.now)) }
@@ -117,7 +121,7 @@ impl<'v> Node<'v> {
 
     /// A number: a JSON number below 2^64 without sign, fraction or exponent, or a text of `0x` and 1
     /// to 16 hexadecimal digits.
-    #[tactic(auto, unfolding(crate::specs::Number::number_at))]
+    #[tactic(auto, unfolding(scenario_format::specs::Json::Number::number_at))]
     pub fn number(&self) -> Result<u64, Stop>
         ensures { Gives result (number_at (spot_of self.now)) }
     {
@@ -128,7 +132,7 @@ impl<'v> Node<'v> {
     }
 
     /// The number at a key.
-    #[tactic(auto, unfolding(crate::specs::Number::number_field))]
+    #[tactic(auto, unfolding(scenario_format::specs::Json::Number::number_field))]
     pub fn number_field(&self, name: &str) -> Result<u64, Stop>
         ensures { Gives result (number_field name.now (spot_of self.now)) }
     {
@@ -136,7 +140,7 @@ impl<'v> Node<'v> {
     }
 
     /// The number at a key, or a default where there is none.
-    #[tactic(auto, unfolding(crate::specs::Number::number_or))]
+    #[tactic(auto, unfolding(scenario_format::specs::Json::Number::number_or))]
     pub fn number_or(&self, name: &str, default: u64) -> Result<u64, Stop>
         ensures { Gives result (number_or name.now default (spot_of self.now)) }
     {
@@ -147,7 +151,7 @@ impl<'v> Node<'v> {
     }
 
     /// A text.
-    #[tactic(auto, unfolding(crate::specs::Text::text_at))]
+    #[tactic(auto, unfolding(scenario_format::specs::Json::Text::text_at))]
     pub fn text(&self) -> Result<&'v str, Stop>
         ensures { GivesSeen (λ s. s.now) result (text_at (spot_of self.now)) }
     {
@@ -158,7 +162,7 @@ impl<'v> Node<'v> {
     }
 
     /// The text of a name: 1 to 32 of `a` to `z`, `0` to `9` and `_`, beginning with a letter.
-    #[tactic(auto, unfolding(crate::specs::Text::read_name))]
+    #[tactic(auto, unfolding(scenario_format::specs::Json::Text::read_name))]
     pub fn name_text(&self) -> Result<&'v str, Stop>
         ensures value { GivesSeen (λ s. s.now) result (name_at (spot_of self.now)) }
         ensures well_formed { IfOk result (λ s. names.is_name s.now ≡ true) }
@@ -178,7 +182,7 @@ impl<'v> Node<'v> {
     }
 
     /// Bytes, by two hexadecimal digits each.
-    #[tactic(auto, unfolding(crate::specs::Text::read_bytes))]
+    #[tactic(auto, unfolding(scenario_format::specs::Json::Text::read_bytes))]
     pub fn bytes(&self) -> Result<ByteList, Stop>
         ensures { Gives result (bytes_at (spot_of self.now)) }
     {
@@ -192,7 +196,7 @@ impl<'v> Node<'v> {
     }
 
     /// A list.
-    #[tactic(auto, unfolding(crate::specs::Items::items_at), using(crate::proofs::Lists::list_of_items))]
+    #[tactic(auto, unfolding(scenario_format::specs::Json::Items::items_at), using(crate::proofs::Lists::list_of_items))]
     pub fn items(&self) -> Result<&'v [Value], Stop>
         ensures { GivesSeen (λ v. map view v.now) result (items_at (spot_of self.now)) }
     {

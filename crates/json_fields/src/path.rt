@@ -1,10 +1,13 @@
 //! Where in a document a value stands.
 
 ghost use Rattle.std.specs.Prelude.{◌≡◌, ◌++◌, OnOk, IfOk, string_bytes};
-ghost use Rattle.json_fields.specs.Place.{top, key, item, place_of, path_text};
-ghost use Rattle.json_fields.specs.Read.{StopsWith, refusal};
+ghost use Rattle.scenario_format.specs.Json.Place.{top, key, item, path_text};
+ghost use Rattle.json_fields.specs.Place.{place_of};
+ghost use Rattle.json_fields.specs.Read.{StopsWith};
+ghost use Rattle.scenario_format.specs.Json.Read.{refusal};
 
-use crate::refusal::{PathText, Refusal, RefusalKind, Stop};
+use crate::stop::Stop;
+use scenario_format::{PathText, Refusal, RefusalKind};
 use std::alloc::{AllocError, Global};
 
 /// The way from the document's top to a value. It takes no memory until it is wanted as a text.

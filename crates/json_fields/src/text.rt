@@ -3,8 +3,8 @@
 ghost use Rattle.std.specs.Prelude.{◌≡◌, ◌<◌, ◌≤◌, length, IfSome, IfOk, option_map};
 ghost use Rattle.std.specs.List.{list_all};
 ghost use Rattle.busdma_base.specs.Scenarios.Names as names;
-ghost use Rattle.json_fields.specs.Number as numbers;
-ghost use Rattle.json_fields.specs.Text as texts;
+ghost use Rattle.scenario_format.specs.Json.Number as numbers;
+ghost use Rattle.scenario_format.specs.Json.Text as texts;
 
 use std::alloc::{AllocError, Global};
 

@@ -4,8 +4,8 @@ use Rattle.std.proofs.Common.{◌==◌, refl, sym, ap, ◌∙◌, add-one, drop-
 use Rattle.std.proofs.Math.Dec.{eqb-suc-zero}
 use Rattle.std.proofs.Math.ListN.{drop_of_length-le}
 use Rattle.std.specs.List.{flat_map}
-use Rattle.report_text.specs.Text.{numbered}
-use Rattle.report_text.specs.Answer.{byte_text, bytes_text}
+use Rattle.program_rules.specs.Reports.Text.{numbered}
+use Rattle.program_rules.specs.Reports.Answer.{byte_text, bytes_text}
 
 module _ {A : Type 0} where
   -- the text of the next thing, and those of the rest

@@ -4,8 +4,8 @@ ghost use Rattle.std.specs.Prelude.{◌≡◌, ◌++◌, codes};
 ghost use Rattle.std.specs.List.{flat_map};
 ghost use Rattle.std.specs.Fmt.{decimal};
 ghost use Rattle.io_edge.specs.Pieces.{Gives};
-ghost use Rattle.report_text.specs.Answer as text;
-ghost use Rattle.report_text.specs.Text.{hex};
+ghost use Rattle.program_rules.specs.Reports.Answer as text;
+ghost use Rattle.program_rules.specs.Reports.Text.{hex};
 
 use crate::numbers::{push_byte, push_decimal, push_hex};
 use busdma_base::{Answer, Errno, Grown, Pa, Report, ReportName, Segment};

@@ -4,8 +4,8 @@ ghost use Rattle.std.specs.Prelude.{◌≡◌, ◌++◌, codes, slice_get};
 ghost use Rattle.std.specs.Option.{option_map};
 ghost use Rattle.busdma_base.specs.Scenarios.Operations as operations;
 ghost use Rattle.io_edge.specs.Pieces.{Gives};
-ghost use Rattle.report_text.specs.Did as text;
-ghost use Rattle.report_text.specs.Text.{hex};
+ghost use Rattle.program_rules.specs.Reports.Did as text;
+ghost use Rattle.program_rules.specs.Reports.Text.{hex};
 
 use crate::numbers::push_hex;
 use busdma_base::{Did, Item, LaneId, MapId, Object, Op, Pa, Scenario};

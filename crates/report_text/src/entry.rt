@@ -2,8 +2,8 @@
 
 ghost use Rattle.std.specs.Prelude.{◌≡◌, IfOk};
 ghost use Rattle.io_edge.specs.Pieces.{Gives};
-ghost use Rattle.report_text.specs.Text.{numbered};
-ghost use Rattle.report_text.specs.Report as text;
+ghost use Rattle.program_rules.specs.Reports.Text.{numbered};
+ghost use Rattle.program_rules.specs.Reports.Report as text;
 
 use crate::answer::push_answer;
 use crate::did::push_did;

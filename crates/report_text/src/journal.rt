@@ -5,7 +5,7 @@ ghost use Rattle.std.specs.Io.KnownBytes.{Appends};
 ghost use Rattle.io_edge.specs.Faults.{Rose};
 ghost use Rattle.io_edge.specs.Pieces.{Gives};
 ghost use Rattle.io_edge.specs.Writing.{WritesPart};
-ghost use Rattle.report_text.specs.Report as text;
+ghost use Rattle.program_rules.specs.Reports.Report as text;
 
 use crate::entry::push_entries;
 use crate::memory::{text_sink, whole_text};

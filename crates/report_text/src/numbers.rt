@@ -3,8 +3,8 @@
 ghost use Rattle.std.specs.Prelude.{◌≡◌, ◌<◌, ◌≤◌, false, drop};
 ghost use Rattle.std.specs.Fmt.{decimal, digit_glyph, digits as digits_of};
 ghost use Rattle.io_edge.specs.Pieces.{Gives};
-ghost use Rattle.report_text.specs.Answer.{byte_text};
-ghost use Rattle.report_text.specs.Text.{hex};
+ghost use Rattle.program_rules.specs.Reports.Answer.{byte_text};
+ghost use Rattle.program_rules.specs.Reports.Text.{hex};
 
 use io_edge::{Pieces, Sink};
 use itoa::Buffer;

@@ -3,8 +3,8 @@
 ghost use Rattle.std.specs.Prelude.{◌≡◌, ◌++◌, IfOk, codes};
 ghost use Rattle.std.specs.Fmt.{decimal};
 ghost use Rattle.io_edge.specs.Pieces.{Gives};
-ghost use Rattle.report_text.specs.Text.{hex};
-ghost use Rattle.report_text.specs.Zone as text;
+ghost use Rattle.program_rules.specs.Reports.Text.{hex};
+ghost use Rattle.program_rules.specs.Reports.Zone as text;
 
 use crate::memory::{text_sink, whole_text};
 use crate::numbers::{push_decimal, push_hex};

@@ -4,8 +4,8 @@ use Rattle.std.proofs.lemmas.List.Sums.{sum_by-append}
 use Rattle.busdma_base.specs.declared.scenarios.scenario.Driver.{Driver}
 use Rattle.busdma_base.specs.Scenarios.Operations.{read_by, loaded_by}
 use Rattle.busdma_base.specs.Scenarios.Valid.{read_of, loaded_of}
-use Rattle.script_fields.specs.declared.counts.Counts.{Counts}
-use Rattle.script_fields.specs.Counts.{with_ops}
+use Rattle.scenario_format.specs.declared.counts.Counts.{Counts}
+use Rattle.scenario_format.specs.Parts.Counts.{with_ops}
 
 pub read_more : (new old : Counts) (ds : List Driver) (d : Driver)
     → new ≡ with_ops old d.script → old.read ≡ read_of ds → new.read ≡ read_of (ds ++ d ∷ [])

@@ -9,17 +9,19 @@ ghost use Rattle.busdma_base.specs.Scenarios.PageRuns.{IsPageRun};
 ghost use Rattle.busdma_base.specs.Scenarios.Script.{IsScript, IsOp};
 ghost use Rattle.busdma_base.specs.Scenarios.Valid.{IsDriver, LoadsFrom, read_of, loaded_of};
 ghost use Rattle.json_fields.specs.Read.{Gives, GivesSeen};
-ghost use Rattle.json_fields.specs.Field.{spot_of, field};
-ghost use Rattle.json_fields.specs.Items.{each};
-ghost use Rattle.script_fields.specs.Counts.{IsWithin, counts_of, with_ops};
-ghost use Rattle.scenario_read.specs.Driver as driver;
+ghost use Rattle.json_fields.specs.Field.{spot_of};
+ghost use Rattle.scenario_format.specs.Json.Field.{field};
+ghost use Rattle.scenario_format.specs.Json.Items.{each};
+ghost use Rattle.script_fields.specs.Counts.{IsWithin};
+ghost use Rattle.scenario_format.specs.Parts.Counts.{counts_of, with_ops};
+ghost use Rattle.scenario_format.specs.Scenarios.Driver as driver;
 ghost use Rattle.busdma_base.specs.Scenarios.Limits.{drivers_limit, loaded_limit, reads_limit};
 
 use crate::limits::DRIVERS;
 use crate::pages::pages;
 use busdma_base::{Driver, DriverList, FrameRun, ListOf, OpList, PageRun, PageRunList};
-use json_fields::{LimitName, Node, RefusalKind, Stop};
-use script_fields::Counts;
+use json_fields::{Node, Stop};
+use scenario_format::{Counts, LimitName, RefusalKind};
 use script_read::script_of;
 use serde_json::Value;
 
@@ -35,7 +37,7 @@ fn pages_field(here: &Node, frames: &[FrameRun], earlier: &[Driver]) -> Result<P
     }
 }
 
-#[tactic(auto, unfolding(crate::specs::Driver::script_field))]
+#[tactic(auto, unfolding(scenario_format::specs::Scenarios::Driver::script_field))]
 fn script_field(here: &Node, pages: &[PageRun], counts: &mut Counts) -> Result<OpList, Stop>
     requires within { IsWithin counts.old }
     ensures value { Gives result (driver.script_field pages.now counts.old (spot_of here.now)) }
@@ -47,7 +49,7 @@ fn script_field(here: &Node, pages: &[PageRun], counts: &mut Counts) -> Result<O
     script_of(&here.required("script")?, pages, counts)
 }
 
-#[tactic(auto, unfolding(crate::specs::Driver::driver_at))]
+#[tactic(auto, unfolding(scenario_format::specs::Scenarios::Driver::driver_at))]
 fn driver(
     here: &Node,
     frames: &[FrameRun],
@@ -101,7 +103,7 @@ fn each_driver<'v>(
 }
 
 /// The drivers that stand here.
-#[tactic(auto, unfolding(crate::specs::Driver::drivers_at))]
+#[tactic(auto, unfolding(scenario_format::specs::Scenarios::Driver::drivers_at))]
 pub(crate) fn drivers(here: &Node, frames: &[FrameRun]) -> Result<DriverList, Stop>
     requires { AllByRecursion IsNumbered frames.now }
     ensures value { Gives result (driver.drivers_at frames.now (spot_of here.now)) }

@@ -8,13 +8,15 @@ ghost use Rattle.busdma_base.specs.Scenarios.FrameRuns.{is_in, overlap, frame_co
 ghost use Rattle.json_fields.specs.Place.{place_of};
 ghost use Rattle.json_fields.specs.Read.{Gives, GivesSeen};
 ghost use Rattle.json_fields.specs.Field.{spot_of};
-ghost use Rattle.json_fields.specs.Items.{each};
-ghost use Rattle.scenario_read.specs.Frames.{run_at, run_judged, frame_run_at, read_frame_runs as frames_at};
+ghost use Rattle.scenario_format.specs.Json.Items.{each};
+ghost use Rattle.scenario_format.specs.Scenarios.Frames.{run_at, run_judged, frame_run_at};
+ghost use Rattle.scenario_format.specs.Scenarios.Frames.{read_frame_runs as frames_at};
 ghost use Rattle.busdma_base.specs.Scenarios.Limits.{frames_limit};
 
 use crate::limits::{FRAME_NUMBERS, FRAMES};
 use busdma_base::{FrameRun, FrameRunList, ListOf};
-use json_fields::{LimitName, Node, RefusalKind, Stop};
+use json_fields::{Node, Stop};
+use scenario_format::{LimitName, RefusalKind};
 use serde_json::Value;
 
 /// The frame lies in the run.
@@ -24,7 +26,7 @@ pub(crate) fn is_in(frame: u64, run: &FrameRun) -> bool
     frame >= run.first && frame - run.first < run.count
 }
 
-#[tactic(auto, unfolding(crate::specs::Frames::run_at))]
+#[tactic(auto, unfolding(scenario_format::specs::Scenarios::Frames::run_at))]
 fn run(here: &Node) -> Result<FrameRun, Stop>
     ensures value { Gives result (run_at (spot_of here.now)) }
     ensures some { IfOk result (λ r. 1 ≤ r.count) }
@@ -74,7 +76,7 @@ fn judge(here: &Node, before: &[FrameRun], total: u64, run: FrameRun) -> Result<
     Ok(run)
 }
 
-#[tactic(auto, unfolding(crate::specs::Frames::frame_run_at))]
+#[tactic(auto, unfolding(scenario_format::specs::Scenarios::Frames::frame_run_at))]
 fn frame_run(here: &Node, before: &[FrameRun], total: u64) -> Result<FrameRun, Stop>
     requires sum { total ≡ frame_count before.now }
     requires few { total ≤ frames_limit }
@@ -86,7 +88,7 @@ fn frame_run(here: &Node, before: &[FrameRun], total: u64) -> Result<FrameRun, S
 }
 
 /// The machine's frames.
-#[tactic(auto, unfolding(crate::specs::Frames::read_frame_runs))]
+#[tactic(auto, unfolding(scenario_format::specs::Scenarios::Frames::read_frame_runs))]
 pub(crate) fn frames(here: &Node) -> Result<FrameRunList, Stop>
     ensures value { Gives result (frames_at (spot_of here.now)) }
     ensures valid { IfOk result (EachAfter IsFrameRun []) }

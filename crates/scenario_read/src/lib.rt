@@ -6,9 +6,7 @@ mod frames;
 mod limits;
 mod order;
 mod pages;
-mod reading;
 mod scenario;
 
-pub use json_fields::{LimitName, PathText, Refusal, RefusalKind};
-pub use reading::Reading;
 pub use scenario::{scenario_of, scenario_of_owned};
+pub use scenario_format::{LimitName, PathText, Reading, Refusal, RefusalKind};

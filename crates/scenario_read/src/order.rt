@@ -5,13 +5,14 @@ ghost use Rattle.std.specs.List.{AllByRecursion};
 ghost use Rattle.serde_json.specs.View.{view};
 ghost use Rattle.json_fields.specs.Read.{Gives, GivesSeen};
 ghost use Rattle.json_fields.specs.Field.{spot_of};
-ghost use Rattle.json_fields.specs.Items.{each};
-ghost use Rattle.scenario_read.specs.Order as order;
+ghost use Rattle.scenario_format.specs.Json.Items.{each};
+ghost use Rattle.scenario_format.specs.Scenarios.Order as order;
 ghost use Rattle.busdma_base.specs.Scenarios.Limits.{order_limit};
 
 use crate::limits::ORDER;
 use busdma_base::{Actor, ActorList, LaneId, ListOf, Side};
-use json_fields::{LimitName, Node, RefusalKind, Stop};
+use json_fields::{Node, Stop};
+use scenario_format::{LimitName, RefusalKind};
 use serde_json::Value;
 
 fn side_of(letter: u8) -> Option<Side>
@@ -76,7 +77,7 @@ fn actor_of(drivers: u32, text: &[u8]) -> Option<Actor>
     Some(Actor { lane, side })
 }
 
-#[tactic(auto, unfolding(crate::specs::Order::actor_at))]
+#[tactic(auto, unfolding(scenario_format::specs::Scenarios::Order::actor_at))]
 fn actor(here: &Node, drivers: u32) -> Result<Actor, Stop>
     ensures value { Gives result (order.actor_at drivers (spot_of here.now)) }
     ensures there { IfOk result (λ a. a.lane.0 < drivers) }
@@ -101,7 +102,7 @@ fn actors<'v>(here: &'v Node<'v>, items: &'v [Value], drivers: u32) -> Result<Ve
     Ok(actors)
 }
 
-#[tactic(auto, unfolding(crate::specs::Order::order_at))]
+#[tactic(auto, unfolding(scenario_format::specs::Scenarios::Order::order_at))]
 fn order(here: &Node, drivers: u32) -> Result<ActorList, Stop>
     ensures value { Gives result (order.order_at drivers (spot_of here.now)) }
     ensures count { IfOk result (λ v. length v ≤ order_limit) }
@@ -115,7 +116,7 @@ fn order(here: &Node, drivers: u32) -> Result<ActorList, Stop>
 }
 
 /// The order of a scenario of so many drivers.
-#[tactic(auto, unfolding(crate::specs::Order::order_field))]
+#[tactic(auto, unfolding(scenario_format::specs::Scenarios::Order::order_field))]
 pub(crate) fn order_field(here: &Node, drivers: u32) -> Result<ActorList, Stop>
     ensures value { Gives result (order.order_field drivers (spot_of here.now)) }
     ensures count { IfOk result (λ v. length v ≤ order_limit) }

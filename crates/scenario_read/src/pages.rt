@@ -10,20 +10,22 @@ ghost use Rattle.busdma_machine.specs.Runs as runs;
 ghost use Rattle.json_fields.specs.Place.{place_of};
 ghost use Rattle.json_fields.specs.Read.{Gives, GivesSeen};
 ghost use Rattle.json_fields.specs.Field.{spot_of};
-ghost use Rattle.json_fields.specs.Items.{each};
-ghost use Rattle.scenario_read.specs.Pages.{IsOnPages, page_values_at, page_run_judged};
-ghost use Rattle.scenario_read.specs.Pages.{page_run_at, pages_at};
+ghost use Rattle.scenario_format.specs.Json.Items.{each};
+ghost use Rattle.scenario_read.specs.Pages.{IsOnPages};
+ghost use Rattle.scenario_format.specs.Scenarios.Pages.{page_values_at, page_run_judged};
+ghost use Rattle.scenario_format.specs.Scenarios.Pages.{page_run_at, pages_at};
 
 use crate::frames::is_in;
 use busdma_base::{Driver, FrameRun, ListOf, PageRun, PageRunList, Va};
 use busdma_machine::PAGE_SIZE;
-use json_fields::{Node, RefusalKind, Stop};
+use json_fields::{Node, Stop};
+use scenario_format::RefusalKind;
 use serde_json::Value;
 
 /// Where the virtual addresses of pages end.
 const PAGES_END: u64 = 0xfffff80000000000;
 
-#[tactic(auto, unfolding(crate::specs::Pages::page_values_at))]
+#[tactic(auto, unfolding(scenario_format::specs::Scenarios::Pages::page_values_at))]
 fn page_values(here: &Node) -> Result<PageRun, Stop>
     ensures value { Gives result (page_values_at (spot_of here.now)) }
     ensures on_pages { IfOk result IsOnPages }
@@ -129,7 +131,7 @@ fn judge(
     Ok(run)
 }
 
-#[tactic(auto, unfolding(crate::specs::Pages::page_run_at))]
+#[tactic(auto, unfolding(scenario_format::specs::Scenarios::Pages::page_run_at))]
 fn page_run(
     here: &Node,
     frames: &[FrameRun],
@@ -146,7 +148,7 @@ fn page_run(
 }
 
 /// A driver's pages.
-#[tactic(auto, unfolding(crate::specs::Pages::pages_at))]
+#[tactic(auto, unfolding(scenario_format::specs::Scenarios::Pages::pages_at))]
 pub(crate) fn pages(
     here: &Node,
     frames: &[FrameRun],

@@ -10,20 +10,20 @@ ghost use Rattle.json_fields.specs.Read.{Gives};
 ghost use Rattle.json_fields.specs.Field.{spot_of};
 ghost use Rattle.busdma_base.specs.Scenarios.Limits.{bpages_limit, drivers_limit};
 ghost use Rattle.busdma_base.specs.Scenarios.Limits.{reads_limit, loaded_limit};
-ghost use Rattle.scenario_read.specs.Scenario as scenario;
+ghost use Rattle.scenario_format.specs.Scenarios.Scenario as scenario;
 ghost use Rattle.scenario_read.specs.Scenario.{IsValidIfGood};
 
 use crate::driver::drivers;
 use crate::frames::frames;
 use crate::limits::MAX_BPAGES;
 use crate::order::order_field;
-use crate::reading::Reading;
 use busdma_base::{DriverList, FrameRun, FrameRunList, Scenario};
-use json_fields::{LimitName, Node, Path, RefusalKind, Stop};
+use json_fields::{Node, Path, Stop};
+use scenario_format::{LimitName, Reading, RefusalKind};
 use serde_json::Value;
 use std::alloc::{AllocError, Global};
 
-#[tactic(auto, unfolding(crate::specs::Scenario::bpages_field))]
+#[tactic(auto, unfolding(scenario_format::specs::Scenarios::Scenario::bpages_field))]
 fn bpages_field(here: &Node) -> Result<u32, Stop>
     ensures value { Gives result (scenario.bpages_field (spot_of here.now)) }
     ensures some { IfOk result (λ n. 1 ≤ n) }
@@ -36,7 +36,7 @@ fn bpages_field(here: &Node) -> Result<u32, Stop>
     Ok(most as u32)
 }
 
-#[tactic(auto, unfolding(crate::specs::Scenario::read_frames_field))]
+#[tactic(auto, unfolding(scenario_format::specs::Scenarios::Scenario::read_frames_field))]
 fn frames_field(here: &Node) -> Result<FrameRunList, Stop>
     ensures value { Gives result (scenario.read_frames_field (spot_of here.now)) }
     ensures valid { IfOk result (EachAfter IsFrameRun []) }
@@ -45,7 +45,7 @@ fn frames_field(here: &Node) -> Result<FrameRunList, Stop>
     frames(&here.required("frames")?)
 }
 
-#[tactic(auto, unfolding(crate::specs::Scenario::drivers_field))]
+#[tactic(auto, unfolding(scenario_format::specs::Scenarios::Scenario::drivers_field))]
 fn drivers_field(here: &Node, frames: &[FrameRun]) -> Result<DriverList, Stop>
     requires { AllByRecursion IsNumbered frames.now }
     ensures value { Gives result (scenario.drivers_field frames.now (spot_of here.now)) }
@@ -57,7 +57,7 @@ fn drivers_field(here: &Node, frames: &[FrameRun]) -> Result<DriverList, Stop>
     drivers(&here.required("drivers")?, frames)
 }
 
-#[tactic(auto, unfolding(crate::specs::Scenario::scenario_at))]
+#[tactic(auto, unfolding(scenario_format::specs::Scenarios::Scenario::scenario_at))]
 fn scenario(here: &Node) -> Result<Scenario, Stop>
     ensures value { Gives result (scenario.scenario_at (spot_of here.now)) }
     ensures valid { IfOk result IsValid }
@@ -116,7 +116,7 @@ fn reading_of(alloc: Global, document: &Option<Value>) -> Result<Reading, AllocE
 }
 
 /// What the bytes say: a valid scenario, or the first refusal. The only error is that memory ran out.
-#[tactic(auto, unfolding(crate::specs::Scenario::scenario_of))]
+#[tactic(auto, unfolding(scenario_format::specs::Scenarios::Scenario::scenario_of))]
 pub fn scenario_of(alloc: Global, bytes: &[u8]) -> Result<Reading, AllocError>
     ensures value { IfOk result (λ r. r ≡ scenario.scenario_of bytes.now) }
     ensures valid { IfOk result IsValidIfGood }
@@ -126,7 +126,7 @@ pub fn scenario_of(alloc: Global, bytes: &[u8]) -> Result<Reading, AllocError>
 }
 
 /// The same of bytes that nobody needs afterwards: they are freed before the scenario takes memory.
-#[tactic(auto, unfolding(crate::specs::Scenario::scenario_of))]
+#[tactic(auto, unfolding(scenario_format::specs::Scenarios::Scenario::scenario_of))]
 pub fn scenario_of_owned(alloc: Global, bytes: Vec<u8>) -> Result<Reading, AllocError>
     ensures value { IfOk result (λ r. r ≡ scenario.scenario_of bytes.items) }
     ensures valid { IfOk result IsValidIfGood }

@@ -5,7 +5,7 @@ use Rattle.std.proofs.Math.Bool.{or-true}
 use Rattle.std.specs.List.{list_any}
 use Rattle.std.specs.Option.{option_map_or}
 use Rattle.busdma_base.specs.declared.scenarios.script.Op.{Op}
-use Rattle.script_fields.specs.Names.{first_operation_place as first_place}
+use Rattle.scenario_format.specs.Parts.Names.{first_operation_place as first_place}
 
 -- the operation at a place passes the test
 abbrev pub passes : (Op → Bool) → List Op → ℕ → Bool

@@ -12,7 +12,7 @@ use Rattle.busdma_base.specs.declared.scenarios.script.Op.{Op}
 use Rattle.busdma_base.specs.Scenarios.Names.{MakesNewName, accepts, makes, makes_for, makes_used}
 use Rattle.busdma_base.specs.Scenarios.Operations.{Made, about}
 use Rattle.script_fields.specs.NamedOps.{IsIndex, IsMadeAt}
-use Rattle.script_fields.specs.Names.{first_operation_place as first_place}
+use Rattle.scenario_format.specs.Parts.Names.{first_operation_place as first_place}
 use Rattle.script_fields.proofs.FirstPlaces.{passes, none_passes, one_passes, any_passes}
 use Rattle.script_fields.proofs.FirstPlaces.{last_passes, still_passes, end_passes, one_of_them}
 

@@ -1,57 +1,18 @@
--- What is counted for the limits: the steps of a script, and the bytes that all scripts read and load.
-use Rattle.std.specs.Prelude.{◌≡◌, ℕ, ◌+◌, ◌≤◌, List, length, sum_by, None, Ok, if◌then◌else◌, nat_lt, ⊤}
+-- What counts keep, and what one operation adds to them.
+use Rattle.std.specs.Prelude.{◌≡◌, ℕ, ◌+◌, ◌≤◌, length, None}
 use Rattle.busdma_base.specs.declared.scenarios.script.Op.{Op}
-use Rattle.busdma_base.specs.declared.scenarios.script.Item.{Item}
-use Rattle.busdma_base.specs.declared.scenarios.scenario.Driver.{Driver}
-use Rattle.busdma_base.specs.Scenarios.Limits.{access_limit}
-use Rattle.busdma_base.specs.Scenarios.Operations.{about, items_of, read_by, read_by_item, loaded_by}
-use Rattle.busdma_base.specs.Scenarios.Script.{steps_of}
-use Rattle.busdma_base.specs.Scenarios.Valid.{read_of, loaded_of}
-use Rattle.json_fields.specs.Place.{DocumentPlace}
-use Rattle.json_fields.specs.Read.{Read, ◌>>=◌, refuse}
-use Rattle.json_fields.specs.declared.refusal.RefusalKind.TheVariants.{Limit}
-use Rattle.json_fields.specs.declared.refusal.LimitName.TheVariants as limit
-use Rattle.script_fields.specs.declared.counts.Counts.{Counts}
-use Rattle.busdma_base.specs.Scenarios.Limits.{steps_limit, reads_limit, buffer_limit, loaded_limit}
-
--- before the script of the next driver
-abbrev pub counts_of : List Driver → Counts
-counts_of earlier = record { steps = 0; read = read_of earlier; loaded = loaded_of earlier }
-
--- behind operations
-abbrev pub with_ops : Counts → List Op → Counts
-with_ops c ops =
-    record {
-      steps = c.steps + steps_of ops;
-      read = c.read + sum_by read_by ops;
-      loaded = c.loaded + sum_by loaded_by ops;
-    }
+use Rattle.busdma_base.specs.Scenarios.Operations.{about, items_of, read_by, loaded_by}
+use Rattle.scenario_format.specs.declared.counts.Counts.{Counts}
+use Rattle.busdma_base.specs.Scenarios.Limits.{steps_limit, reads_limit, loaded_limit}
 
 -- behind an operation whose own step is counted already
 abbrev pub with_op : Counts → Op → Counts
 with_op c o =
     record { steps = c.steps + length (items_of o); read = c.read + read_by o; loaded = c.loaded + loaded_by o }
 
--- behind items
-abbrev pub with_items : Counts → List Item → Counts
-with_items c items =
-    record { steps = c.steps + length items; read = c.read + sum_by read_by_item items; loaded = c.loaded }
-
--- behind n more steps
-abbrev pub having_stepped : Counts → ℕ → Counts
-having_stepped c n = record { steps = c.steps + n; read = c.read; loaded = c.loaded }
-
--- behind one more step
-abbrev pub one_step_counted : Counts → Counts
-one_step_counted c = having_stepped c 1
-
 -- behind n more bytes that are read
 abbrev pub having_read : Counts → ℕ → Counts
 having_read c n = record { steps = c.steps; read = c.read + n; loaded = c.loaded }
-
--- behind n more bytes that are loaded
-abbrev pub having_loaded : Counts → ℕ → Counts
-having_loaded c n = record { steps = c.steps; read = c.read; loaded = c.loaded + n }
 
 -- what is counted keeps the limits
 pub record IsWithin (c : Counts) : Type 0 where
@@ -64,24 +25,3 @@ pub record IsQuiet (o : Op) : Type 0 where
   pub no_items : length (items_of o) ≡ 0
   pub reads_nothing : read_by o ≡ 0
   pub loads_nothing : (about o).loads ≡ None
-
--- n more steps of the script
-abbrev pub steps_judged : Counts → ℕ → DocumentPlace → Read ⊤
-steps_judged c n place = if nat_lt steps_limit (c.steps + n) then refuse (Limit limit.Steps) place else Ok tt
-
--- an access of n bytes
-abbrev pub access_judged : ℕ → DocumentPlace → Read ⊤
-access_judged n place = if nat_lt access_limit n then refuse (Limit limit.Access) place else Ok tt
-
--- a read of n bytes, which is an access too
-abbrev pub read_judged : Counts → ℕ → DocumentPlace → Read ⊤
-read_judged c n place =
-    access_judged n place >>= (λ _.
-    if nat_lt reads_limit (c.read + n) then refuse (Limit limit.Reads) place else Ok tt)
-
--- a load of n bytes, which count as m for the limit on all loads
-abbrev pub load_counted : Counts → ℕ → ℕ → DocumentPlace → Read ⊤
-load_counted c n m place =
-    if nat_lt buffer_limit n then refuse (Limit limit.Buffer) place
-    else (if nat_lt loaded_limit (c.loaded + m) then refuse (Limit limit.Loaded) place
-    else Ok tt)

@@ -1,11 +1,2 @@
-pub mod Bios
-pub mod Bytes
 pub mod Counts
-pub mod Flags
 pub mod NamedOps
-pub mod Names
-pub mod Numbers
-pub mod Places
-pub mod Spans
-pub mod Syncs
-pub mod Words

@@ -8,23 +8,16 @@ ghost use Rattle.busdma_base.specs.Scenarios.PageRuns as base;
 ghost use Rattle.busdma_base.specs.Scenarios.Buffers.{IsBioOf, bio_entries};
 ghost use Rattle.busdma_base.specs.Scenarios.Limits.{entries_limit};
 ghost use Rattle.json_fields.specs.Field.{spot_of};
-ghost use Rattle.json_fields.specs.Items.{each};
+ghost use Rattle.scenario_format.specs.Json.Items.{each};
 ghost use Rattle.json_fields.specs.Read.{Gives, GivesSeen};
-ghost use Rattle.script_fields.specs.Bios as bios;
+ghost use Rattle.scenario_format.specs.Parts.Bios as bios;
 
 use crate::spans::{entries, entries_field, span_fields};
 use busdma_base::{Bio, ListOf, PageRun};
 use busdma_machine::PAGE_SIZE;
-use json_fields::{Node, RefusalKind, Stop};
+use json_fields::{Node, Stop};
+use scenario_format::{BioKind, RefusalKind};
 use serde_json::Value;
-
-/// How the bytes of a bio are given.
-#[derive(Clone, Copy, Debug)]
-pub(crate) enum BioKind {
-    Mapped,
-    Vector,
-    Unmapped,
-}
 
 /// The frame is one of the driver's pages.
 fn has_frame(pages: &[PageRun], frame: u64) -> bool
@@ -35,7 +28,7 @@ fn has_frame(pages: &[PageRun], frame: u64) -> bool
         .any(|run| frame >= run.frame && frame - run.frame < run.count)
 }
 
-#[tactic(auto, unfolding(crate::specs::Bios::read_bio_frame))]
+#[tactic(auto, unfolding(scenario_format::specs::Parts::Bios::read_bio_frame))]
 fn frame(here: &Node, pages: &[PageRun]) -> Result<u64, Stop>
     ensures value { Gives result (bios.read_bio_frame pages.now (spot_of here.now)) }
     ensures own { IfOk result (λ frame. base.has_frame pages.now frame ≡ true) }
@@ -66,7 +59,7 @@ fn each_frame<'v>(
     Ok(frames)
 }
 
-#[tactic(auto, unfolding(crate::specs::Bios::read_bio_frames))]
+#[tactic(auto, unfolding(scenario_format::specs::Parts::Bios::read_bio_frames))]
 fn frames(here: &Node, pages: &[PageRun]) -> Result<ListOf<u64>, Stop>
     ensures value { Gives result (bios.read_bio_frames pages.now (spot_of here.now)) }
     ensures own { IfOk result (AllByRecursion (λ frame. base.has_frame pages.now frame ≡ true)) }
@@ -76,7 +69,7 @@ fn frames(here: &Node, pages: &[PageRun]) -> Result<ListOf<u64>, Stop>
     Ok(ListOf::new(each_frame(here, items, pages)?))
 }
 
-#[tactic(auto, unfolding(crate::specs::Bios::read_bio_frames_field))]
+#[tactic(auto, unfolding(scenario_format::specs::Parts::Bios::read_bio_frames_field))]
 fn frames_field(here: &Node, pages: &[PageRun]) -> Result<ListOf<u64>, Stop>
     ensures value { Gives result (bios.read_bio_frames_field pages.now (spot_of here.now)) }
     ensures own { IfOk result (AllByRecursion (λ frame. base.has_frame pages.now frame ≡ true)) }
@@ -86,7 +79,7 @@ fn frames_field(here: &Node, pages: &[PageRun]) -> Result<ListOf<u64>, Stop>
 }
 
 /// Where in its first frame an unmapped bio begins.
-#[tactic(auto, unfolding(crate::specs::Bios::off_at))]
+#[tactic(auto, unfolding(scenario_format::specs::Parts::Bios::off_at))]
 fn off(here: &Node) -> Result<u64, Stop>
     ensures value { Gives result (bios.off_at (spot_of here.now)) }
     ensures within { IfOk result (λ off. off < 4096) }
@@ -110,7 +103,7 @@ fn kind_of(word: &str) -> Option<BioKind>
     }
 }
 
-#[tactic(auto, unfolding(crate::specs::Bios::kind_at))]
+#[tactic(auto, unfolding(scenario_format::specs::Parts::Bios::kind_at))]
 fn kind(here: &Node) -> Result<BioKind, Stop>
     ensures { Gives result (bios.kind_at (spot_of here.now)) }
 {
@@ -120,7 +113,7 @@ fn kind(here: &Node) -> Result<BioKind, Stop>
     }
 }
 
-#[tactic(auto, unfolding(crate::specs::Bios::mapped_at))]
+#[tactic(auto, unfolding(scenario_format::specs::Parts::Bios::mapped_at))]
 fn mapped(here: &Node) -> Result<Bio, Stop>
     ensures value { Gives result (bios.mapped_at (spot_of here.now)) }
     ensures own { IfOk result (λ b. (pages : List PageRun) → IsBioOf pages b) }
@@ -131,7 +124,7 @@ fn mapped(here: &Node) -> Result<Bio, Stop>
     Ok(Bio::Mapped(span))
 }
 
-#[tactic(auto, unfolding(crate::specs::Bios::vector_at))]
+#[tactic(auto, unfolding(scenario_format::specs::Parts::Bios::vector_at))]
 fn vector(here: &Node) -> Result<Bio, Stop>
     ensures value { Gives result (bios.vector_at (spot_of here.now)) }
     ensures own { IfOk result (λ b. (pages : List PageRun) → IsBioOf pages b) }
@@ -142,7 +135,7 @@ fn vector(here: &Node) -> Result<Bio, Stop>
     Ok(Bio::Vector(spans))
 }
 
-#[tactic(auto, unfolding(crate::specs::Bios::unmapped_at))]
+#[tactic(auto, unfolding(scenario_format::specs::Parts::Bios::unmapped_at))]
 fn unmapped(here: &Node, pages: &[PageRun]) -> Result<Bio, Stop>
     ensures value { Gives result (bios.unmapped_at pages.now (spot_of here.now)) }
     ensures own { IfOk result (IsBioOf pages.now) }
@@ -168,7 +161,7 @@ fn bio_by(kind: BioKind, here: &Node, pages: &[PageRun]) -> Result<Bio, Stop>
     }
 }
 
-#[tactic(auto, unfolding(crate::specs::Bios::read_bio))]
+#[tactic(auto, unfolding(scenario_format::specs::Parts::Bios::read_bio))]
 fn bio(here: &Node, pages: &[PageRun]) -> Result<Bio, Stop>
     ensures value { Gives result (bios.read_bio pages.now (spot_of here.now)) }
     ensures own { IfOk result (IsBioOf pages.now) }
@@ -180,7 +173,7 @@ fn bio(here: &Node, pages: &[PageRun]) -> Result<Bio, Stop>
 }
 
 /// The bio in `bio`, whose frames are of the driver's pages.
-#[tactic(auto, unfolding(crate::specs::Bios::bio_field))]
+#[tactic(auto, unfolding(scenario_format::specs::Parts::Bios::bio_field))]
 pub fn bio_field(here: &Node, pages: &[PageRun]) -> Result<Bio, Stop>
     ensures value { Gives result (bios.bio_field pages.now (spot_of here.now)) }
     ensures own { IfOk result (IsBioOf pages.now) }

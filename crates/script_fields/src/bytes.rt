@@ -4,14 +4,15 @@ ghost use Rattle.std.specs.Prelude.{◌≡◌, length, IfOk};
 ghost use Rattle.busdma_base.specs.Scenarios.Operations.{bytes_of};
 ghost use Rattle.json_fields.specs.Read.{Gives};
 ghost use Rattle.json_fields.specs.Field.{spot_of};
-ghost use Rattle.script_fields.specs.Bytes as bytes;
+ghost use Rattle.scenario_format.specs.Parts.Bytes as bytes;
 
 use crate::numbers::byte_field;
 use busdma_base::Bytes;
-use json_fields::{Node, RefusalKind, Stop};
+use json_fields::{Node, Stop};
+use scenario_format::RefusalKind;
 
 /// Bytes by `hex`.
-#[tactic(auto, unfolding(crate::specs::Bytes::listed_at))]
+#[tactic(auto, unfolding(scenario_format::specs::Parts::Bytes::listed_at))]
 fn listed(hex: &Node) -> Result<Bytes, Stop>
     ensures { Gives result (bytes.listed_at (spot_of hex.now)) }
 {
@@ -19,7 +20,7 @@ fn listed(hex: &Node) -> Result<Bytes, Stop>
 }
 
 /// One byte, `len` times.
-#[tactic(auto, unfolding(crate::specs::Bytes::filled_at))]
+#[tactic(auto, unfolding(scenario_format::specs::Parts::Bytes::filled_at))]
 fn filled(here: &Node) -> Result<Bytes, Stop>
     ensures { Gives result (bytes.filled_at (spot_of here.now)) }
 {
@@ -29,7 +30,7 @@ fn filled(here: &Node) -> Result<Bytes, Stop>
 }
 
 /// What an operation writes: `hex`, or `fill` with `len`.
-#[tactic(auto, unfolding(crate::specs::Bytes::read_written))]
+#[tactic(auto, unfolding(scenario_format::specs::Parts::Bytes::read_written))]
 pub fn written_bytes(here: &Node) -> Result<Bytes, Stop>
     ensures { Gives result (bytes.read_written (spot_of here.now)) }
 {

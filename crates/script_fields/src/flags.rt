@@ -9,21 +9,13 @@ ghost use Rattle.busdma_rules.specs.Tags.MemFlags.{mem_table};
 ghost use Rattle.busdma_rules.specs.Tags.SyncOps.{sync_table};
 ghost use Rattle.json_fields.specs.Read.{Gives};
 ghost use Rattle.json_fields.specs.Field.{spot_of};
-ghost use Rattle.script_fields.specs.Flags as flags;
+ghost use Rattle.scenario_format.specs.Parts.Flags as flags;
 
 use bitflags::Flags;
 use dma_tag::{LoadFlags, MemFlags, SyncOps, TagFlags};
-use json_fields::{Node, RefusalKind, Stop};
+use json_fields::{Node, Stop};
+use scenario_format::{FlagSet, RefusalKind};
 use serde_json::Value;
-
-/// Whose flags they are.
-#[derive(Clone, Copy, Debug)]
-pub enum FlagSet {
-    Tag,
-    Load,
-    Memory,
-    Sync,
-}
 
 /// The bits of a word. WAITOK adds none to the flags of a tag, a load or a memory.
 fn word_bits(set: FlagSet, word: &str) -> Option<u32>
@@ -40,7 +32,7 @@ fn word_bits(set: FlagSet, word: &str) -> Option<u32>
     }
 }
 
-#[tactic(auto, unfolding(crate::specs::Flags::flag_at))]
+#[tactic(auto, unfolding(scenario_format::specs::Parts::Flags::flag_at))]
 fn flag(here: &Node, set: FlagSet) -> Result<u32, Stop>
     ensures { Gives result (flags.flag_at set (spot_of here.now)) }
 {
@@ -63,7 +55,7 @@ fn union<'v>(here: &'v Node<'v>, set: FlagSet, items: &'v [Value]) -> Result<u32
 }
 
 /// The bits of all words of a list.
-#[tactic(auto, unfolding(crate::specs::Flags::flags_at))]
+#[tactic(auto, unfolding(scenario_format::specs::Parts::Flags::flags_at))]
 fn flags_here(here: &Node, set: FlagSet) -> Result<u32, Stop>
     ensures { Gives result (flags.flags_at set (spot_of here.now)) }
 {
@@ -72,7 +64,7 @@ fn flags_here(here: &Node, set: FlagSet) -> Result<u32, Stop>
 }
 
 /// The flags of a tag, a load or a memory.
-#[tactic(auto, unfolding(crate::specs::Flags::flags_field))]
+#[tactic(auto, unfolding(scenario_format::specs::Parts::Flags::flags_field))]
 pub fn flags_field(here: &Node, set: FlagSet) -> Result<u32, Stop>
     ensures { Gives result (flags.flags_field set (spot_of here.now)) }
 {
@@ -83,7 +75,7 @@ pub fn flags_field(here: &Node, set: FlagSet) -> Result<u32, Stop>
 }
 
 /// The operations of a sync.
-#[tactic(auto, unfolding(crate::specs::Flags::ops_field))]
+#[tactic(auto, unfolding(scenario_format::specs::Parts::Flags::ops_field))]
 pub(crate) fn ops_field(here: &Node) -> Result<u32, Stop>
     ensures { Gives result (flags.ops_field (spot_of here.now)) }
 {

@@ -7,7 +7,7 @@ ghost use Rattle.std.specs.List.{list_any};
 ghost use Rattle.std.specs.Option.{option_map_or};
 ghost use Rattle.busdma_base.specs.Scenarios.Names as base;
 ghost use Rattle.busdma_base.specs.Scenarios.Operations.{about};
-ghost use Rattle.script_fields.specs.Names as names;
+ghost use Rattle.scenario_format.specs.Parts.Names as names;
 
 use busdma_base::{NameUse, Op};
 use std::alloc::{AllocError, Global};

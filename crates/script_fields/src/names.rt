@@ -5,15 +5,17 @@ ghost use Rattle.std.specs.List.{AllByRecursion};
 ghost use Rattle.busdma_base.specs.Scenarios.Names as base;
 ghost use Rattle.busdma_base.specs.Scenarios.Operations.{parents};
 ghost use Rattle.json_fields.specs.Read.{Gives};
-ghost use Rattle.json_fields.specs.Field.{spot_of, field};
-ghost use Rattle.script_fields.specs.Names as names;
+ghost use Rattle.json_fields.specs.Field.{spot_of};
+ghost use Rattle.scenario_format.specs.Json.Field.{field};
+ghost use Rattle.scenario_format.specs.Parts.Names as names;
 
 use crate::named_ops::NamedOps;
 use busdma_base::{Name, NameUse};
-use json_fields::{Node, RefusalKind, Stop};
+use json_fields::{Node, Stop};
+use scenario_format::RefusalKind;
 
 /// The name at a key, which no operation before made. One that was made is refused.
-#[tactic(auto, unfolding(crate::specs::Names::new_name))]
+#[tactic(auto, unfolding(scenario_format::specs::Parts::Names::new_name))]
 pub fn new_name<'v>(here: &'v Node<'v>, field: &'v str, before: &NamedOps) -> Result<Name, Stop>
     ensures value { Gives result (names.new_name field.now before.now (spot_of here.now)) }
     ensures new { IfOk result (base.IsNewName before.now) }
@@ -26,7 +28,7 @@ pub fn new_name<'v>(here: &'v Node<'v>, field: &'v str, before: &NamedOps) -> Re
 }
 
 /// The place of the operation before that made the name that stands here, as a thing that can be used so.
-#[tactic(auto, unfolding(crate::specs::Names::used_at))]
+#[tactic(auto, unfolding(scenario_format::specs::Parts::Names::used_at))]
 pub(crate) fn used(here: &Node, used_as: NameUse, before: &NamedOps) -> Result<u32, Stop>
     ensures value { Gives result (names.used_at used_as before.now (spot_of here.now)) }
     ensures made { IfOk result (λ place. base.IsMade before.now (record { used_as = used_as; made_at = place })) }
@@ -39,7 +41,7 @@ pub(crate) fn used(here: &Node, used_as: NameUse, before: &NamedOps) -> Result<u
 
 /// The place of the operation before that made the name at a key, as a thing that can be used so. A name of no such
 /// operation is refused.
-#[tactic(auto, unfolding(crate::specs::Names::used_name))]
+#[tactic(auto, unfolding(scenario_format::specs::Parts::Names::used_name))]
 pub fn used_name<'v>(
     here: &'v Node<'v>,
     used_as: NameUse,

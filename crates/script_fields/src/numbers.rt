@@ -1,12 +1,14 @@
 //! Numbers of fewer bits than a scenario's numbers have.
 
 ghost use Rattle.std.specs.Prelude.{◌^◌};
-ghost use Rattle.json_fields.specs.Place.{key, place_of};
+ghost use Rattle.scenario_format.specs.Json.Place.{key};
+ghost use Rattle.json_fields.specs.Place.{place_of};
 ghost use Rattle.json_fields.specs.Read.{Gives};
 ghost use Rattle.json_fields.specs.Field.{spot_of};
-ghost use Rattle.script_fields.specs.Numbers as numbers;
+ghost use Rattle.scenario_format.specs.Parts.Numbers as numbers;
 
-use json_fields::{Node, RefusalKind, Stop};
+use json_fields::{Node, Stop};
+use scenario_format::RefusalKind;
 
 // The number that stands at a key, where it has 32 bits.
 fn short(here: &Node, name: &str, n: u64) -> Result<u32, Stop>
@@ -19,7 +21,7 @@ fn short(here: &Node, name: &str, n: u64) -> Result<u32, Stop>
 }
 
 /// The number of 32 bits at a key.
-#[tactic(auto, unfolding(crate::specs::Numbers::short_field))]
+#[tactic(auto, unfolding(scenario_format::specs::Parts::Numbers::short_field))]
 pub fn short_field(here: &Node, name: &str) -> Result<u32, Stop>
     ensures { Gives result (numbers.short_field name.now (spot_of here.now)) }
 {
@@ -28,7 +30,7 @@ pub fn short_field(here: &Node, name: &str) -> Result<u32, Stop>
 }
 
 /// The number of 32 bits at a key, or a default where there is none.
-#[tactic(auto, unfolding(crate::specs::Numbers::short_or))]
+#[tactic(auto, unfolding(scenario_format::specs::Parts::Numbers::short_or))]
 pub fn short_or(here: &Node, name: &str, default: u64) -> Result<u32, Stop>
     ensures { Gives result (numbers.short_or name.now default (spot_of here.now)) }
 {
@@ -47,7 +49,7 @@ fn byte(here: &Node, name: &str, n: u64) -> Result<u8, Stop>
 }
 
 /// The byte that is given as a number at a key.
-#[tactic(auto, unfolding(crate::specs::Numbers::byte_field))]
+#[tactic(auto, unfolding(scenario_format::specs::Parts::Numbers::byte_field))]
 pub fn byte_field(here: &Node, name: &str) -> Result<u8, Stop>
     ensures { Gives result (numbers.byte_field name.now (spot_of here.now)) }
 {
@@ -56,7 +58,7 @@ pub fn byte_field(here: &Node, name: &str) -> Result<u8, Stop>
 }
 
 /// The byte that is given as a number at a key, or a default where there is none.
-#[tactic(auto, unfolding(crate::specs::Numbers::byte_or))]
+#[tactic(auto, unfolding(scenario_format::specs::Parts::Numbers::byte_or))]
 pub fn byte_or(here: &Node, name: &str, default: u64) -> Result<u8, Stop>
     ensures { Gives result (numbers.byte_or name.now default (spot_of here.now)) }
 {

@@ -7,15 +7,16 @@ ghost use Rattle.busdma_base.specs.Scenarios.Names.{IsMade};
 ghost use Rattle.busdma_base.specs.Scenarios.Operations.{place_within};
 ghost use Rattle.json_fields.specs.Read.{Gives};
 ghost use Rattle.json_fields.specs.Field.{spot_of};
-ghost use Rattle.script_fields.specs.Places as places;
+ghost use Rattle.scenario_format.specs.Parts.Places as places;
 
 use crate::named_ops::NamedOps;
 use crate::names::used;
 use busdma_base::{NameUse, Place, Va};
-use json_fields::{Node, RefusalKind, Stop};
+use json_fields::{Node, Stop};
+use scenario_format::RefusalKind;
 
 /// The virtual address that stands here.
-#[tactic(auto, unfolding(crate::specs::Places::address_at))]
+#[tactic(auto, unfolding(scenario_format::specs::Parts::Places::address_at))]
 fn address(va: &Node) -> Result<Place, Stop>
     ensures value { Gives result (places.address_at (spot_of va.now)) }
     ensures within { IfOk result (λ p. place_within p ≡ []) }
@@ -25,7 +26,7 @@ fn address(va: &Node) -> Result<Place, Stop>
 }
 
 /// The first byte of the memory that is named here.
-#[tactic(auto, unfolding(crate::specs::Places::begin_at))]
+#[tactic(auto, unfolding(scenario_format::specs::Parts::Places::begin_at))]
 fn begin(mem: &Node, before: &NamedOps) -> Result<Place, Stop>
     ensures value { Gives result (places.begin_at before.now (spot_of mem.now)) }
     ensures within { IfOk result (λ p. AllByRecursion (IsMade before.now) (place_within p)) }
@@ -36,7 +37,7 @@ fn begin(mem: &Node, before: &NamedOps) -> Result<Place, Stop>
 }
 
 /// `off` bytes behind it.
-#[tactic(auto, unfolding(crate::specs::Places::behind_begin_at))]
+#[tactic(auto, unfolding(scenario_format::specs::Parts::Places::behind_begin_at))]
 fn behind_begin(mem: &Node, here: &Node, before: &NamedOps) -> Result<Place, Stop>
     ensures value { Gives result (places.behind_begin_at before.now (spot_of mem.now) (spot_of here.now)) }
     ensures within { IfOk result (λ p. AllByRecursion (IsMade before.now) (place_within p)) }
@@ -47,7 +48,7 @@ fn behind_begin(mem: &Node, here: &Node, before: &NamedOps) -> Result<Place, Sto
 }
 
 /// Where an access of the driver begins: `va`, or `mem` with `off`.
-#[tactic(auto, unfolding(crate::specs::Places::access_at))]
+#[tactic(auto, unfolding(scenario_format::specs::Parts::Places::access_at))]
 pub fn access_place(here: &Node, before: &NamedOps) -> Result<Place, Stop>
     ensures value { Gives result (places.access_at before.now (spot_of here.now)) }
     ensures within { IfOk result (λ p. AllByRecursion (IsMade before.now) (place_within p)) }
@@ -60,7 +61,7 @@ pub fn access_place(here: &Node, before: &NamedOps) -> Result<Place, Stop>
 }
 
 /// Where a load begins: `va`, or `mem` from its first byte on.
-#[tactic(auto, unfolding(crate::specs::Places::loaded_from))]
+#[tactic(auto, unfolding(scenario_format::specs::Parts::Places::loaded_from))]
 pub fn loaded_from(here: &Node, before: &NamedOps) -> Result<Place, Stop>
     ensures value { Gives result (places.loaded_from before.now (spot_of here.now)) }
     ensures within { IfOk result (λ p. AllByRecursion (IsMade before.now) (place_within p)) }

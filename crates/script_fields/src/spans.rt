@@ -5,18 +5,19 @@ ghost use Rattle.serde_json.specs.View.{view};
 ghost use Rattle.busdma_machine.specs.Machine.Spans.{span_bytes as bytes_in};
 ghost use Rattle.busdma_base.specs.Scenarios.Limits.{entries_limit};
 ghost use Rattle.json_fields.specs.Field.{spot_of};
-ghost use Rattle.json_fields.specs.Items.{each};
+ghost use Rattle.scenario_format.specs.Json.Items.{each};
 ghost use Rattle.json_fields.specs.Read.{Gives, GivesSeen};
-ghost use Rattle.script_fields.specs.Spans.{entries_at, entries_field, span_at, span_fields_at, spans_at};
+ghost use Rattle.scenario_format.specs.Parts.Spans.{entries_at, entries_field, span_at, span_fields_at, spans_at};
 
 use crate::limits::ENTRIES;
 use busdma_base::{ListOf, Span, Va};
-use json_fields::{LimitName, Node, RefusalKind, Stop};
+use json_fields::{Node, Stop};
+use scenario_format::{LimitName, RefusalKind};
 use serde_json::Value;
 
 /// The elements of a load's list, which are its spans, its frames or its clusters, in order. More than the limit are
 /// refused.
-#[tactic(auto, unfolding(crate::specs::Spans::entries_at))]
+#[tactic(auto, unfolding(scenario_format::specs::Parts::Spans::entries_at))]
 pub fn entries<'v>(here: &Node<'v>) -> Result<&'v [Value], Stop>
     ensures value { GivesSeen (λ v. map view v.now) result (entries_at (spot_of here.now)) }
     ensures few { IfOk result (λ v. length v.now ≤ entries_limit) }
@@ -29,7 +30,7 @@ pub fn entries<'v>(here: &Node<'v>) -> Result<&'v [Value], Stop>
 }
 
 /// `len` bytes from `va` on.
-#[tactic(auto, unfolding(crate::specs::Spans::span_fields_at))]
+#[tactic(auto, unfolding(scenario_format::specs::Parts::Spans::span_fields_at))]
 pub(crate) fn span_fields(here: &Node) -> Result<Span, Stop>
     ensures { Gives result (span_fields_at (spot_of here.now)) }
 {
@@ -38,7 +39,7 @@ pub(crate) fn span_fields(here: &Node) -> Result<Span, Stop>
     Ok(Span { va: Va(va), len })
 }
 
-#[tactic(auto, unfolding(crate::specs::Spans::span_at))]
+#[tactic(auto, unfolding(scenario_format::specs::Parts::Spans::span_at))]
 fn span(here: &Node) -> Result<Span, Stop>
     ensures { Gives result (span_at (spot_of here.now)) }
 {
@@ -59,7 +60,7 @@ fn each_span<'v>(here: &'v Node<'v>, items: &'v [Value]) -> Result<Vec<Span>, St
     Ok(spans)
 }
 
-#[tactic(auto, unfolding(crate::specs::Spans::spans_at))]
+#[tactic(auto, unfolding(scenario_format::specs::Parts::Spans::spans_at))]
 fn spans(here: &Node) -> Result<ListOf<Span>, Stop>
     ensures value { Gives result (spans_at (spot_of here.now)) }
     ensures few { IfOk result (λ v. length v ≤ entries_limit) }
@@ -69,7 +70,7 @@ fn spans(here: &Node) -> Result<ListOf<Span>, Stop>
 }
 
 /// The spans in `entries`, in order.
-#[tactic(auto, unfolding(crate::specs::Spans::entries_field))]
+#[tactic(auto, unfolding(scenario_format::specs::Parts::Spans::entries_field))]
 pub fn entries_field(here: &Node) -> Result<ListOf<Span>, Stop>
     ensures value { Gives result (entries_field (spot_of here.now)) }
     ensures few { IfOk result (λ v. length v ≤ entries_limit) }

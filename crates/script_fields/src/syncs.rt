@@ -5,32 +5,17 @@ ghost use Rattle.busdma_base.specs.Scenarios.Names.{IsMade};
 ghost use Rattle.busdma_base.specs.Scenarios.Operations.{map_at};
 ghost use Rattle.json_fields.specs.Field.{spot_of};
 ghost use Rattle.json_fields.specs.Read.{Gives};
-ghost use Rattle.script_fields.specs.Syncs.{sync_fields_at, range_fields_at};
+ghost use Rattle.scenario_format.specs.Parts.Syncs.{sync_fields_at, range_fields_at};
 
 use crate::flags::ops_field;
 use crate::named_ops::NamedOps;
 use crate::names::used_name;
 use busdma_base::NameUse;
 use json_fields::{Node, Stop};
-
-/// A sync of the whole load of a map.
-#[derive(Clone, Copy, Debug)]
-pub struct SyncFields {
-    pub map: u32,
-    pub ops: u32,
-}
-
-/// A sync of `len` bytes of a map's load, from `off` on.
-#[derive(Clone, Copy, Debug)]
-pub struct RangeFields {
-    pub map: u32,
-    pub off: u64,
-    pub len: u64,
-    pub ops: u32,
-}
+use scenario_format::{RangeFields, SyncFields};
 
 /// What a sync of a whole load says.
-#[tactic(auto, unfolding(crate::specs::Syncs::sync_fields_at))]
+#[tactic(auto, unfolding(scenario_format::specs::Parts::Syncs::sync_fields_at))]
 pub fn sync_fields(here: &Node, before: &NamedOps) -> Result<SyncFields, Stop>
     ensures value { Gives result (sync_fields_at before.now (spot_of here.now)) }
     ensures made { IfOk result (λ s. IsMade before.now (map_at s.map)) }
@@ -42,7 +27,7 @@ pub fn sync_fields(here: &Node, before: &NamedOps) -> Result<SyncFields, Stop>
 }
 
 /// What a sync of a range of a load says.
-#[tactic(auto, unfolding(crate::specs::Syncs::range_fields_at))]
+#[tactic(auto, unfolding(scenario_format::specs::Parts::Syncs::range_fields_at))]
 pub fn range_fields(here: &Node, before: &NamedOps) -> Result<RangeFields, Stop>
     ensures value { Gives result (range_fields_at before.now (spot_of here.now)) }
     ensures made { IfOk result (λ s. IsMade before.now (map_at s.map)) }

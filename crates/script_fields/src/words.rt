@@ -3,13 +3,14 @@
 ghost use Rattle.std.specs.Prelude.{◌≡◌};
 ghost use Rattle.json_fields.specs.Read.{Gives, GivesSeen};
 ghost use Rattle.json_fields.specs.Field.{spot_of};
-ghost use Rattle.script_fields.specs.Words as words;
+ghost use Rattle.scenario_format.specs.Parts.Words as words;
 
 use busdma_base::{ItemWord, OpWord};
-use json_fields::{Node, RefusalKind, Stop};
+use json_fields::{Node, Stop};
+use scenario_format::RefusalKind;
 
 /// The text in `op`.
-#[tactic(auto, unfolding(crate::specs::Words::word_text))]
+#[tactic(auto, unfolding(scenario_format::specs::Parts::Words::word_text))]
 fn word_text<'v>(here: &'v Node<'v>) -> Result<&'v str, Stop>
     ensures { GivesSeen (λ s. s.now) result (words.word_text (spot_of here.now)) }
 {
@@ -17,7 +18,7 @@ fn word_text<'v>(here: &'v Node<'v>) -> Result<&'v str, Stop>
 }
 
 /// The word of an operation.
-#[tactic(auto, unfolding(crate::specs::Words::op_word_at))]
+#[tactic(auto, unfolding(scenario_format::specs::Parts::Words::op_word_at))]
 pub fn op_word<'v>(here: &'v Node<'v>) -> Result<OpWord, Stop>
     ensures { Gives result (words.op_word_at (spot_of here.now)) }
 {
@@ -28,7 +29,7 @@ pub fn op_word<'v>(here: &'v Node<'v>) -> Result<OpWord, Stop>
 }
 
 /// The word of an item.
-#[tactic(auto, unfolding(crate::specs::Words::item_word_at))]
+#[tactic(auto, unfolding(scenario_format::specs::Parts::Words::item_word_at))]
 pub fn item_word<'v>(here: &'v Node<'v>) -> Result<ItemWord, Stop>
     ensures { Gives result (words.item_word_at (spot_of here.now)) }
 {

@@ -12,9 +12,10 @@ use Rattle.busdma_machine.specs.Machine.Spans.{span_addresses, span_bytes}
 use Rattle.busdma_machine.specs.Runs.{run_of}
 use Rattle.busdma_base.specs.Scenarios.Buffers.{AreClustersFor, IsCluster, IsNoneOf}
 use Rattle.busdma_base.specs.Scenarios.Limits.{entries_limit}
-use Rattle.mbuf_defrag.specs.Plan.{front_of, plan}
-use Rattle.mbuf_defrag.proofs.Fronts.{front_bytes}
-use Rattle.script_read.specs.Sends.{IsClusterOf, is_cluster, shares}
+use Rattle.scenario_format.specs.Scripts.Plan.{front_of, plan}
+use Rattle.script_read.proofs.Fronts.{front_bytes}
+use Rattle.script_read.specs.Sends.{IsClusterOf}
+use Rattle.scenario_format.specs.Scripts.Sends.{is_cluster, shares}
 
 -- ---- lists
 

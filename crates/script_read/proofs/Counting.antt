@@ -4,8 +4,9 @@ use Rattle.std.proofs.lemmas.List.Sums.{sum_by-append}
 use Rattle.busdma_base.specs.declared.scenarios.script.Op.{Op}
 use Rattle.busdma_base.specs.declared.scenarios.script.Item.{Item}
 use Rattle.busdma_base.specs.Scenarios.Operations.{items_of, read_by, read_by_item, loaded_by}
-use Rattle.script_fields.specs.declared.counts.Counts.{Counts}
-use Rattle.script_fields.specs.Counts.{with_op, with_ops, with_items, one_step_counted as stepped, having_read, IsQuiet}
+use Rattle.scenario_format.specs.declared.counts.Counts.{Counts}
+use Rattle.script_fields.specs.Counts.{with_op, having_read, IsQuiet}
+use Rattle.scenario_format.specs.Parts.Counts.{with_ops, with_items, one_step_counted as stepped}
 
 same : (a b c a' b' c' : ℕ) → a ≡ a' → b ≡ b' → c ≡ c'
     → let x : Counts = record { steps = a; read = b; loaded = c } in let y : Counts =

@@ -7,7 +7,8 @@ use Rattle.std.proofs.lemmas.Bool.{eqb-true, false_from_ne_true, le-ltb, leb-tru
 use Rattle.busdma_machine.specs.declared.machine.address.Span.{Span}
 use Rattle.busdma_machine.specs.declared.machine.address.Va.{Va}
 use Rattle.script_read.specs.declared.sends.Bounds.{Bounds}
-use Rattle.script_read.specs.Sends.{IsUpTo, LiesBetween, is_beside, is_cluster, shares}
+use Rattle.script_read.specs.Sends.{IsUpTo, LiesBetween, is_beside}
+use Rattle.scenario_format.specs.Scripts.Sends.{is_cluster, shares}
 
 -- ---- what lies between two addresses
 

@@ -7,21 +7,23 @@ ghost use Rattle.busdma_base.specs.Scenarios.Operations.{read_by_item};
 ghost use Rattle.busdma_base.specs.Scenarios.Script.{IsItem, is_ring_step};
 ghost use Rattle.json_fields.specs.Read.{Gives, GivesSeen};
 ghost use Rattle.json_fields.specs.Field.{spot_of};
-ghost use Rattle.json_fields.specs.Items.{each};
-ghost use Rattle.script_fields.specs.Counts.{IsWithin, with_items, having_read, one_step_counted};
-ghost use Rattle.script_read.specs.Items.{sync_item_at, sync_range_item_at, read_dev_read as dev_read_at};
-ghost use Rattle.script_read.specs.Items.{read_dev_write as dev_write_at, raw_read_at, raw_write_at};
-ghost use Rattle.script_read.specs.Items.{item_by, read_item as item_at, then_at, then_field};
+ghost use Rattle.scenario_format.specs.Json.Items.{each};
+ghost use Rattle.script_fields.specs.Counts.{IsWithin, having_read};
+ghost use Rattle.scenario_format.specs.Parts.Counts.{with_items, one_step_counted};
+ghost use Rattle.scenario_format.specs.Scripts.Items.{sync_item_at, sync_range_item_at, read_dev_read as dev_read_at};
+ghost use Rattle.scenario_format.specs.Scripts.Items.{read_dev_write as dev_write_at, raw_read_at, raw_write_at};
+ghost use Rattle.scenario_format.specs.Scripts.Items.{item_by, read_item as item_at, then_at, then_field};
 
 use busdma_base::{Item, ItemList, ItemWord, ListOf, NameUse};
-use json_fields::{Node, RefusalKind, Stop};
+use json_fields::{Node, Stop};
+use scenario_format::{Counts, RefusalKind};
 use script_fields::{
-    Counts, NamedOps, byte_count, item_word, judge_access, range_fields, sync_fields, used_name,
-    written_bytes,
+    NamedOps, byte_count, count_read, count_steps, item_word, judge_access, range_fields,
+    sync_fields, used_name, written_bytes,
 };
 use serde_json::Value;
 
-#[tactic(auto, unfolding(crate::specs::Items::sync_item_at))]
+#[tactic(auto, unfolding(scenario_format::specs::Scripts::Items::sync_item_at))]
 fn sync(here: &Node, before: &NamedOps) -> Result<Item, Stop>
     ensures value { Gives result (sync_item_at before.now (spot_of here.now)) }
     ensures valid { IfOk result (IsItem before.now) }
@@ -35,7 +37,7 @@ fn sync(here: &Node, before: &NamedOps) -> Result<Item, Stop>
     })
 }
 
-#[tactic(auto, unfolding(crate::specs::Items::sync_range_item_at))]
+#[tactic(auto, unfolding(scenario_format::specs::Scripts::Items::sync_range_item_at))]
 fn sync_range(here: &Node, before: &NamedOps) -> Result<Item, Stop>
     ensures value { Gives result (sync_range_item_at before.now (spot_of here.now)) }
     ensures valid { IfOk result (IsItem before.now) }
@@ -51,7 +53,7 @@ fn sync_range(here: &Node, before: &NamedOps) -> Result<Item, Stop>
     })
 }
 
-#[tactic(auto, unfolding(crate::specs::Items::read_dev_read))]
+#[tactic(auto, unfolding(scenario_format::specs::Scripts::Items::read_dev_read))]
 fn dev_read(here: &Node, before: &NamedOps, counts: &mut Counts) -> Result<Item, Stop>
     requires within { IsWithin counts.old }
     ensures value { Gives result (dev_read_at before.now counts.old (spot_of here.now)) }
@@ -64,11 +66,11 @@ fn dev_read(here: &Node, before: &NamedOps, counts: &mut Counts) -> Result<Item,
     let map = used_name(here, NameUse::Map, "map", before)?;
     let off = here.number_field("off")?;
     let len = here.number_field("len")?;
-    counts.read(here, len)?;
+    count_read(counts, here, len)?;
     Ok(Item::DevRead { map, off, len })
 }
 
-#[tactic(auto, unfolding(crate::specs::Items::read_dev_write))]
+#[tactic(auto, unfolding(scenario_format::specs::Scripts::Items::read_dev_write))]
 fn dev_write(here: &Node, before: &NamedOps) -> Result<Item, Stop>
     ensures value { Gives result (dev_write_at before.now (spot_of here.now)) }
     ensures valid { IfOk result (IsItem before.now) }
@@ -83,7 +85,7 @@ fn dev_write(here: &Node, before: &NamedOps) -> Result<Item, Stop>
     Ok(Item::DevWrite { map, off, bytes })
 }
 
-#[tactic(auto, unfolding(crate::specs::Items::raw_read_at))]
+#[tactic(auto, unfolding(scenario_format::specs::Scripts::Items::raw_read_at))]
 fn raw_read(here: &Node, before: &NamedOps, counts: &mut Counts) -> Result<Item, Stop>
     requires within { IsWithin counts.old }
     ensures value { Gives result (raw_read_at before.now counts.old (spot_of here.now)) }
@@ -96,11 +98,11 @@ fn raw_read(here: &Node, before: &NamedOps, counts: &mut Counts) -> Result<Item,
     let tag = used_name(here, NameUse::IommuTag, "tag", before)?;
     let addr = here.number_field("addr")?;
     let len = here.number_field("len")?;
-    counts.read(here, len)?;
+    count_read(counts, here, len)?;
     Ok(Item::DevReadAt { tag, addr, len })
 }
 
-#[tactic(auto, unfolding(crate::specs::Items::raw_write_at))]
+#[tactic(auto, unfolding(scenario_format::specs::Scripts::Items::raw_write_at))]
 fn raw_write(here: &Node, before: &NamedOps) -> Result<Item, Stop>
     ensures value { Gives result (raw_write_at before.now (spot_of here.now)) }
     ensures valid { IfOk result (IsItem before.now) }
@@ -140,7 +142,7 @@ fn item_by(
     }
 }
 
-#[tactic(auto, unfolding(crate::specs::Items::read_item))]
+#[tactic(auto, unfolding(scenario_format::specs::Scripts::Items::read_item))]
 fn item(here: &Node, before: &NamedOps, counts: &mut Counts) -> Result<Item, Stop>
     requires within { IsWithin counts.old }
     ensures value { Gives result (item_at before.now counts.old (spot_of here.now)) }
@@ -151,7 +153,7 @@ fn item(here: &Node, before: &NamedOps, counts: &mut Counts) -> Result<Item, Sto
     ensures within { IfOk result (λ _. IsWithin counts.new) }
 {
     here.members()?;
-    counts.steps(here, 1)?;
+    count_steps(counts, here, 1)?;
     let word = item_word(here)?;
     item_by(word, here, before, counts)
 }
@@ -179,7 +181,7 @@ fn each_item<'v>(
     Ok(done)
 }
 
-#[tactic(auto, unfolding(crate::specs::Items::then_at))]
+#[tactic(auto, unfolding(scenario_format::specs::Scripts::Items::then_at))]
 fn then(here: &Node, before: &NamedOps, counts: &mut Counts) -> Result<ItemList, Stop>
     requires within { IsWithin counts.old }
     ensures value { Gives result (then_at before.now counts.old (spot_of here.now)) }
@@ -193,7 +195,7 @@ fn then(here: &Node, before: &NamedOps, counts: &mut Counts) -> Result<ItemList,
 }
 
 /// The items of a load.
-#[tactic(auto, unfolding(crate::specs::Items::then_field))]
+#[tactic(auto, unfolding(scenario_format::specs::Scripts::Items::then_field))]
 pub(crate) fn then_field(
     here: &Node,
     before: &NamedOps,

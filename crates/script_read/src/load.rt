@@ -12,15 +12,15 @@ ghost use Rattle.busdma_base.specs.declared.scenarios.scenario.PageRun.{PageRun}
 ghost use Rattle.json_fields.specs.Read.{Gives};
 ghost use Rattle.json_fields.specs.Field.{spot_of};
 ghost use Rattle.script_fields.specs.Counts.{IsWithin, with_op};
-ghost use Rattle.script_read.specs.Loads as loads;
+ghost use Rattle.scenario_format.specs.Scripts.Loads as loads;
 ghost use Rattle.busdma_base.specs.Scenarios.Limits.{entries_limit};
 
 use crate::items::then_field;
 use busdma_base::{Bio, Buffer, NameUse, Op, PageRun};
 use json_fields::{Node, Stop};
+use scenario_format::{Counts, FlagSet};
 use script_fields::{
-    Counts, FlagSet, NamedOps, bio_field, entries_field, flags_field, loaded_from, span_bytes,
-    used_name,
+    NamedOps, bio_field, count_load, entries_field, flags_field, loaded_from, span_bytes, used_name,
 };
 
 /// How many bytes a buffer has.
@@ -50,7 +50,7 @@ fn counted_bytes(buffer: &Buffer) -> u128
     }
 }
 
-#[tactic(auto, unfolding(crate::specs::Loads::flat_at))]
+#[tactic(auto, unfolding(scenario_format::specs::Scripts::Loads::flat_at))]
 fn flat(here: &Node, before: &NamedOps) -> Result<Buffer, Stop>
     ensures value { Gives result (loads.flat_at before.now (spot_of here.now)) }
     ensures within { IfOk result (λ b. AllByRecursion (IsMade before.now) (buffer_within b)) }
@@ -65,7 +65,7 @@ fn flat(here: &Node, before: &NamedOps) -> Result<Buffer, Stop>
 }
 
 /// The map of a load.
-#[tactic(auto, unfolding(crate::specs::Loads::loaded_map_at))]
+#[tactic(auto, unfolding(scenario_format::specs::Scripts::Loads::loaded_map_at))]
 pub(crate) fn loaded_map(here: &Node, before: &NamedOps) -> Result<u32, Stop>
     ensures value { Gives result (loads.loaded_map_at before.now (spot_of here.now)) }
     ensures made { IfOk result (λ map. IsMade before.now (map_at map)) }
@@ -74,7 +74,7 @@ pub(crate) fn loaded_map(here: &Node, before: &NamedOps) -> Result<u32, Stop>
 }
 
 /// The load of a map with a buffer. What stands here says its flags and its items.
-#[tactic(auto, unfolding(crate::specs::Loads::load_of))]
+#[tactic(auto, unfolding(scenario_format::specs::Scripts::Loads::load_of))]
 pub(crate) fn load_of(
     here: &Node,
     before: &NamedOps,
@@ -95,7 +95,7 @@ pub(crate) fn load_of(
     ensures loads { IfOk result (λ o. (about o).loads ≡ Some buffer) }
 {
     let flags = flags_field(here, FlagSet::Load)?;
-    counts.load(here, buffer_bytes(&buffer), counted_bytes(&buffer))?;
+    count_load(counts, here, buffer_bytes(&buffer), counted_bytes(&buffer))?;
     let then = then_field(here, before, counts)?;
     Ok(Op::Load {
         map,
@@ -106,7 +106,7 @@ pub(crate) fn load_of(
 }
 
 /// A load of bytes from a place on, whose own step is counted.
-#[tactic(auto, unfolding(crate::specs::Loads::load_at))]
+#[tactic(auto, unfolding(scenario_format::specs::Scripts::Loads::load_at))]
 pub(crate) fn load(here: &Node, before: &NamedOps, counts: &mut Counts) -> Result<Op, Stop>
     requires within { IsWithin counts.old }
     ensures value { Gives result (loads.load_at before.now counts.old (spot_of here.now)) }
@@ -122,7 +122,7 @@ pub(crate) fn load(here: &Node, before: &NamedOps, counts: &mut Counts) -> Resul
 }
 
 /// A load of a vector, whose own step is counted.
-#[tactic(auto, unfolding(crate::specs::Loads::load_vector_at))]
+#[tactic(auto, unfolding(scenario_format::specs::Scripts::Loads::load_vector_at))]
 pub(crate) fn load_vector(here: &Node, before: &NamedOps, counts: &mut Counts) -> Result<Op, Stop>
     requires within { IsWithin counts.old }
     ensures value { Gives result (loads.load_vector_at before.now counts.old (spot_of here.now)) }
@@ -138,7 +138,7 @@ pub(crate) fn load_vector(here: &Node, before: &NamedOps, counts: &mut Counts) -
 }
 
 /// A load of an mbuf chain, whose own step is counted. It has no flags.
-#[tactic(auto, unfolding(crate::specs::Loads::load_mbuf_at))]
+#[tactic(auto, unfolding(scenario_format::specs::Scripts::Loads::load_mbuf_at))]
 pub(crate) fn load_mbuf(here: &Node, before: &NamedOps, counts: &mut Counts) -> Result<Op, Stop>
     requires within { IsWithin counts.old }
     ensures value { Gives result (loads.load_mbuf_at before.now counts.old (spot_of here.now)) }
@@ -154,7 +154,7 @@ pub(crate) fn load_mbuf(here: &Node, before: &NamedOps, counts: &mut Counts) -> 
 }
 
 /// A load of a bio of a driver with these pages, whose own step is counted.
-#[tactic(auto, unfolding(crate::specs::Loads::load_bio_at))]
+#[tactic(auto, unfolding(scenario_format::specs::Scripts::Loads::load_bio_at))]
 pub(crate) fn load_bio(
     here: &Node,
     pages: &[PageRun],

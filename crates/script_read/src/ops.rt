@@ -7,16 +7,17 @@ ghost use Rattle.busdma_base.specs.Scenarios.Script.{IsOp};
 ghost use Rattle.json_fields.specs.Read.{Gives};
 ghost use Rattle.json_fields.specs.Field.{spot_of};
 ghost use Rattle.script_fields.specs.Counts.{IsWithin, IsQuiet, with_op};
-ghost use Rattle.script_read.specs.Ops as ops;
+ghost use Rattle.scenario_format.specs.Scripts.Ops as ops;
 
 use busdma_base::{NameUse, Op, Pa, SpaceLimits, TagLimits};
 use json_fields::{Node, Stop};
+use scenario_format::{Counts, FlagSet};
 use script_fields::{
-    Counts, FlagSet, NamedOps, access_place, byte_count, flags_field, judge_access, new_name,
+    NamedOps, access_place, byte_count, count_read, flags_field, judge_access, new_name,
     parent_tag, range_fields, short_or, sync_fields, used_name, written_bytes,
 };
 
-#[tactic(auto, unfolding(crate::specs::Ops::limits_at))]
+#[tactic(auto, unfolding(scenario_format::specs::Scripts::Ops::limits_at))]
 fn limits(here: &Node) -> Result<TagLimits, Stop>
     ensures { Gives result (ops.limits_at (spot_of here.now)) }
 {
@@ -40,7 +41,7 @@ fn limits(here: &Node) -> Result<TagLimits, Stop>
     })
 }
 
-#[tactic(auto, unfolding(crate::specs::Ops::read_tag))]
+#[tactic(auto, unfolding(scenario_format::specs::Scripts::Ops::read_tag))]
 pub(crate) fn tag(here: &Node, before: &NamedOps) -> Result<Op, Stop>
     ensures value { Gives result (ops.read_tag before.now (spot_of here.now)) }
     ensures valid { IfOk result (IsOp before.now) }
@@ -69,7 +70,7 @@ pub(crate) fn tag(here: &Node, before: &NamedOps) -> Result<Op, Stop>
     })
 }
 
-#[tactic(auto, unfolding(crate::specs::Ops::space_limits_at))]
+#[tactic(auto, unfolding(scenario_format::specs::Scripts::Ops::space_limits_at))]
 fn space_limits(here: &Node) -> Result<SpaceLimits, Stop>
     ensures { Gives result (ops.space_limits_at (spot_of here.now)) }
 {
@@ -87,7 +88,7 @@ fn space_limits(here: &Node) -> Result<SpaceLimits, Stop>
     })
 }
 
-#[tactic(auto, unfolding(crate::specs::Ops::read_iommu_tag))]
+#[tactic(auto, unfolding(scenario_format::specs::Scripts::Ops::read_iommu_tag))]
 pub(crate) fn iommu_tag(here: &Node, before: &NamedOps) -> Result<Op, Stop>
     ensures value { Gives result (ops.read_iommu_tag before.now (spot_of here.now)) }
     ensures valid { IfOk result (IsOp before.now) }
@@ -107,7 +108,7 @@ pub(crate) fn iommu_tag(here: &Node, before: &NamedOps) -> Result<Op, Stop>
     Ok(Op::IommuTag { name, limits })
 }
 
-#[tactic(auto, unfolding(crate::specs::Ops::tag_destroy_at))]
+#[tactic(auto, unfolding(scenario_format::specs::Scripts::Ops::tag_destroy_at))]
 pub(crate) fn tag_destroy(here: &Node, before: &NamedOps) -> Result<Op, Stop>
     ensures value { Gives result (ops.tag_destroy_at before.now (spot_of here.now)) }
     ensures valid { IfOk result (IsOp before.now) }
@@ -118,7 +119,7 @@ pub(crate) fn tag_destroy(here: &Node, before: &NamedOps) -> Result<Op, Stop>
     Ok(Op::TagDestroy { tag })
 }
 
-#[tactic(auto, unfolding(crate::specs::Ops::read_map))]
+#[tactic(auto, unfolding(scenario_format::specs::Scripts::Ops::read_map))]
 pub(crate) fn map(here: &Node, before: &NamedOps) -> Result<Op, Stop>
     ensures value { Gives result (ops.read_map before.now (spot_of here.now)) }
     ensures valid { IfOk result (IsOp before.now) }
@@ -131,7 +132,7 @@ pub(crate) fn map(here: &Node, before: &NamedOps) -> Result<Op, Stop>
 }
 
 // The map of an operation that says nothing else.
-#[tactic(auto, unfolding(crate::specs::Ops::only_map_at))]
+#[tactic(auto, unfolding(scenario_format::specs::Scripts::Ops::only_map_at))]
 fn only_map(here: &Node, used_as: NameUse, before: &NamedOps) -> Result<u32, Stop>
     ensures value { Gives result (ops.only_map_at used_as before.now (spot_of here.now)) }
     ensures made { IfOk result (λ m. IsMade before.now (record { used_as = used_as; made_at = m })) }
@@ -140,7 +141,7 @@ fn only_map(here: &Node, used_as: NameUse, before: &NamedOps) -> Result<u32, Sto
     used_name(here, used_as, "map", before)
 }
 
-#[tactic(auto, unfolding(crate::specs::Ops::map_destroy_at))]
+#[tactic(auto, unfolding(scenario_format::specs::Scripts::Ops::map_destroy_at))]
 pub(crate) fn map_destroy(here: &Node, before: &NamedOps) -> Result<Op, Stop>
     ensures value { Gives result (ops.map_destroy_at before.now (spot_of here.now)) }
     ensures valid { IfOk result (IsOp before.now) }
@@ -150,7 +151,7 @@ pub(crate) fn map_destroy(here: &Node, before: &NamedOps) -> Result<Op, Stop>
     Ok(Op::MapDestroy { map })
 }
 
-#[tactic(auto, unfolding(crate::specs::Ops::dmamem_at))]
+#[tactic(auto, unfolding(scenario_format::specs::Scripts::Ops::dmamem_at))]
 pub(crate) fn dmamem(here: &Node, before: &NamedOps) -> Result<Op, Stop>
     ensures value { Gives result (ops.dmamem_at before.now (spot_of here.now)) }
     ensures valid { IfOk result (IsOp before.now) }
@@ -163,7 +164,7 @@ pub(crate) fn dmamem(here: &Node, before: &NamedOps) -> Result<Op, Stop>
     Ok(Op::Dmamem { name, tag, flags })
 }
 
-#[tactic(auto, unfolding(crate::specs::Ops::dmamem_free_at))]
+#[tactic(auto, unfolding(scenario_format::specs::Scripts::Ops::dmamem_free_at))]
 pub(crate) fn dmamem_free(here: &Node, before: &NamedOps) -> Result<Op, Stop>
     ensures value { Gives result (ops.dmamem_free_at before.now (spot_of here.now)) }
     ensures valid { IfOk result (IsOp before.now) }
@@ -174,7 +175,7 @@ pub(crate) fn dmamem_free(here: &Node, before: &NamedOps) -> Result<Op, Stop>
     Ok(Op::DmamemFree { mem })
 }
 
-#[tactic(auto, unfolding(crate::specs::Ops::unload_at))]
+#[tactic(auto, unfolding(scenario_format::specs::Scripts::Ops::unload_at))]
 pub(crate) fn unload(here: &Node, before: &NamedOps) -> Result<Op, Stop>
     ensures value { Gives result (ops.unload_at before.now (spot_of here.now)) }
     ensures valid { IfOk result (IsOp before.now) }
@@ -184,7 +185,7 @@ pub(crate) fn unload(here: &Node, before: &NamedOps) -> Result<Op, Stop>
     Ok(Op::Unload { map })
 }
 
-#[tactic(auto, unfolding(crate::specs::Ops::sync_at))]
+#[tactic(auto, unfolding(scenario_format::specs::Scripts::Ops::sync_at))]
 pub(crate) fn sync(here: &Node, before: &NamedOps) -> Result<Op, Stop>
     ensures value { Gives result (ops.sync_at before.now (spot_of here.now)) }
     ensures valid { IfOk result (IsOp before.now) }
@@ -197,7 +198,7 @@ pub(crate) fn sync(here: &Node, before: &NamedOps) -> Result<Op, Stop>
     })
 }
 
-#[tactic(auto, unfolding(crate::specs::Ops::sync_range_at))]
+#[tactic(auto, unfolding(scenario_format::specs::Scripts::Ops::sync_range_at))]
 pub(crate) fn sync_range(here: &Node, before: &NamedOps) -> Result<Op, Stop>
     ensures value { Gives result (ops.sync_range_at before.now (spot_of here.now)) }
     ensures valid { IfOk result (IsOp before.now) }
@@ -212,7 +213,7 @@ pub(crate) fn sync_range(here: &Node, before: &NamedOps) -> Result<Op, Stop>
     })
 }
 
-#[tactic(auto, unfolding(crate::specs::Ops::cpu_read_at))]
+#[tactic(auto, unfolding(scenario_format::specs::Scripts::Ops::cpu_read_at))]
 pub(crate) fn cpu_read(here: &Node, before: &NamedOps, counts: &mut Counts) -> Result<Op, Stop>
     requires within { IsWithin counts.old }
     ensures value { Gives result (ops.cpu_read_at before.now counts.old (spot_of here.now)) }
@@ -224,11 +225,11 @@ pub(crate) fn cpu_read(here: &Node, before: &NamedOps, counts: &mut Counts) -> R
     here.only_keys(&["op", "va", "mem", "off", "len"])?;
     let place = access_place(here, before)?;
     let len = here.number_field("len")?;
-    counts.read(here, len)?;
+    count_read(counts, here, len)?;
     Ok(Op::CpuRead { place, len })
 }
 
-#[tactic(auto, unfolding(crate::specs::Ops::cpu_write_at))]
+#[tactic(auto, unfolding(scenario_format::specs::Scripts::Ops::cpu_write_at))]
 pub(crate) fn cpu_write(here: &Node, before: &NamedOps) -> Result<Op, Stop>
     ensures value { Gives result (ops.cpu_write_at before.now (spot_of here.now)) }
     ensures valid { IfOk result (IsOp before.now) }
@@ -241,7 +242,7 @@ pub(crate) fn cpu_write(here: &Node, before: &NamedOps) -> Result<Op, Stop>
     Ok(Op::CpuWrite { place, bytes })
 }
 
-#[tactic(auto, unfolding(crate::specs::Ops::await_at))]
+#[tactic(auto, unfolding(scenario_format::specs::Scripts::Ops::await_at))]
 pub(crate) fn await_op(here: &Node, before: &NamedOps) -> Result<Op, Stop>
     ensures value { Gives result (ops.await_at before.now (spot_of here.now)) }
     ensures valid { IfOk result (IsOp before.now) }

@@ -7,15 +7,16 @@ ghost use Rattle.busdma_base.specs.Scenarios.Script.{IsOp};
 ghost use Rattle.json_fields.specs.Read.{Gives};
 ghost use Rattle.json_fields.specs.Field.{spot_of};
 ghost use Rattle.script_fields.specs.Counts.{IsWithin, IsQuiet, with_op};
-ghost use Rattle.script_read.specs.Rings as rings;
+ghost use Rattle.scenario_format.specs.Scripts.Rings as rings;
 
 use busdma_base::{Item, ListOf, NameUse, Op};
-use json_fields::{Node, RefusalKind, Stop};
+use json_fields::{Node, Stop};
+use scenario_format::{Counts, RefusalKind};
 use script_fields::{
-    Counts, NamedOps, STEPS, byte_field, byte_or, new_name, short_field, used_name,
+    NamedOps, STEPS, byte_field, byte_or, count_steps, new_name, short_field, used_name,
 };
 
-#[tactic(auto, unfolding(crate::specs::Rings::read_ring))]
+#[tactic(auto, unfolding(scenario_format::specs::Scripts::Rings::read_ring))]
 pub(crate) fn ring(here: &Node, before: &NamedOps) -> Result<Op, Stop>
     ensures value { Gives result (rings.read_ring before.now (spot_of here.now)) }
     ensures valid { IfOk result (IsOp before.now) }
@@ -28,7 +29,7 @@ pub(crate) fn ring(here: &Node, before: &NamedOps) -> Result<Op, Stop>
     Ok(Op::Ring { name, mem, slots })
 }
 
-#[tactic(auto, unfolding(crate::specs::Rings::ring_post_at))]
+#[tactic(auto, unfolding(scenario_format::specs::Scripts::Rings::ring_post_at))]
 pub(crate) fn ring_post(here: &Node, before: &NamedOps) -> Result<Op, Stop>
     ensures value { Gives result (rings.ring_post_at before.now (spot_of here.now)) }
     ensures valid { IfOk result (IsOp before.now) }
@@ -54,7 +55,7 @@ pub(crate) fn ring_post(here: &Node, before: &NamedOps) -> Result<Op, Stop>
 }
 
 /// How many steps a kick asks for.
-#[tactic(auto, unfolding(crate::specs::Rings::count_at))]
+#[tactic(auto, unfolding(scenario_format::specs::Scripts::Rings::count_at))]
 fn count(here: &Node) -> Result<u64, Stop>
     ensures value { Gives result (rings.count_at (spot_of here.now)) }
     ensures some { IfOk result (λ n. 1 ≤ n) }
@@ -68,7 +69,7 @@ fn count(here: &Node) -> Result<u64, Stop>
 }
 
 /// A kick of a ring's device, whose own step is counted.
-#[tactic(auto, unfolding(crate::specs::Rings::kick_at))]
+#[tactic(auto, unfolding(scenario_format::specs::Scripts::Rings::kick_at))]
 pub(crate) fn kick(here: &Node, before: &NamedOps, counts: &mut Counts) -> Result<Op, Stop>
     requires within { IsWithin counts.old }
     ensures value { Gives result (rings.kick_at before.now counts.old (spot_of here.now)) }
@@ -80,7 +81,7 @@ pub(crate) fn kick(here: &Node, before: &NamedOps, counts: &mut Counts) -> Resul
     here.only_keys(&["op", "ring", "count"])?;
     let ring = used_name(here, NameUse::Ring, "ring", before)?;
     let count = count(here)?;
-    counts.steps(here, count)?;
+    count_steps(counts, here, count)?;
     let steps = vec![in here.alloc; Item::RingStep { ring }; count as usize]?;
     Ok(Op::Kick {
         ring,

@@ -8,16 +8,18 @@ ghost use Rattle.busdma_base.specs.Scenarios.Script.{IsOp};
 ghost use Rattle.busdma_base.specs.Scenarios.Valid.{LoadsFrom};
 ghost use Rattle.json_fields.specs.Read.{Gives, GivesSeen};
 ghost use Rattle.json_fields.specs.Field.{spot_of};
-ghost use Rattle.json_fields.specs.Items.{each};
-ghost use Rattle.script_fields.specs.Counts.{IsWithin, with_op, with_ops, one_step_counted};
-ghost use Rattle.script_read.specs.Script.{op_by, op_at, script_at};
+ghost use Rattle.scenario_format.specs.Json.Items.{each};
+ghost use Rattle.script_fields.specs.Counts.{IsWithin, with_op};
+ghost use Rattle.scenario_format.specs.Parts.Counts.{with_ops, one_step_counted};
+ghost use Rattle.scenario_format.specs.Scripts.Script.{op_by, op_at, script_at};
 
 use crate::load::{load, load_bio, load_mbuf, load_vector};
 use crate::sends::send;
 use crate::{ops, rings};
 use busdma_base::{ListOf, Op, OpList, OpWord, PageRun};
 use json_fields::{Node, Stop};
-use script_fields::{Counts, NamedOps, op_word};
+use scenario_format::Counts;
+use script_fields::{NamedOps, count_steps, op_word};
 use serde_json::Value;
 
 /// The operation of a word, whose own step is counted.
@@ -61,7 +63,7 @@ fn op_by(
     }
 }
 
-#[tactic(auto, unfolding(crate::specs::Script::op_at))]
+#[tactic(auto, unfolding(scenario_format::specs::Scripts::Script::op_at))]
 fn op(here: &Node, pages: &[PageRun], before: &NamedOps, counts: &mut Counts) -> Result<Op, Stop>
     requires within { IsWithin counts.old }
     ensures value { Gives result (op_at pages.now before.now counts.old (spot_of here.now)) }
@@ -71,7 +73,7 @@ fn op(here: &Node, pages: &[PageRun], before: &NamedOps, counts: &mut Counts) ->
     ensures within { IfOk result (λ _. IsWithin counts.new) }
 {
     here.members()?;
-    counts.steps(here, 1)?;
+    count_steps(counts, here, 1)?;
     let word = op_word(here)?;
     op_by(word, here, pages, before, counts)
 }
@@ -101,7 +103,7 @@ fn each_op<'v>(
 
 /// The operations of the script that stands here, in order, of a driver with these pages. Their steps and bytes are
 /// counted.
-#[tactic(auto, unfolding(crate::specs::Script::script_at))]
+#[tactic(auto, unfolding(scenario_format::specs::Scripts::Script::script_at))]
 pub fn script_of(here: &Node, pages: &[PageRun], counts: &mut Counts) -> Result<OpList, Stop>
     requires within { IsWithin counts.old }
     ensures value { Gives result (script_at pages.now counts.old (spot_of here.now)) }

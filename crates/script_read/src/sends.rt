@@ -10,18 +10,20 @@ ghost use Rattle.busdma_base.specs.Scenarios.Limits.{entries_limit};
 ghost use Rattle.busdma_base.specs.Scenarios.Script.{IsOp};
 ghost use Rattle.busdma_base.specs.Scenarios.Valid.{LoadsFrom};
 ghost use Rattle.json_fields.specs.Field.{spot_of};
-ghost use Rattle.json_fields.specs.Items.{each};
+ghost use Rattle.scenario_format.specs.Json.Items.{each};
 ghost use Rattle.json_fields.specs.Read.{Gives, GivesSeen};
 ghost use Rattle.script_fields.specs.Counts.{IsWithin, with_op};
-ghost use Rattle.script_read.specs.Sends as sends;
-ghost use Rattle.mbuf_defrag.specs.Plan.{plan as planned};
+ghost use Rattle.script_read.specs.Sends.{IsClusterOf, IsUpTo, LiesBetween, is_beside};
+ghost use Rattle.scenario_format.specs.Scripts.Sends as sends;
+ghost use Rattle.scenario_format.specs.Scripts.Plan.{plan as planned};
 
 use crate::load::{load_of, loaded_map};
+use crate::planning::plan;
 use busdma_base::{Buffer, ListOf, Op, Span, Va};
 use busdma_machine::PAGE_SIZE;
-use json_fields::{Node, RefusalKind, Stop};
-use mbuf_defrag::plan;
-use script_fields::{Counts, NamedOps, entries, entries_field};
+use json_fields::{Node, Stop};
+use scenario_format::{Counts, RefusalKind};
+use script_fields::{NamedOps, entries, entries_field};
 use serde_json::Value;
 use std::alloc::{AllocError, Global};
 
@@ -34,7 +36,7 @@ struct Bounds {
 }
 
 fn bounds_of(chain: &[Span]) -> Bounds
-    ensures { AllByRecursion (sends.LiesBetween result) chain.now }
+    ensures { AllByRecursion (LiesBetween result) chain.now }
 {
     let mut bounds = Bounds {
         first: u64::MAX,
@@ -58,7 +60,7 @@ fn shares(va: u64, span: &Span) -> bool
 }
 
 fn is_beside(va: u64, bounds: Bounds) -> bool
-    ensures { result ≡ sends.is_beside va bounds }
+    ensures { result ≡ is_beside va bounds }
 {
     let va = u128::from(va);
     va + u128::from(PAGE_SIZE) <= u128::from(bounds.first) || bounds.end <= va
@@ -79,7 +81,7 @@ fn is_any(va: u64, before: &[Va]) -> bool
 /// A cluster at this address has a byte of the chain.
 #[tactic(auto, using(crate::proofs::Hints::none_shared))]
 fn is_covered(va: u64, chain: &[Span], bounds: Bounds) -> bool
-    requires { AllByRecursion (sends.LiesBetween bounds) chain.now }
+    requires { AllByRecursion (LiesBetween bounds) chain.now }
     ensures { result ≡ list_any (sends.shares va) chain.now }
 {
     if is_beside(va, bounds) {
@@ -91,7 +93,7 @@ fn is_covered(va: u64, chain: &[Span], bounds: Bounds) -> bool
 /// A cluster at this address is one of these, none of which is above `highest`.
 #[tactic(auto, using(crate::proofs::Hints::none_above))]
 fn is_one_of(va: u64, before: &[Va], highest: u64) -> bool
-    requires { AllByRecursion (sends.IsUpTo highest) before.now }
+    requires { AllByRecursion (IsUpTo highest) before.now }
     ensures { result ≡ list_any (sends.is_cluster va) before.now }
 {
     if va > highest {
@@ -100,7 +102,7 @@ fn is_one_of(va: u64, before: &[Va], highest: u64) -> bool
     is_any(va, before)
 }
 
-#[tactic(auto, unfolding(crate::specs::Sends::cluster_at))]
+#[tactic(auto, unfolding(scenario_format::specs::Scripts::Sends::cluster_at))]
 fn cluster(
     here: &Node,
     chain: &[Span],
@@ -108,10 +110,10 @@ fn cluster(
     before: &[Va],
     highest: u64,
 ) -> Result<Va, Stop>
-    requires bounds { AllByRecursion (sends.LiesBetween bounds) chain.now }
-    requires highest { AllByRecursion (sends.IsUpTo highest) before.now }
+    requires bounds { AllByRecursion (LiesBetween bounds) chain.now }
+    requires highest { AllByRecursion (IsUpTo highest) before.now }
     ensures value { Gives result (sends.cluster_at chain.now before.now (spot_of here.now)) }
-    ensures valid { IfOk result (sends.IsClusterOf chain.now before.now) }
+    ensures valid { IfOk result (IsClusterOf chain.now before.now) }
 {
     let va = here.number()?;
     if va % PAGE_SIZE != 0 || is_one_of(va, before, highest) || is_covered(va, chain, bounds) {
@@ -123,7 +125,7 @@ fn cluster(
 fn each_cluster<'v>(here: &'v Node<'v>, items: &'v [Value], chain: &[Span]) -> Result<Vec<Va>, Stop>
     ensures value { GivesSeen (λ v. v.items) result
         (each (sends.cluster_at chain.now) (spot_of here.now) [] (map view items.now)) }
-    ensures valid { IfOk result (λ v. EachAfter (sends.IsClusterOf chain.now) [] v.items) }
+    ensures valid { IfOk result (λ v. EachAfter (IsClusterOf chain.now) [] v.items) }
     ensures count { IfOk result (λ v. length v.items ≡ length items.now) }
 {
     let bounds = bounds_of(chain);
@@ -138,10 +140,10 @@ fn each_cluster<'v>(here: &'v Node<'v>, items: &'v [Value], chain: &[Span]) -> R
     Ok(clusters)
 }
 
-#[tactic(auto, unfolding(crate::specs::Sends::clusters_at))]
+#[tactic(auto, unfolding(scenario_format::specs::Scripts::Sends::clusters_at))]
 fn clusters(here: &Node, chain: &[Span]) -> Result<ListOf<Va>, Stop>
     ensures value { Gives result (sends.clusters_at chain.now (spot_of here.now)) }
-    ensures valid { IfOk result (EachAfter (sends.IsClusterOf chain.now) []) }
+    ensures valid { IfOk result (EachAfter (IsClusterOf chain.now) []) }
     ensures few { IfOk result (λ v. length v ≤ entries_limit) }
 {
     let items = entries(here)?;
@@ -149,10 +151,10 @@ fn clusters(here: &Node, chain: &[Span]) -> Result<ListOf<Va>, Stop>
 }
 
 /// The clusters in `clusters`, in order.
-#[tactic(auto, unfolding(crate::specs::Sends::clusters_field))]
+#[tactic(auto, unfolding(scenario_format::specs::Scripts::Sends::clusters_field))]
 fn clusters_field(here: &Node, chain: &[Span]) -> Result<ListOf<Va>, Stop>
     ensures value { Gives result (sends.clusters_field chain.now (spot_of here.now)) }
-    ensures valid { IfOk result (EachAfter (sends.IsClusterOf chain.now) []) }
+    ensures valid { IfOk result (EachAfter (IsClusterOf chain.now) []) }
     ensures few { IfOk result (λ v. length v ≤ entries_limit) }
 {
     clusters(&here.required("clusters")?, chain)
@@ -164,7 +166,7 @@ fn planned(
     chain: &[Span],
     clusters: &[Va],
 ) -> Result<Option<ListOf<Span>>, AllocError>
-    requires valid { EachAfter (sends.IsClusterOf chain.now) [] clusters.now }
+    requires valid { EachAfter (IsClusterOf chain.now) [] clusters.now }
     requires few { length clusters.now ≤ entries_limit }
     ensures plan { IfOk result (λ spans. spans ≡ planned chain.now clusters.now) }
     ensures for_chain { IfOk result (λ spans. IfSome spans (AreClustersFor chain.now)) }
@@ -173,7 +175,7 @@ fn planned(
 }
 
 /// A send of an mbuf chain, whose own step is counted. It has no flags.
-#[tactic(auto, unfolding(crate::specs::Sends::read_send))]
+#[tactic(auto, unfolding(scenario_format::specs::Scripts::Sends::read_send))]
 pub(crate) fn send(here: &Node, before: &NamedOps, counts: &mut Counts) -> Result<Op, Stop>
     requires within { IsWithin counts.old }
     ensures value { Gives result (sends.read_send before.now counts.old (spot_of here.now)) }

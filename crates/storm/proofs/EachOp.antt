@@ -13,9 +13,9 @@ use Rattle.busdma_base.specs.Scenarios.Names.{IsMade}
 use Rattle.busdma_base.specs.Scenarios.Operations.{about_item, map_at}
 use Rattle.busdma_base.specs.Scenarios.Script.{IsItem, IsOp}
 use Rattle.busdma_base.specs.Scenarios.Valid.{LoadsFrom}
-use Rattle.storm.specs.declared.transfer.Transfer.{Transfer}
-use Rattle.storm.specs.Scenario.{round_at, storm_rounds as rounds, storm_setup as opening}
-use Rattle.storm.specs.Transfer.{to_device, from_device}
+use Rattle.program_rules.specs.declared.transfer.Transfer.{Transfer}
+use Rattle.program_rules.specs.Storms.Scenario.{round_at, storm_rounds as rounds, storm_setup as opening}
+use Rattle.program_rules.specs.Storms.Transfer.{to_device, from_device}
 use Rattle.storm.proofs.SmallTransfers.{IsSmall, round_cases}
 
 -- an operation is valid wherever it stands behind the opening

@@ -5,8 +5,8 @@ use Rattle.std.specs.List.{flat_map}
 use Rattle.busdma_base.specs.declared.scenarios.script.Op.{Op}
 use Rattle.busdma_base.specs.declared.scenarios.scenario.Driver.{Driver}
 use Rattle.busdma_machine.specs.Runs.{run_of}
-use Rattle.storm.specs.Generator.{next, drawn}
-use Rattle.storm.specs.Scenario.{round_at, round_after, driver, driver_after}
+use Rattle.program_rules.specs.Storms.Generator.{next, drawn}
+use Rattle.program_rules.specs.Storms.Scenario.{round_at, round_after, driver, driver_after}
 
 -- the numbers from i up to n are i and those from the next on
 pub run_of_next : (i n : ℕ) → i < n → run_of i (n - i) ≡ i ∷ run_of (i + 1) (n - (i + 1))

@@ -3,8 +3,8 @@ use Rattle.std.proofs.Common.{◌≡◌, ℕ, ◌+◌, ◌%◌, ◌<◌, ◌≤�
 use Rattle.std.proofs.Common.{◌⊎◌, arith}
 use Rattle.std.proofs.Math.Nat.{min-le_right}
 use Rattle.busdma_base.specs.declared.scenarios.script.Op.{Op}
-use Rattle.storm.specs.declared.transfer.Transfer.{Transfer}
-use Rattle.storm.specs.Transfer.{round, storm_transfer as transfer, to_device, from_device}
+use Rattle.program_rules.specs.declared.transfer.Transfer.{Transfer}
+use Rattle.program_rules.specs.Storms.Transfer.{round, storm_transfer as transfer, to_device, from_device}
 
 -- what each transfer keeps to
 pub record IsSmall (t : Transfer) : Type 0 where

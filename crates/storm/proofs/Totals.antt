@@ -9,7 +9,7 @@ use Rattle.busdma_base.specs.declared.scenarios.script.Op.{Op}
 use Rattle.busdma_machine.specs.Runs.{run_of}
 use Rattle.busdma_base.specs.Scenarios.Operations.{items_of, loaded_by, read_by}
 use Rattle.busdma_base.specs.Scenarios.Script.{steps_of}
-use Rattle.storm.specs.Scenario.{round_at, storm_rounds as rounds, storm_setup as opening}
+use Rattle.program_rules.specs.Storms.Scenario.{round_at, storm_rounds as rounds, storm_setup as opening}
 use Rattle.storm.proofs.SmallTransfers.{round_cases}
 
 -- what rounds have together

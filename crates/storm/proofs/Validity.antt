@@ -9,9 +9,9 @@ use Rattle.busdma_machine.specs.Runs.{run_of}
 use Rattle.busdma_base.specs.Scenarios.Operations.{loaded_by, read_by}
 use Rattle.busdma_base.specs.Scenarios.Script.{IsScript, steps_of}
 use Rattle.busdma_base.specs.Scenarios.Valid.{IsDriver, IsValid, loaded_of, read_of}
-use Rattle.storm.specs.Generator.{drawn}
-use Rattle.storm.specs.Scenario.{storm_rounds as rounds, storm_setup as opening, pages}
-use Rattle.storm.specs.Scenario.{frames, driver, driver_after, storm_scenario as storm}
+use Rattle.program_rules.specs.Storms.Generator.{drawn}
+use Rattle.program_rules.specs.Storms.Scenario.{storm_rounds as rounds, storm_setup as opening, pages}
+use Rattle.program_rules.specs.Storms.Scenario.{frames, driver, driver_after, storm_scenario as storm}
 use Rattle.storm.proofs.EachOp.{each_loads_from, each_valid}
 use Rattle.storm.proofs.Totals.{loaded_by_rounds, read_by_rounds, steps_of_rounds}
 

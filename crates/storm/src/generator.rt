@@ -1,7 +1,7 @@
 //! The numbers that a storm draws.
 
 ghost use Rattle.std.specs.Prelude.{◌≡◌, ◌<◌};
-ghost use Rattle.storm.specs.Generator.{mixed_left, mixed_right, next};
+ghost use Rattle.program_rules.specs.Storms.Generator.{mixed_left, mixed_right, next};
 
 fn mixed_left(x: u64, by: u32) -> u64
     requires { by < 64 }
@@ -25,7 +25,7 @@ pub(crate) struct Generator {
 }
 
 impl Generator {
-    #[tactic(auto, unfolding(crate::specs::Generator::next))]
+    #[tactic(auto, unfolding(program_rules::specs::Storms::Generator::next))]
     pub(crate) fn draw(&mut self) -> u64
         ensures drawn { result ≡ next self.old.last }
         ensures kept { self.new.last ≡ next self.old.last }

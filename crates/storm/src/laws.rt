@@ -5,7 +5,7 @@ ghost use Rattle.std.specs.List.{AllByRecursion};
 ghost use Rattle.busdma_base.specs.declared.scenarios.scenario.Driver.{Driver};
 ghost use Rattle.busdma_base.specs.Scenarios.Script.{steps_of};
 ghost use Rattle.busdma_base.specs.Scenarios.Valid.{IsValid};
-ghost use Rattle.storm.specs.Scenario.{storm_scenario};
+ghost use Rattle.program_rules.specs.Storms.Scenario.{storm_scenario};
 
 /// A storm of up to 256 rounds is a valid scenario.
 pub fn storms_are_valid()

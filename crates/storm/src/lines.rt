@@ -1,7 +1,7 @@
 //! The summary of a storm's journal.
 
 ghost use Rattle.std.specs.Prelude.{◌≡◌, ◌++◌, IfOk, OnOk, string_bytes};
-ghost use Rattle.storm.specs.Summary as text;
+ghost use Rattle.program_rules.specs.Storms.Summary as text;
 
 use busdma_base::{ByteList, Journal, ListOf, ZoneCounts};
 use report_text::{end_word, report_count};

@@ -1,8 +1,8 @@
 //! The scenario of a storm.
 
 ghost use Rattle.std.specs.Prelude.{◌≡◌, ◌*◌, ◌++◌, ◌≤◌, OnOk, IfOk};
-ghost use Rattle.storm.specs.Generator.{drawn, next};
-ghost use Rattle.storm.specs.Scenario as spec;
+ghost use Rattle.program_rules.specs.Storms.Generator.{drawn, next};
+ghost use Rattle.program_rules.specs.Storms.Scenario as spec;
 
 use crate::generator::Generator;
 use crate::transfer::push_round;

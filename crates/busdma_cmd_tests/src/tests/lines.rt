@@ -1,16 +1,16 @@
 //! The line of each status.
 
 ghost use Rattle.std.specs.Prelude.{◌≡◌, ◌↔◌, ◌≢◌, IfOk, IsSome};
-ghost use Rattle.busdma_cmd.specs.Outcome.{IsStatus};
+ghost use Rattle.program_rules.specs.Commands.Keeps.{IsStatus};
 
-use busdma_cmd::{Outcome, fault_line};
+use busdma_cmd::{ProgramEnd, fault_line};
 use scenario_read::{PathText, Refusal, RefusalKind};
 use std::alloc::{AllocError, Global};
 use std::process::Abort;
 use std::test::Fail;
 
 /// The line of an outcome is the one that is wanted, or there is none where none is wanted.
-fn is_told(rt: &impl Abort, alloc: Global, outcome: &Outcome, want: &str) -> Result<(), Fail>
+fn is_told(rt: &impl Abort, alloc: Global, outcome: &ProgramEnd, want: &str) -> Result<(), Fail>
     requires known { IsStatus outcome.now.status }
     requires fault { IsSome outcome.now.fault ↔ (outcome.now.status ≡ 65) }
 {
@@ -26,7 +26,7 @@ fn status_is_told(rt: &impl Abort, alloc: Global, status: u8, want: &str) -> Res
     requires known { IsStatus status }
     requires unrefused { status ≢ 65 }
 {
-    let outcome = Outcome {
+    let outcome = ProgramEnd {
         status,
         journal: None,
         fault: None,
@@ -35,11 +35,11 @@ fn status_is_told(rt: &impl Abort, alloc: Global, status: u8, want: &str) -> Res
 }
 
 /// A scenario that was refused.
-fn refused(alloc: Global) -> Result<Outcome, AllocError>
+fn refused(alloc: Global) -> Result<ProgramEnd, AllocError>
     ensures status { IfOk result (λ outcome. outcome.status ≡ 65) }
     ensures fault { IfOk result (λ outcome. IsSome outcome.fault) }
 {
-    Ok(Outcome {
+    Ok(ProgramEnd {
         status: 65,
         journal: None,
         fault: Some(Refusal {

@@ -1,8 +1,8 @@
 use Rattle.std.proofs.Common.{◌≡◌, sym, Some, subst, map, string_bytes}
-use Rattle.command_words.specs.declared.command.Command.TheVariants.{Replay, Storm, Check}
-use Rattle.command_words.specs.Command.{command}
-use Rattle.busdma_cmd.specs.Edges.{Edges, edges}
-use Rattle.busdma_cmd.specs.Outcome.{Keeps}
+use Rattle.program_rules.specs.declared.command.Command.TheVariants.{Replay, Storm, Check}
+use Rattle.program_rules.specs.Commands.Words.{command}
+use Rattle.program_rules.specs.Commands.Edges.{Edges, edges}
+use Rattle.program_rules.specs.Commands.Keeps.{Keeps}
 use Rattle.busdma_cmd.proofs.Checking.{check_keeps}
 use Rattle.busdma_cmd.proofs.Endings.{reader_keeps, storm_keeps}
 use Rattle.busdma_cmd.proofs.command.plain_command.Goals as goal

@@ -1,5 +1,5 @@
 use Rattle.std.proofs.Common.{◌∙◌, Some, inr, subst}
-use Rattle.busdma_cmd.specs.Line.{WritesLine}
+use Rattle.program_rules.specs.Commands.Line.{WritesLine}
 use Rattle.busdma_cmd.proofs.program_call.print_refusal.Goals as goal
 
 pub returns-in-Err : goal.returns-in-Err

@@ -1,8 +1,8 @@
 use Rattle.std.proofs.Common.{refl, sym, subst}
 use Rattle.command_words.specs.Command.{run_words}
-use Rattle.command_words.specs.declared.command.Command.TheVariants.{Run}
-use Rattle.busdma_cmd.specs.Edges.{Edges, edges}
-use Rattle.busdma_cmd.specs.Outcome.{Keeps}
+use Rattle.program_rules.specs.declared.command.Command.TheVariants.{Run}
+use Rattle.program_rules.specs.Commands.Edges.{Edges, edges}
+use Rattle.program_rules.specs.Commands.Keeps.{Keeps}
 use Rattle.busdma_cmd.proofs.Endings.{reader_keeps}
 use Rattle.busdma_cmd.proofs.run_call.run_command.Goals as goal
 

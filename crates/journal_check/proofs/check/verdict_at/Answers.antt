@@ -9,7 +9,7 @@ use Rattle.ideal_world.specs.World.{WorldState, opening_world, zone_counts}
 use Rattle.ideal_world.proofs.Opens.{opens-well}
 use Rattle.world_core.specs.Ideal.{ideal_world}
 use Rattle.journal_check.specs.Following.{IsTried}
-use Rattle.journal_check.specs.Verdict.{journal_at}
+use Rattle.program_rules.specs.Verdicts.Verdict.{journal_at}
 use Rattle.journal_check.proofs.Finding.{stops-within, is-whole, stops-at-end}
 use Rattle.journal_check.proofs.Verdicts.{leads-keep}
 use Rattle.journal_check.proofs.check.verdict_at.Goals as goal

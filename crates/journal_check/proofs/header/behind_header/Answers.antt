@@ -2,7 +2,7 @@ use Rattle.std.proofs.Common.{◌≡◌, ◌∙◌, ◌∷◌, [], Some, None, s
 use Rattle.std.proofs.lemmas.Bool.Decides.{Decides-eqb}
 use Rattle.std.proofs.lemmas.Slice.Eq.{strip_prefix_is}
 use Rattle.std.specs.Fmt.{decimal}
-use Rattle.journal_check.specs.Header.{header}
+use Rattle.program_rules.specs.Verdicts.Header.{header}
 use Rattle.journal_check.proofs.Headers.{Stripped, behind-number, no-number}
 use Rattle.journal_check.proofs.header.behind_header.Goals as goal
 

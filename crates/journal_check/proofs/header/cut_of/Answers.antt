@@ -1,5 +1,5 @@
 use Rattle.std.proofs.Common.{arith, ◌≡◌, ◌<◌, ◌≤◌, ◌∙◌, ◌++◌, ℕ, List, Some, None, sym, ap, length, take, subst}
-use Rattle.journal_check.specs.Header.{header}
+use Rattle.program_rules.specs.Verdicts.Header.{header}
 use Rattle.journal_check.proofs.Headers.{Headed, Stripped, cut-of, headed-by, none-of, not-behind, same-number, same-rest}
 use Rattle.journal_check.proofs.header.cut_of.Goals as goal
 use Rattle.journal_check.proofs.header.cut_of.Goals.{else-size-le-MOST-via-then-size-le-MOST+else-size-behind, else-size-le-MOST-via-else-size-le-MOST}

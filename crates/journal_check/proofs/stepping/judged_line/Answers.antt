@@ -1,7 +1,7 @@
 use Rattle.std.proofs.Common.{rules, ◌≡◌, ◌∙◌, sym, ap}
 use Rattle.ideal_world.specs.World.{WorldTurned, entry_of}
 use Rattle.lane_turns.specs.Turning.{answered}
-use Rattle.report_text.specs.Report.{entry_line}
+use Rattle.program_rules.specs.Reports.Report.{entry_line}
 use Rattle.world_core.specs.Ideal.{ideal_world}
 use Rattle.world_core.proofs.Taking.{no_entry}
 use Rattle.journal_check.proofs.NextLine.{nobody-named, nobody-steps, right-line, wrong-line}

@@ -2,7 +2,7 @@ use Rattle.std.proofs.Common.{◌≡◌, ℕ, List, Bool}
 use Rattle.std.specs.List.{list_any}
 use Rattle.std.specs.Str.{bytes_eq}
 use Rattle.serde_json.specs.View.{members_view}
-use Rattle.json_fields.specs.Field.{unknown_key}
+use Rattle.scenario_format.specs.Json.Field.{unknown_key}
 use Rattle.json_fields.proofs.node.unknown_key.Given as goal
 
 abbrev pub invariant-loop-key : goal.invariant-loop-key

@@ -1,5 +1,5 @@
 use Rattle.std.proofs.Common.{◌≡◌, ◌<◌, ◌^◌, drop}
-use Rattle.json_fields.specs.Number.{hex_after}
+use Rattle.scenario_format.specs.Json.Number.{hex_after}
 use Rattle.json_fields.proofs.text.digits.Given as goal
 
 abbrev pub invariant-loop-b : goal.invariant-loop-b

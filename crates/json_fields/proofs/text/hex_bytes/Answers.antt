@@ -1,5 +1,5 @@
 use Rattle.std.proofs.Common.{◌≡◌, ℕ, ◌*◌, ◌++◌, List, drop, option_map, length, arith, length-drop, sym, ap, ◌∙◌}
-use Rattle.json_fields.specs.Text.{hex_bytes}
+use Rattle.scenario_format.specs.Json.Text.{hex_bytes}
 use Rattle.json_fields.proofs.Bytes.{hex_bytes-more, hex_bytes-one}
 use Rattle.json_fields.proofs.text.hex_bytes.Goals as goal
 

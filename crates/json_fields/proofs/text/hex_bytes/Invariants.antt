@@ -1,5 +1,5 @@
 use Rattle.std.proofs.Common.{◌≡◌, ◌*◌, ◌++◌, drop, option_map}
-use Rattle.json_fields.specs.Text.{hex_bytes}
+use Rattle.scenario_format.specs.Json.Text.{hex_bytes}
 use Rattle.json_fields.proofs.text.hex_bytes.Given as goal
 
 abbrev pub invariant-loop-i : goal.invariant-loop-i

@@ -1,6 +1,6 @@
 use Rattle.std.proofs.Common.{refl, get_or}
 use Rattle.io_edge.proofs.Giving.{gives_then, gives_nothing, gives_as}
-use Rattle.report_text.specs.Answer.{byte_text}
+use Rattle.program_rules.specs.Reports.Answer.{byte_text}
 use Rattle.report_text.proofs.Rest.{flat_next, flat_end}
 use Rattle.report_text.proofs.answer.push_digits.Goals as goal
 

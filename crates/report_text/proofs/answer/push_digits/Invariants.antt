@@ -1,6 +1,6 @@
 use Rattle.std.proofs.Common.{drop}
 use Rattle.std.specs.List.{flat_map}
-use Rattle.report_text.specs.Answer.{byte_text}
+use Rattle.program_rules.specs.Reports.Answer.{byte_text}
 use Rattle.io_edge.specs.declared.pieces.Pieces.{Pieces}
 use Rattle.io_edge.specs.Pieces.{Gives}
 use Rattle.report_text.proofs.answer.push_digits.Given as goal

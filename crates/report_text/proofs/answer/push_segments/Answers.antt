@@ -1,6 +1,6 @@
 use Rattle.std.proofs.Common.{refl}
 use Rattle.io_edge.proofs.Giving.{gives_then, gives_nothing, gives_as}
-use Rattle.report_text.specs.Answer.{segment_text}
+use Rattle.program_rules.specs.Reports.Answer.{segment_text}
 use Rattle.report_text.proofs.Rest.{flat_next, flat_end}
 use Rattle.report_text.proofs.answer.push_segments.Goals as goal
 

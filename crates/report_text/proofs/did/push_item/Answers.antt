@@ -1,7 +1,7 @@
 use Rattle.std.proofs.Common.{rules, ◌≡◌}
 use Rattle.busdma_base.specs.Scenarios.Operations.{about_item}
 use Rattle.busdma_base.specs.Scenarios.Words.{item_word_text as item_text}
-use Rattle.report_text.specs.Did.{name_made_at as name_at}
+use Rattle.program_rules.specs.Reports.Did.{name_made_at as name_at}
 use Rattle.io_edge.proofs.Giving.{gives_then}
 use Rattle.report_text.proofs.did.push_item.Goals as goal
 

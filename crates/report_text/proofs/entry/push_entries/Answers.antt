@@ -1,5 +1,5 @@
 use Rattle.io_edge.proofs.Giving.{gives_then, gives_nothing, gives_as}
-use Rattle.report_text.specs.Report.{entry_line}
+use Rattle.program_rules.specs.Reports.Report.{entry_line}
 use Rattle.report_text.proofs.Rest.{numbered_next, numbered_end}
 use Rattle.report_text.proofs.entry.push_entries.Goals as goal
 

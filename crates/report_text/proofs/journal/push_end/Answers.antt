@@ -1,5 +1,5 @@
 use Rattle.std.proofs.Common.{rules, ◌≡◌, length}
-use Rattle.report_text.specs.Report.{report_count}
+use Rattle.program_rules.specs.Reports.Report.{report_count}
 use Rattle.io_edge.proofs.Giving.{gives_then}
 use Rattle.report_text.proofs.journal.push_end.Goals as goal
 

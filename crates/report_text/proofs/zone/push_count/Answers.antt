@@ -1,6 +1,6 @@
 use Rattle.std.proofs.Common.{append_assoc}
 use Rattle.io_edge.proofs.Giving.{gives_then, gives_as}
-use Rattle.report_text.specs.Zone.{value_line}
+use Rattle.program_rules.specs.Reports.Zone.{value_line}
 use Rattle.report_text.proofs.zone.push_count.Goals as goal
 
 pub returns : goal.returns

@@ -1,6 +1,6 @@
 use Rattle.std.proofs.Common.{refl}
 use Rattle.io_edge.proofs.Giving.{gives_then, gives_nothing, gives_as}
-use Rattle.report_text.specs.Zone.{zone_text}
+use Rattle.program_rules.specs.Reports.Zone.{zone_text}
 use Rattle.report_text.proofs.Rest.{numbered_next, numbered_end}
 use Rattle.report_text.proofs.zone.push_zones.Goals as goal
 

@@ -1,6 +1,6 @@
 use Rattle.std.proofs.Common.{drop}
-use Rattle.report_text.specs.Text.{numbered}
-use Rattle.report_text.specs.Zone.{zone_text}
+use Rattle.program_rules.specs.Reports.Text.{numbered}
+use Rattle.program_rules.specs.Reports.Zone.{zone_text}
 use Rattle.io_edge.specs.declared.pieces.Pieces.{Pieces}
 use Rattle.io_edge.specs.Pieces.{Gives}
 use Rattle.report_text.proofs.zone.push_zones.Given as goal

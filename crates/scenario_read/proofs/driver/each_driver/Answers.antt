@@ -1,7 +1,7 @@
 use Rattle.std.proofs.Common.{arith}
 use Rattle.std.proofs.lemmas.Grind.{common_steps}
 use Rattle.busdma_base.specs.Scenarios.Valid.{IsDriver}
-use Rattle.script_fields.specs.declared.counts.Counts.{Counts}
+use Rattle.scenario_format.specs.declared.counts.Counts.{Counts}
 use Rattle.scenario_read.proofs.Counting.{read_more, loaded_more}
 use Rattle.script_read.proofs.Each.{EachAfter-append}
 use Rattle.scenario_read.proofs.driver.each_driver.Goals as goal

@@ -1,5 +1,5 @@
 use Rattle.std.proofs.Common.{◌≡◌, ◌<◌, ◌^◌, drop}
-use Rattle.scenario_read.specs.Order.{number_after}
+use Rattle.scenario_format.specs.Scenarios.Order.{number_after}
 use Rattle.scenario_read.proofs.order.digits.Given as goal
 
 abbrev pub invariant-loop-b : goal.invariant-loop-b

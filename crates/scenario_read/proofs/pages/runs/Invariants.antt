@@ -3,8 +3,8 @@ use Rattle.serde_json.specs.View.{view}
 use Rattle.busdma_machine.specs.Each.{EachAfter}
 use Rattle.busdma_base.specs.Scenarios.PageRuns.{IsPageRun}
 use Rattle.json_fields.specs.Field.{spot_of}
-use Rattle.json_fields.specs.Items.{each}
-use Rattle.scenario_read.specs.Pages.{page_run_at}
+use Rattle.scenario_format.specs.Json.Items.{each}
+use Rattle.scenario_format.specs.Scenarios.Pages.{page_run_at}
 use Rattle.scenario_read.proofs.pages.runs.Given as goal
 
 abbrev pub invariant-loop-value : goal.invariant-loop-value

@@ -3,8 +3,8 @@ use Rattle.std.specs.List.{AllByRecursion}
 use Rattle.serde_json.specs.View.{view}
 use Rattle.busdma_base.specs.Scenarios.PageRuns.{has_frame}
 use Rattle.json_fields.specs.Field.{spot_of}
-use Rattle.json_fields.specs.Items.{each}
-use Rattle.script_fields.specs.Bios.{read_bio_frame as frame_at}
+use Rattle.scenario_format.specs.Json.Items.{each}
+use Rattle.scenario_format.specs.Parts.Bios.{read_bio_frame as frame_at}
 use Rattle.script_fields.proofs.bios.each_frame.Given as goal
 
 abbrev pub invariant-loop-value : goal.invariant-loop-value

@@ -1,7 +1,7 @@
 use Rattle.std.proofs.Common.{◌≡◌, drop, map}
 use Rattle.serde_json.specs.View.{view}
 use Rattle.json_fields.specs.Field.{spot_of}
-use Rattle.script_fields.specs.Flags.{flags_from}
+use Rattle.scenario_format.specs.Parts.Flags.{flags_from}
 use Rattle.script_fields.proofs.flags.union.Given as goal
 
 abbrev pub invariant-loop-value : goal.invariant-loop-value

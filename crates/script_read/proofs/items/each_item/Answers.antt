@@ -1,7 +1,8 @@
 use Rattle.std.proofs.Common.{arith, ap, ◌∙◌}
 use Rattle.std.proofs.lemmas.Grind.{common_steps}
 use Rattle.busdma_base.specs.Scenarios.Operations.{read_by_item}
-use Rattle.script_fields.specs.Counts.{having_read, one_step_counted as stepped}
+use Rattle.script_fields.specs.Counts.{having_read}
+use Rattle.scenario_format.specs.Parts.Counts.{one_step_counted as stepped}
 use Rattle.script_read.proofs.Counting.{with_items_more}
 use Rattle.script_read.proofs.items.each_item.Goals as goal
 

@@ -3,9 +3,10 @@ use Rattle.std.specs.List.{AllByRecursion}
 use Rattle.serde_json.specs.View.{view}
 use Rattle.busdma_base.specs.Scenarios.Script.{IsItem, is_ring_step}
 use Rattle.json_fields.specs.Field.{spot_of}
-use Rattle.json_fields.specs.Items.{each}
-use Rattle.script_fields.specs.Counts.{IsWithin, with_items}
-use Rattle.script_read.specs.Items.{read_item as item_at}
+use Rattle.scenario_format.specs.Json.Items.{each}
+use Rattle.script_fields.specs.Counts.{IsWithin}
+use Rattle.scenario_format.specs.Parts.Counts.{with_items}
+use Rattle.scenario_format.specs.Scripts.Items.{read_item as item_at}
 use Rattle.script_read.proofs.items.each_item.Given as goal
 
 abbrev pub invariant-loop-value : goal.invariant-loop-value

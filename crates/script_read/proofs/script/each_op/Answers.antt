@@ -1,7 +1,8 @@
 use Rattle.std.proofs.Common.{arith, ap, ◌∙◌}
 use Rattle.std.proofs.lemmas.Grind.{common_steps}
 use Rattle.busdma_base.specs.Scenarios.Script.{IsOp}
-use Rattle.script_fields.specs.Counts.{with_op, one_step_counted as stepped}
+use Rattle.script_fields.specs.Counts.{with_op}
+use Rattle.scenario_format.specs.Parts.Counts.{one_step_counted as stepped}
 use Rattle.script_read.proofs.Counting.{with_ops_more}
 use Rattle.script_read.proofs.Each.{EachAfter-append}
 use Rattle.script_read.proofs.script.each_op.Goals as goal

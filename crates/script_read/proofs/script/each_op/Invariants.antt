@@ -5,9 +5,10 @@ use Rattle.busdma_machine.specs.Each.{EachAfter}
 use Rattle.busdma_base.specs.Scenarios.Script.{IsOp}
 use Rattle.busdma_base.specs.Scenarios.Valid.{LoadsFrom}
 use Rattle.json_fields.specs.Field.{spot_of}
-use Rattle.json_fields.specs.Items.{each}
-use Rattle.script_fields.specs.Counts.{IsWithin, with_ops}
-use Rattle.script_read.specs.Script.{op_at}
+use Rattle.scenario_format.specs.Json.Items.{each}
+use Rattle.script_fields.specs.Counts.{IsWithin}
+use Rattle.scenario_format.specs.Parts.Counts.{with_ops}
+use Rattle.scenario_format.specs.Scripts.Script.{op_at}
 use Rattle.script_read.proofs.script.each_op.Given as goal
 
 abbrev pub invariant-loop-value : goal.invariant-loop-value

@@ -1,5 +1,5 @@
 use Rattle.std.proofs.Common.{◌≡◌, ◌*◌, ◌^◌, ◌≤◌, take}
-use Rattle.storm.specs.Summary.{deferred}
+use Rattle.program_rules.specs.Storms.Summary.{deferred}
 use Rattle.storm.proofs.lines.deferred.Given as goal
 
 abbrev pub invariant-loop-zone : goal.invariant-loop-zone

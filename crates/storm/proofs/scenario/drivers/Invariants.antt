@@ -1,7 +1,7 @@
 use Rattle.std.proofs.Common.{◌≡◌, ◌++◌, ◌*◌, ◌-◌, map}
 use Rattle.busdma_machine.specs.Runs.{run_of}
-use Rattle.storm.specs.Generator.{drawn}
-use Rattle.storm.specs.Scenario.{driver, storm_scenario as storm}
+use Rattle.program_rules.specs.Storms.Generator.{drawn}
+use Rattle.program_rules.specs.Storms.Scenario.{driver, storm_scenario as storm}
 use Rattle.storm.proofs.scenario.drivers.Given as goal
 
 abbrev pub invariant-loop-number : goal.invariant-loop-number

@@ -1,8 +1,8 @@
 use Rattle.std.proofs.Common.{◌≡◌, ◌++◌, ◌*◌, ◌-◌}
 use Rattle.std.specs.List.{flat_map}
 use Rattle.busdma_machine.specs.Runs.{run_of}
-use Rattle.storm.specs.Generator.{drawn}
-use Rattle.storm.specs.Scenario.{round_at, storm_rounds as rounds}
+use Rattle.program_rules.specs.Storms.Generator.{drawn}
+use Rattle.program_rules.specs.Storms.Scenario.{round_at, storm_rounds as rounds}
 use Rattle.storm.proofs.scenario.push_rounds.Given as goal
 
 abbrev pub invariant-loop-number : goal.invariant-loop-number

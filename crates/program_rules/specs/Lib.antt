@@ -1,0 +1,4 @@
+pub mod Commands
+pub mod Reports
+pub mod Storms
+pub mod Verdicts

@@ -1,0 +1,13 @@
+//! What the program writes and how it ends, as definitions: the text of a journal, storms and their summaries, the verdict on
+//! a text, the command line, and what a call of the program keeps. It has the types of which they speak, and no code that runs.
+#![tactic(auto)]
+
+mod command;
+mod program_end;
+mod transfer;
+mod verdict;
+
+pub use command::Command;
+pub use program_end::ProgramEnd;
+pub use transfer::Transfer;
+pub use verdict::Verdict;

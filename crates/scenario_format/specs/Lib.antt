@@ -1,0 +1,4 @@
+pub mod Json
+pub mod Parts
+pub mod Scenarios
+pub mod Scripts

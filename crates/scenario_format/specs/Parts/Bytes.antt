@@ -1,0 +1,32 @@
+-- What an operation writes.
+use Rattle.std.specs.Prelude.{Bool, true, false, Option, Some, None, Ok, is_some, codes}
+use Rattle.busdma_base.specs.declared.scenarios.script.Bytes.{Bytes}
+use Rattle.busdma_base.specs.declared.scenarios.script.Bytes.TheVariants.{Listed, Filled}
+use Rattle.scenario_format.specs.Json.Read.{Read, ◌>>=◌, refuse}
+use Rattle.scenario_format.specs.Json.Field.{Spot, field}
+use Rattle.scenario_format.specs.Json.Number.{number_field}
+use Rattle.scenario_format.specs.Json.Text.{read_bytes}
+use Rattle.scenario_format.specs.declared.refusal.RefusalKind.TheVariants.{BadField}
+use Rattle.scenario_format.specs.Parts.Numbers.{byte_field}
+
+-- bytes by `hex`
+unfoldable pub listed_at : Spot → Read Bytes
+listed_at spot = read_bytes spot >>= (λ bytes. Ok (Listed bytes))
+
+-- one byte, `len` times
+unfoldable pub filled_at : Spot → Read Bytes
+filled_at here =
+    byte_field (codes "fill") here >>= (λ byte.
+    number_field (codes "len") here >>= (λ n.
+    Ok (Filled byte n)))
+
+-- `hex`, or `fill` with `len`: an operation with both or neither is refused as a whole
+abbrev pub bytes_by : Option Spot → Bool → Bool → Spot → Read Bytes
+bytes_by (Some hex) false false here = listed_at hex
+bytes_by None true _ here = filled_at here
+bytes_by _ _ _ here = refuse BadField here.place
+
+-- what an operation writes
+unfoldable pub read_written : Spot → Read Bytes
+read_written here =
+    bytes_by (field (codes "hex") here) (is_some (field (codes "fill") here)) (is_some (field (codes "len") here)) here

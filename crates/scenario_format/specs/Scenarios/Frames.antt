@@ -1,0 +1,51 @@
+-- The frames of the machine, as they are read.
+use Rattle.std.specs.Prelude.{ℕ, ◌+◌, List, [], ◌∷◌, Ok, if◌then◌else◌, nat_le, nat_lt}
+use Rattle.std.specs.List.{list_any}
+use Rattle.serde_json.specs.Data.{Data}
+use Rattle.busdma_base.specs.declared.scenarios.scenario.FrameRun.{FrameRun}
+use Rattle.busdma_base.specs.Scenarios.FrameRuns.{frame_count, overlap}
+use Rattle.scenario_format.specs.Json.Place.{DocumentPlace}
+use Rattle.scenario_format.specs.Json.Read.{Read, ◌>>=◌, refuse}
+use Rattle.scenario_format.specs.Json.Field.{Spot}
+use Rattle.scenario_format.specs.Json.Number.{number_at}
+use Rattle.scenario_format.specs.Json.Items.{items_at, each}
+use Rattle.scenario_format.specs.declared.refusal.RefusalKind.TheVariants.{BadField, Limit, FrameTwice}
+use Rattle.scenario_format.specs.declared.refusal.LimitName.TheVariants.{Frames, FrameNumber}
+use Rattle.busdma_base.specs.Scenarios.Limits.{frames_limit, frame_numbers}
+
+-- a number in a list of numbers is refused with the list's place
+abbrev pub number_within : DocumentPlace → Data → Read ℕ
+number_within place d = number_at (record { place = place; value = d })
+
+-- a run has at least one frame
+abbrev pub frame_run_of : DocumentPlace → ℕ → ℕ → Read FrameRun
+frame_run_of place first count =
+    if nat_le 1 count then Ok (record { first = first; count = count }) else refuse BadField place
+
+-- a list of two numbers
+abbrev pub run_in : DocumentPlace → List Data → Read FrameRun
+run_in place [] = refuse BadField place
+run_in place (a ∷ []) = refuse BadField place
+run_in place (a ∷ b ∷ []) =
+    number_within place a >>= (λ first. number_within place b >>= (λ count. frame_run_of place first count))
+run_in place (a ∷ b ∷ c ∷ more) = refuse BadField place
+
+-- the limit on frame numbers, the limit on all frames, and no frame of an earlier run
+abbrev pub run_judged : List FrameRun → DocumentPlace → FrameRun → Read FrameRun
+run_judged before place run =
+    if nat_lt frame_numbers (run.first + run.count) then refuse (Limit FrameNumber) place
+    else (if nat_lt frames_limit (frame_count before + run.count) then refuse (Limit Frames) place
+    else (if list_any (overlap run) before then refuse FrameTwice place
+    else Ok run))
+
+-- a run of frames by itself
+unfoldable pub run_at : Spot → Read FrameRun
+run_at here = items_at here >>= run_in here.place
+
+-- a run of frames behind those before it
+unfoldable pub frame_run_at : List FrameRun → Spot → Read FrameRun
+frame_run_at before here = run_at here >>= run_judged before here.place
+
+-- the list of runs
+unfoldable pub read_frame_runs : Spot → Read (List FrameRun)
+read_frame_runs here = items_at here >>= each frame_run_at here []

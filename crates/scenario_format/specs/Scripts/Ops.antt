@@ -1,0 +1,158 @@
+-- The operations of a script but its loads, each read by itself and by the operations before it.
+use Rattle.std.specs.Prelude.{ℕ, ◌-◌, ◌^◌, List, [], ◌∷◌, length, Ok, codes}
+use Rattle.busdma_base.specs.declared.scenarios.script.Op.{Op}
+use Rattle.busdma_base.specs.declared.scenarios.script.Op.TheVariants as op
+use Rattle.busdma_machine.specs.declared.tags.tag.SpaceLimits.{SpaceLimits}
+use Rattle.busdma_machine.specs.declared.tags.tag.TagLimits.{TagLimits}
+use Rattle.busdma_base.specs.Scenarios.Operations.{bytes_of}
+use Rattle.scenario_format.specs.Json.Read.{Read, ◌>>=◌}
+use Rattle.scenario_format.specs.Json.Field.{Spot, field, only_keys, one_of}
+use Rattle.scenario_format.specs.Json.Number.{number_field, number_or}
+use Rattle.scenario_format.specs.declared.counts.Counts.{Counts}
+use Rattle.scenario_format.specs.declared.flag_set.FlagSet.TheVariants as set
+use Rattle.busdma_base.specs.declared.scenarios.operations.NameUse.{NameUse}
+use Rattle.busdma_base.specs.declared.scenarios.operations.NameUse.TheVariants as use_as
+use Rattle.scenario_format.specs.Parts.Bytes.{read_written}
+use Rattle.scenario_format.specs.Parts.Counts.{access_judged, read_judged}
+use Rattle.scenario_format.specs.Parts.Flags.{flags_field}
+use Rattle.scenario_format.specs.Parts.Names.{new_name, used_name, parent_or_none}
+use Rattle.scenario_format.specs.Parts.Numbers.{short_or}
+use Rattle.scenario_format.specs.Parts.Places.{access_at}
+use Rattle.scenario_format.specs.Parts.Syncs.{sync_fields_at, range_fields_at}
+
+-- the limits of a tag, each with its default where it is not given
+unfoldable pub limits_at : Spot → Read TagLimits
+limits_at here =
+    number_or (codes "alignment") 1 here >>= (λ alignment.
+    number_or (codes "boundary") 0 here >>= (λ boundary.
+    number_or (codes "lowaddr") (2 ^ 64 - 1) here >>= (λ lowaddr.
+    number_or (codes "highaddr") (2 ^ 64 - 1) here >>= (λ highaddr.
+    number_or (codes "maxsize") (2 ^ 32 - 1) here >>= (λ maxsize.
+    short_or (codes "nsegments") 65536 here >>= (λ nsegments.
+    number_or (codes "maxsegsz") (2 ^ 32 - 1) here >>= (λ maxsegsz.
+    flags_field set.Tag here >>= (λ flags.
+    Ok (record {
+      alignment = alignment;
+      boundary = boundary;
+      lowaddr = record { 0 = lowaddr };
+      highaddr = record { 0 = highaddr };
+      maxsize = maxsize;
+      nsegments = nsegments;
+      maxsegsz = maxsegsz;
+      flags = flags;
+    })))))))))
+
+-- the making of a tag
+unfoldable pub read_tag : List Op → Spot → Read Op
+read_tag before here =
+    only_keys (one_of (codes "op" ∷ codes "name" ∷ codes "parent" ∷ codes "alignment" ∷ codes "boundary"
+    ∷ codes "lowaddr" ∷ codes "highaddr" ∷ codes "maxsize" ∷ codes "nsegments" ∷ codes "maxsegsz" ∷ codes "flags" ∷
+    []))
+    here >>= (λ _.
+    new_name (codes "name") before here >>= (λ name.
+    parent_or_none before (field (codes "parent") here) >>= (λ parent.
+    limits_at here >>= (λ limits.
+    Ok (op.Tag name parent limits)))))
+
+-- the limits of an IOMMU tag, each with its default where it is not given
+unfoldable pub space_limits_at : Spot → Read SpaceLimits
+space_limits_at here =
+    number_or (codes "lowaddr") (2 ^ 32 - 1) here >>= (λ lowaddr.
+    number_or (codes "boundary") 0 here >>= (λ boundary.
+    number_or (codes "maxsize") (2 ^ 32 - 1) here >>= (λ maxsize.
+    short_or (codes "nsegments") 65536 here >>= (λ nsegments.
+    number_or (codes "maxsegsz") (2 ^ 32 - 1) here >>= (λ maxsegsz.
+    Ok (record {
+      boundary = boundary;
+      lowaddr = record { 0 = lowaddr };
+      maxsize = maxsize;
+      nsegments = nsegments;
+      maxsegsz = maxsegsz;
+    }))))))
+
+-- the making of an IOMMU tag
+unfoldable pub read_iommu_tag : List Op → Spot → Read Op
+read_iommu_tag before here =
+    only_keys (one_of (codes "op" ∷ codes "name" ∷ codes "lowaddr" ∷ codes "boundary" ∷ codes "maxsize"
+    ∷ codes "nsegments" ∷ codes "maxsegsz" ∷ []))
+    here >>= (λ _.
+    new_name (codes "name") before here >>= (λ name.
+    space_limits_at here >>= (λ limits.
+    Ok (op.IommuTag name limits))))
+
+-- the end of a tag of either kind
+unfoldable pub tag_destroy_at : List Op → Spot → Read Op
+tag_destroy_at before here =
+    only_keys (one_of (codes "op" ∷ codes "tag" ∷ [])) here >>= (λ _.
+    used_name use_as.AnyTag (codes "tag") before here >>= (λ tag.
+    Ok (op.TagDestroy tag)))
+
+-- the making of a map of a tag of either kind
+unfoldable pub read_map : List Op → Spot → Read Op
+read_map before here =
+    only_keys (one_of (codes "op" ∷ codes "name" ∷ codes "tag" ∷ [])) here >>= (λ _.
+    new_name (codes "name") before here >>= (λ name.
+    used_name use_as.AnyTag (codes "tag") before here >>= (λ tag.
+    Ok (op.Map name tag))))
+
+-- the map of an operation that says nothing else
+unfoldable pub only_map_at : NameUse → List Op → Spot → Read ℕ
+only_map_at u before here =
+    only_keys (one_of (codes "op" ∷ codes "map" ∷ [])) here >>= (λ _.
+    used_name u (codes "map") before here)
+
+-- the end of a map, which is no memory's
+unfoldable pub map_destroy_at : List Op → Spot → Read Op
+map_destroy_at before here = only_map_at use_as.MapAlone before here >>= (λ map. Ok (op.MapDestroy map))
+
+-- the making of a memory
+unfoldable pub dmamem_at : List Op → Spot → Read Op
+dmamem_at before here =
+    only_keys (one_of (codes "op" ∷ codes "name" ∷ codes "tag" ∷ codes "flags" ∷ [])) here >>= (λ _.
+    new_name (codes "name") before here >>= (λ name.
+    used_name use_as.Tag (codes "tag") before here >>= (λ tag.
+    flags_field set.Memory here >>= (λ flags.
+    Ok (op.Dmamem name tag flags)))))
+
+-- the end of a memory
+unfoldable pub dmamem_free_at : List Op → Spot → Read Op
+dmamem_free_at before here =
+    only_keys (one_of (codes "op" ∷ codes "mem" ∷ [])) here >>= (λ _.
+    used_name use_as.Memory (codes "mem") before here >>= (λ mem.
+    Ok (op.DmamemFree mem)))
+
+-- an unload
+unfoldable pub unload_at : List Op → Spot → Read Op
+unload_at before here = only_map_at use_as.Map before here >>= (λ map. Ok (op.Unload map))
+
+-- a sync of the whole load
+unfoldable pub sync_at : List Op → Spot → Read Op
+sync_at before here = sync_fields_at before here >>= (λ s. Ok (op.Sync s.map s.ops))
+
+-- a sync of a range of the load
+unfoldable pub sync_range_at : List Op → Spot → Read Op
+sync_range_at before here = range_fields_at before here >>= (λ s. Ok (op.SyncRange s.map s.off s.len s.ops))
+
+-- a read of the driver
+unfoldable pub cpu_read_at : List Op → Counts → Spot → Read Op
+cpu_read_at before c here =
+    only_keys (one_of (codes "op" ∷ codes "va" ∷ codes "mem" ∷ codes "off" ∷ codes "len" ∷ [])) here >>= (λ _.
+    access_at before here >>= (λ place.
+    number_field (codes "len") here >>= (λ n.
+    read_judged c n here.place >>= (λ _.
+    Ok (op.CpuRead place n)))))
+
+-- a write of the driver
+unfoldable pub cpu_write_at : List Op → Spot → Read Op
+cpu_write_at before here =
+    only_keys (one_of (codes "op" ∷ codes "va" ∷ codes "mem" ∷ codes "off" ∷ codes "hex" ∷ codes "fill" ∷ codes "len"
+    ∷ []))
+    here >>= (λ _.
+    access_at before here >>= (λ place.
+    read_written here >>= (λ bytes.
+    access_judged (length (bytes_of bytes)) here.place >>= (λ _.
+    Ok (op.CpuWrite place bytes)))))
+
+-- a wait for a map
+unfoldable pub await_at : List Op → Spot → Read Op
+await_at before here = only_map_at use_as.Map before here >>= (λ map. Ok (op.Await map))

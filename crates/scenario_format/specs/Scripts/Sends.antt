@@ -1,0 +1,54 @@
+-- Sends, each read by itself and by the operations before it, with the clusters that they name.
+use Rattle.std.specs.Prelude.{ℕ, ◌+◌, ◌%◌, ◌==◌, ◌||◌, Bool, List, [], ◌∷◌, Ok, codes, if◌then◌else◌, max, min, nat_lt}
+use Rattle.std.specs.Prelude.{not}
+use Rattle.std.specs.List.{list_any}
+use Rattle.busdma_machine.specs.declared.machine.address.Span.{Span}
+use Rattle.busdma_machine.specs.declared.machine.address.Va.{Va}
+use Rattle.busdma_base.specs.declared.scenarios.buffer.Buffer.TheVariants as buffer
+use Rattle.busdma_base.specs.declared.scenarios.script.Op.{Op}
+use Rattle.scenario_format.specs.declared.refusal.RefusalKind.TheVariants.{BadField}
+use Rattle.scenario_format.specs.Json.Field.{Spot, only_keys, one_of, required}
+use Rattle.scenario_format.specs.Json.Items.{each}
+use Rattle.scenario_format.specs.Json.Number.{number_at}
+use Rattle.scenario_format.specs.Json.Place.{DocumentPlace}
+use Rattle.scenario_format.specs.Json.Read.{Read, ◌>>=◌, refuse}
+use Rattle.scenario_format.specs.Scripts.Plan.{plan}
+use Rattle.scenario_format.specs.declared.counts.Counts.{Counts}
+use Rattle.scenario_format.specs.Scripts.Loads.{load_of, loaded_map_at}
+use Rattle.scenario_format.specs.Parts.Spans.{entries_at, entries_field}
+
+-- a cluster at this address and a span have a byte in common; a span without bytes has none
+abbrev pub shares : ℕ → Span → Bool
+shares va s = nat_lt (max va s.va.0) (min (va + 4096) (s.va.0 + s.len))
+
+-- the address is that of a cluster
+abbrev pub is_cluster : ℕ → Va → Bool
+is_cluster va c = c.0 == va
+
+-- another one is refused
+abbrev pub cluster_or : List Span → List Va → DocumentPlace → ℕ → Read Va
+cluster_or chain before place va =
+    if not (va % 4096 == 0) || list_any (is_cluster va) before || list_any (shares va) chain then refuse BadField place
+    else Ok (record { 0 = va })
+
+-- a cluster
+unfoldable pub cluster_at : List Span → List Va → Spot → Read Va
+cluster_at chain before here = number_at here >>= cluster_or chain before here.place
+
+-- the list of clusters
+unfoldable pub clusters_at : List Span → Spot → Read (List Va)
+clusters_at chain here = entries_at here >>= each (cluster_at chain) here []
+
+-- the list in `clusters`, which has to be there
+unfoldable pub clusters_field : List Span → Spot → Read (List Va)
+clusters_field chain here = required (codes "clusters") here >>= clusters_at chain
+
+-- a send, which may not have the key `flags`, and so has no flags
+unfoldable pub read_send : List Op → Counts → Spot → Read Op
+read_send before c here =
+    only_keys (one_of (codes "op" ∷ codes "map" ∷ codes "entries" ∷ codes "clusters" ∷ codes "then" ∷ [])) here
+    >>= (λ _.
+    loaded_map_at before here >>= (λ map.
+    entries_field here >>= (λ chain.
+    clusters_field chain here >>= (λ clusters.
+    load_of before c here map (buffer.Send chain (plan chain clusters))))))

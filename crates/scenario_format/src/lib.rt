@@ -1,0 +1,17 @@
+//! Which bytes are which scenario, or which refusal, as definitions: JSON values and their places, the fields of operations
+//! and items, scripts, scenarios. It has the types of which they speak. Its only code writes a refusal.
+#![tactic(auto)]
+
+mod bio_kind;
+mod counts;
+mod flag_set;
+mod reading;
+mod refusal;
+mod sync_fields;
+
+pub use bio_kind::BioKind;
+pub use counts::Counts;
+pub use flag_set::FlagSet;
+pub use reading::Reading;
+pub use refusal::{LimitName, PathText, Refusal, RefusalKind};
+pub use sync_fields::{RangeFields, SyncFields};
