@@ -1,16 +1,16 @@
 //! Standard output as a sink.
 
-ghost use Rattle.std.specs.Prelude.{◌≡◌, ◌≤◌, ◌<◌, [], length, take, IfNone, IfSome};
+ghost use Rattle.std.specs.Prelude.{◌≡◌, ◌≤◌, [], false, true, length, take, IfNone, IfSome};
 ghost use Rattle.std.specs.Io.KnownBytes.{Appends, Keeps};
-ghost use Rattle.io_edge.specs.Stream.{StreamState, flushed_bytes};
+ghost use Rattle.io_edge.specs.Stream.{flushed_bytes};
 
 use crate::sink::{Put, Sink};
 use std::io::Write;
 use std::marker::Model;
 
-/// Standard output, or another writer of std, as a sink. It holds what its writer has flushed, and
-/// tells of that what its writer tells, which is nothing at standard output. Where the writer took
-/// bytes and could not flush them, the call fails, and nothing is written after.
+/// Standard output, or another writer of std, as a sink. It holds what its writer has flushed, of which a contract knows as
+/// much as the writer's own contract says: nothing at standard output. If the writer took bytes and could not flush them,
+/// the call fails, and nothing is written after it.
 #[derive(Drop)]
 pub struct StdSink<W: Write> {
     writer: W,
@@ -19,10 +19,13 @@ pub struct StdSink<W: Write> {
 }
 
 impl<W: Write> Model for StdSink<W> {
-    ghost Value = { StreamState };
+    ghost use Rattle.io_edge.specs.Stream.{WriterState};
+
+    ghost Value = { WriterState };
 
     ghost view = { λ k. record {
-      bytes = flushed_bytes k.unflushed (W.contents k.writer);
+      taken = W.contents k.writer;
+      unflushed = k.unflushed;
       faults = k.faults;
     } };
 }
@@ -30,7 +33,8 @@ impl<W: Write> Model for StdSink<W> {
 impl<W: Write> StdSink<W> {
     /// At standard output the writer is `io::writer(&rt)`.
     pub fn new(writer: W) -> StdSink<W>
-        ensures bytes { result.bytes ≡ W.contents writer }
+        ensures taken { result.taken ≡ W.contents writer }
+        ensures unflushed { result.unflushed ≡ 0 }
         ensures faults { result.faults ≡ 0 }
     {
         StdSink {
@@ -40,22 +44,51 @@ impl<W: Write> StdSink<W> {
         }
     }
 
-    /// How many bytes of the piece were written and flushed, which is 0 for an empty piece alone.
-    /// None means that it failed, and that the sink holds no byte more.
+    /// Has the writer take a front of the piece, and counts it as unflushed. Returns `None` if the writer failed.
+    fn take_front(&mut self, piece: &[u8]) -> Option<usize>
+        requires { self.old.unflushed ≡ 0 }
+        ensures fits { IfSome result (λ n. n ≤ length piece.now) }
+        ensures taken { IfSome result (λ n. Appends self.old.taken self.new.taken (take n piece.now)) }
+        ensures unflushed { IfSome result (λ n. self.new.unflushed ≡ n) }
+        ensures failed { IfNone result (Keeps self.old.taken self.new.taken) }
+        ensures failed_flushed { IfNone result (self.new.unflushed ≡ 0) }
+        ensures faults { self.new.faults ≡ self.old.faults }
+    {
+        let n = self.writer.write(piece).ok()?;
+        self.unflushed = n;
+        Some(n)
+    }
+
+    /// Has the writer flush what it took, and returns whether it did.
+    fn flush(&mut self) -> bool
+        ensures taken { Keeps self.old.taken self.new.taken }
+        ensures flushed { result ≡ true → self.new.unflushed ≡ 0 }
+        ensures failed { result ≡ false → self.new.unflushed ≡ self.old.unflushed }
+        ensures faults { self.new.faults ≡ self.old.faults }
+    {
+        if self.writer.flush().is_err() {
+            return false;
+        }
+        self.unflushed = 0;
+        true
+    }
+
+    /// Writes a front of the piece and flushes it. Returns how many bytes that were, which is 0 only for an empty piece,
+    /// or `None` if the writer failed; then the sink holds no more bytes than before.
     fn write_through(&mut self, piece: &[u8]) -> Option<usize>
         ensures fits { IfSome result (λ n. n ≤ length piece.now) }
         ensures some { IfSome result (λ n. n ≡ 0 → piece.now ≡ []) }
+        ensures flushed { IfSome result (λ n. self.new.unflushed ≡ 0) }
         ensures written { IfSome result (λ n.
-            Appends self.old.bytes self.new.bytes (take n piece.now)) }
-        ensures failed { IfNone result (Keeps self.old.bytes self.new.bytes) }
+            Appends (flushed_bytes self.old) (flushed_bytes self.new) (take n piece.now)) }
+        ensures failed { IfNone result (Keeps (flushed_bytes self.old) (flushed_bytes self.new)) }
         ensures faults { self.new.faults ≡ self.old.faults }
     {
         if self.unflushed > 0 {
             return None;
         }
-        let n = self.writer.write(piece).ok()?;
-        if self.writer.flush().is_err() {
-            self.unflushed = n;
+        let n = self.take_front(piece)?;
+        if !self.flush() {
             return None;
         }
         if n == 0 && !piece.is_empty() {
@@ -66,7 +99,7 @@ impl<W: Write> StdSink<W> {
 }
 
 impl<W: Write> Sink for StdSink<W> {
-    ghost held = { λ k. k.bytes };
+    ghost held = { λ k. flushed_bytes k };
 
     ghost faults = { λ k. k.faults };
 
