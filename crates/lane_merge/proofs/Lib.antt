@@ -1,8 +1,2 @@
 pub mod Cloned
-pub mod Leading
-pub mod Logged
-pub mod OneTurn
-pub mod Ordering
-pub mod Seams
-pub mod Sides
 pub mod Taking

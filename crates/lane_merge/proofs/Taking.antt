@@ -3,8 +3,8 @@ use Rattle.std.proofs.Common.{◌≡◌, ℕ, zero, suc, ◌<◌, List, [], ◌�
 use Rattle.std.proofs.Common.{slice_set, slice_index_or, append_assoc}
 use Rattle.busdma_machine.specs.declared.bounce.hold.HoldEntry.{HoldEntry}
 use Rattle.busdma_base.specs.declared.journals.journal.JournalEntry.{JournalEntry}
-use Rattle.lane_merge.specs.Merged.{log_of, merged, past_hold, through_hold}
-use Rattle.lane_merge.specs.Runs.{Log}
+use Rattle.ideal_runs.specs.Merged.{log_of, merged, past_hold, through_hold}
+use Rattle.ideal_runs.specs.Runs.{Log}
 
 module _ {Q : Type 0} (items : Q → Log) where
   pub read-map : (logs : List Q) (i : ℕ) (q : Q) → i < length logs → q ≡ slice_index_or logs i q →

@@ -1,44 +1,12 @@
 //! The logs of drivers, and the one journal that they and the history are merged to.
 
 ghost use Rattle.std.specs.Prelude.{◌≡◌, ◌++◌, ◌<◌, All, IfOk, OnOk, length, map};
-ghost use Rattle.lane_merge.specs.Merged.{all_entries, entries_of, logged, logged_entry, merged, past_hold, through_hold};
+ghost use Rattle.ideal_runs.specs.Merged.{all_entries, entries_of, logged_entry, merged, past_hold, through_hold};
 
 use busdma_base::{HoldEntry, JournalEntry};
+use ideal_runs::LoggedStep;
 use std::alloc::{AllocError, Global};
 use std::collections::VecDeque;
-
-/// A step of a driver, by its entry of the journal.
-#[derive(Debug, Drop)]
-pub enum LoggedStep {
-    /// It added no entry to the history of the bounce lock.
-    Local(JournalEntry),
-    /// It added the driver's next entry to the history of the bounce lock.
-    Held(JournalEntry),
-}
-
-impl LoggedStep {
-    /// The step of an entry, with whether it held.
-    pub fn new(entry: JournalEntry, held: bool) -> LoggedStep
-        ensures { result ≡ logged entry held }
-    {
-        if held {
-            LoggedStep::Held(entry)
-        } else {
-            LoggedStep::Local(entry)
-        }
-    }
-}
-
-impl Clone for LoggedStep {
-    ghost is_clone = { λ a b. b ≡ a };
-
-    fn clone(&self) -> Result<LoggedStep, AllocError> {
-        Ok(match self {
-            LoggedStep::Local(entry) => LoggedStep::Local(entry.clone()?),
-            LoggedStep::Held(entry) => LoggedStep::Held(entry.clone()?),
-        })
-    }
-}
 
 /// The log of a driver: its steps, in order.
 pub type LaneLog = VecDeque<LoggedStep>;

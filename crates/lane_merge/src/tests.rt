@@ -2,10 +2,11 @@
 
 ghost use Rattle.std.specs.Prelude.{◌≡◌, IfOk, length};
 
-use crate::{LaneLog, LoggedStep, merge, merge_owned};
+use crate::{LaneLog, merge, merge_owned};
 use busdma_base::{
     Actor, Answer, Did, HoldEntry, HubCall, HubReply, JournalEntry, LaneId, MapId, Side,
 };
+use ideal_runs::LoggedStep;
 use std::alloc::{AllocError, Global};
 use std::collections::VecDeque;
 use std::test::Fail;

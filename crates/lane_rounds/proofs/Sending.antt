@@ -21,7 +21,7 @@ use Rattle.lane_state.specs.contracts.buffers.LoadBytes as Bytes
 use Rattle.lane_state.specs.contracts.kept.KeptLoad as Load
 use Rattle.lane_state.specs.contracts.kept.KeptTag as Tag
 use Rattle.lane_core.specs.contracts.lane.Lane as Lane
-use Rattle.lane_merge.specs.contracts.merging.LoggedStep as Step
+use Rattle.ideal_runs.specs.contracts.logged_step.LoggedStep as Step
 use Rattle.lane_rounds.specs.contracts.worker.Worker as Worker
 
 step_send : IsSend Step.the_row

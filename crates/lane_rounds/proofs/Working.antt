@@ -22,10 +22,10 @@ use Rattle.ideal_lane.proofs.Own.{IsOwn, turn-own}
 use Rattle.lane_state.specs.Doing.{IsUndone}
 use Rattle.lane_state.specs.Served.{IsServed}
 use Rattle.lane_turns.specs.Turning.{IsTurned}
-use Rattle.lane_merge.specs.declared.merging.LoggedStep.{LoggedStep}
-use Rattle.lane_merge.specs.declared.merging.LoggedStep.TheVariants.{Local, Held}
-use Rattle.lane_merge.specs.Merged.{logged}
-use Rattle.lane_merge.specs.Runs.{Log, Runs, StepsAlone, StepsBy}
+use Rattle.ideal_runs.specs.declared.logged_step.LoggedStep.{LoggedStep}
+use Rattle.ideal_runs.specs.declared.logged_step.LoggedStep.TheVariants.{Local, Held}
+use Rattle.ideal_runs.specs.Merged.{logged}
+use Rattle.ideal_runs.specs.Runs.{Log, Runs, StepsAlone, StepsBy}
 use Rattle.lane_rounds.specs.AtWork.{Grows, IsAtWork}
 use Rattle.lane_rounds.proofs.Shapes.{Shape, is_step, turn-shape, taken-steps}
 

@@ -9,7 +9,7 @@ use Rattle.busdma_machine.specs.Bounce.LaneEntries.{of_lane}
 use Rattle.ideal_lane.specs.State.{LaneState}
 use Rattle.lane_core.specs.LaneIdeal.{ideal}
 use Rattle.lane_state.specs.Served.{IsServed}
-use Rattle.lane_merge.specs.Runs.{Log, Runs}
+use Rattle.ideal_runs.specs.Runs.{Log, Runs}
 use Rattle.lane_rounds.specs.declared.worker.Worker.{Worker}
 
 -- a driver came from its first state by its log and by its own entries of what a door has seen, and the door serves it

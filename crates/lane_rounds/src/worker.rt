@@ -9,8 +9,9 @@ ghost use Rattle.lane_rounds.specs.AtWork.{Grows, IsAtWork, Tells, Works, place_
 
 use crate::gate::Gate;
 use busdma_base::{Answer, Did, HubDoor, JournalEntry, LaneId, Side};
+use ideal_runs::LoggedStep;
 use lane_core::{Lane, Turn};
-use lane_merge::{LaneLog, LoggedStep};
+use lane_merge::LaneLog;
 use std::alloc::{AllocError, Global};
 use std::collections::VecDeque;
 use std::snapshot::Snapshot;

@@ -31,63 +31,19 @@ use Rattle.ideal_world.proofs.Keeping.{step-keeps}
 use Rattle.ideal_world.proofs.Lanes.{within}
 use Rattle.ideal_world.proofs.Opens.{opens-well}
 use Rattle.ideal_world.proofs.Rest.{NoneSteps, in_round}
-use Rattle.lane_merge.specs.Merged.{AllRun, AreNumbered, log_of, logged, merged, world_of}
-use Rattle.lane_merge.specs.Order.{AreOrdered}
-use Rattle.lane_merge.specs.Runs.{Log, Runs}
-use Rattle.lane_merge.proofs.Leading.{Some-inj, merged-leads, opening-numbered}
-use Rattle.lane_merge.proofs.Ordering.{merged-ordered}
+use Rattle.ideal_runs.specs.Merged.{AllRun, AreNumbered, log_of, logged, merged, world_of}
+use Rattle.ideal_runs.specs.Order.{AreOrdered}
+use Rattle.ideal_runs.specs.Runs.{Log, Runs}
+use Rattle.ideal_runs.proofs.Leading.{Some-inj, merged-leads, opening-numbered}
+use Rattle.ideal_runs.proofs.Ordering.{merged-ordered}
 use Rattle.lane_rounds.proofs.Shapes.{turn-shape}
 use Rattle.bounce_hub.specs.Seen.{HubSeen}
 use Rattle.lane_core.specs.declared.lane.Lane.{Lane}
 use Rattle.lane_core.specs.LaneIdeal.{ideal}
-use Rattle.lane_run.specs.Closing.{HaveTurned, IsFromLogs, RunsTo}
+use Rattle.ideal_runs.specs.FromLogs.{IsFromLogs, RunsTo}
+use Rattle.lane_run.specs.Closing.{HaveTurned}
 use Rattle.lane_run.specs.Threads.{HasRun}
 use Rattle.lane_run.proofs.Logging.{Joins, all-run-on, joins}
-
--- ---- a run that logs tell
-
--- entries lead from a well-formed world to one
-leads-keep : (s : Scenario) (w : WorldState) (es : List JournalEntry) (end : WorldState) → IsWellFormed s w →
-    Leads w es end → IsWellFormed s end
-leads-keep s w [] end well h = subst (IsWellFormed s) h well
-leads-keep s w (e ∷ es) end well h =
-    leads-keep s (step w e.actor).world es end (step-keeps s w well e.actor) h.1
-
-module _ (s : Scenario) (logs : List Log) (history : List HoldEntry) (w : WorldState) (run : RunsTo s logs history w)
-  where
-    -- the merged journal leads to the world that they ran to
-    pub run-leads : Leads (opening_world s) (merged history logs) w
-    run-leads =
-        subst (λ a. Leads (opening_world s) (merged history logs) (world_of w.lanes a)) run.account
-        (merged-leads (opening s) history logs (opening_world s).lanes w.lanes (opening-numbered s) run.sound
-        run.drivers)
-
-    -- which is well formed
-    pub run-well : IsValid s → IsWellFormed s w
-    run-well valid = leads-keep s (opening_world s) (merged history logs) w (opens-well s valid) run-leads
-
--- each hold is of a driver that has a log
-pub few-logged : {Q : Type 0} (s : Scenario) (items : Q → Log) (qs : List Q) (history : List HoldEntry) (w : WorldState) →
-    RunsTo s (map items qs) history w → All (λ h. h.lane.0 < length qs) history
-few-logged s items qs history w run =
-    All-weaker (λ (h : HoldEntry). h.lane.0 < length (opening_world s).lanes) (λ (h : HoldEntry). h.lane.0 < length qs)
-    (λ h below. omega (arith, below, run.drivers.logged, length-map qs items)) history run.drivers.own
-
-pub from-logs-legal : (s : Scenario) (j : Journal) → IsFromLogs s j → IsLegal s j
-from-logs-legal s j h = record {
-  last = h.last;
-  leads =
-      subst (λ es. Leads (opening_world s) es h.last) (sym h.entries)
-      (run-leads s h.logs h.history h.last h.run);
-  rest = h.rest;
-  zones = h.zones;
-  end = h.end;
-}
-
-pub from-logs-ordered : (s : Scenario) (j : Journal) (h : IsFromLogs s j) → AreOrdered h.history h.logs j.entries
-from-logs-ordered s j h =
-    subst (AreOrdered h.history h.logs) (sym h.entries)
-    (merged-ordered h.history h.logs (opening_world s).lanes h.last.lanes (opening-numbered s) h.run.drivers)
 
 -- ---- one turn more
 

@@ -22,10 +22,10 @@ use Rattle.ideal_world.specs.Holds.{holds_by}
 use Rattle.ideal_world.specs.World.{WorldState, replied}
 use Rattle.ideal_world.proofs.Lanes.{each_set, within}
 use Rattle.ideal_world.proofs.Reached.{entry}
-use Rattle.lane_merge.specs.declared.merging.LoggedStep.{LoggedStep}
-use Rattle.lane_merge.specs.Merged.{AllRun, log_of, logged}
-use Rattle.lane_merge.specs.Runs.{Log, Runs}
-use Rattle.lane_merge.proofs.Seams.{length-slice_set}
+use Rattle.ideal_runs.specs.declared.logged_step.LoggedStep.{LoggedStep}
+use Rattle.ideal_runs.specs.Merged.{AllRun, log_of, logged}
+use Rattle.ideal_runs.specs.Runs.{Log, Runs}
+use Rattle.ideal_runs.proofs.Seams.{length-slice_set}
 use Rattle.lane_merge.proofs.Taking.{map-slice_set, read-map}
 use Rattle.lane_rounds.proofs.Shapes.{Shape, is_step, takes}
 use Rattle.lane_rounds.proofs.Working.{Runs-append, alone, by-hold}

@@ -18,8 +18,8 @@ use Rattle.ideal_lane.specs.State.{LaneState}
 use Rattle.ideal_world.specs.World.{opening_world}
 use Rattle.lane_core.specs.declared.lane.Lane.{Lane}
 use Rattle.lane_core.specs.LaneIdeal.{ideal}
-use Rattle.lane_merge.specs.Merged.{AllRun, log_of}
-use Rattle.lane_merge.specs.Runs.{Log, Runs}
+use Rattle.ideal_runs.specs.Merged.{AllRun, log_of}
+use Rattle.ideal_runs.specs.Runs.{Log, Runs}
 use Rattle.lane_threads.specs.Closing.{LanePass, OthersCame, ClosesAfter, hub_seen}
 use Rattle.lane_threads.specs.PassDoor as pass
 use Rattle.lane_rounds.specs.AtWork.{IsAtWork}

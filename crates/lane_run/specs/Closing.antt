@@ -9,17 +9,11 @@ use Rattle.busdma_base.specs.Scenarios.Opening.{opening}
 use Rattle.ideal_world.specs.Ends.{IsAtRest, world_end}
 use Rattle.ideal_world.specs.Left.{left_of}
 use Rattle.ideal_world.specs.World.{WorldState, opening_world, step_entry, zone_counts}
-use Rattle.lane_merge.specs.Merged.{AllRun, merged}
-use Rattle.lane_merge.specs.Runs.{Log}
+use Rattle.ideal_runs.specs.FromLogs.{RunsTo}
+use Rattle.ideal_runs.specs.Merged.{AllRun, merged}
+use Rattle.ideal_runs.specs.Runs.{Log}
 use Rattle.world_core.specs.Ideal.{holds, ideal_world}
 use Rattle.lane_run.specs.declared.closing.Closing.{Closing}
-
--- from a scenario's opening a sound history of the bounce lock leads to a world's account, and the log of each driver
--- runs it to its state in that world, by its own entries of the history, which has entries of drivers alone
-pub record RunsTo (s : Scenario) (logs : List Log) (history : List HoldEntry) (w : WorldState) : Type 0 where
-  pub sound : IsSound (opening s) history
-  pub account : account_of (opening s) history ≡ w.account
-  pub drivers : AllRun (opening_world s).lanes logs history w.lanes
 
 -- so it is of a run's logs, the holds so far and its world
 abbrev pub HasCome : Scenario → Closing → Type 0
@@ -30,15 +24,3 @@ HasCome s c = RunsTo s (map (λ l. l.items) c.logs.items) (holds c.world) (ideal
 abbrev pub HaveTurned : List Actor → WorldState → WorldState → Bool → Type 0
 HaveTurned actors w v false = (v ≡ w) × All (λ a. step_entry v a ≡ None) actors
 HaveTurned actors w v true = left_of v < left_of w
-
--- a journal has the logs of all drivers, merged by the one history of the bounce lock that they shared, with the counts
--- and the end of the world that they lead to, in which no actor can step
-pub record IsFromLogs (s : Scenario) (j : Journal) : Type 0 where
-  pub logs : List Log
-  pub history : List HoldEntry
-  pub last : WorldState
-  pub run : RunsTo s logs history last
-  pub rest : IsAtRest last
-  pub entries : j.entries ≡ merged history logs
-  pub zones : j.zones ≡ zone_counts last
-  pub end : j.end ≡ world_end last

@@ -2,7 +2,7 @@
 use Rattle.std.specs.Prelude.{◌≡◌, List, [], ◌∷◌}
 use Rattle.lane_core.specs.declared.lane.Lane.{Lane}
 use Rattle.lane_core.specs.LaneIdeal.{ideal}
-use Rattle.lane_merge.specs.Runs.{Log}
+use Rattle.ideal_runs.specs.Runs.{Log}
 use Rattle.lane_threads.specs.Closing.{LanePass}
 use Rattle.lane_threads.specs.PassDoor as pass
 use Rattle.lane_rounds.specs.AtWork.{IsAtWork}

@@ -4,9 +4,9 @@ use Rattle.busdma_base.specs.declared.scenarios.scenario.Scenario.{Scenario}
 use Rattle.busdma_base.specs.Scenarios.Opening.{opening}
 use Rattle.bounce_hub.specs.Seen.{HubSeen}
 use Rattle.lane_core.specs.declared.lane.Lane.{Lane}
-use Rattle.lane_merge.specs.Runs.{Log}
+use Rattle.ideal_runs.specs.Runs.{Log}
 use Rattle.world_core.specs.Kept.{world_of}
-use Rattle.lane_run.specs.Closing.{RunsTo}
+use Rattle.ideal_runs.specs.FromLogs.{RunsTo}
 
 -- the hub began with the scenario's opening account, and by its history the logs run the opening to the drivers' world
 pub record HasRun (s : Scenario) (lanes : List Lane) (logs : List Log) (hub : HubSeen) : Type 0 where

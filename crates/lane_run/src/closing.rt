@@ -3,12 +3,14 @@
 ghost use Rattle.std.specs.Prelude.{◌≡◌, ◌∷◌, [], All, IfOk, None, OnOk};
 ghost use Rattle.busdma_base.specs.Scenarios.Valid.{IsValid};
 ghost use Rattle.ideal_world.specs.World.{step_entry};
-ghost use Rattle.lane_run.specs.Closing.{HaveTurned, HasCome, IsFromLogs};
+ghost use Rattle.ideal_runs.specs.FromLogs.{IsFromLogs};
+ghost use Rattle.lane_run.specs.Closing.{HaveTurned, HasCome};
 ghost use Rattle.world_core.specs.Ideal.{ideal_world};
 
 use busdma_base::{Actor, Journal, LaneId, ListOf, Scenario};
+use ideal_runs::LoggedStep;
 use lane_core::Turn;
-use lane_merge::{LaneLog, LoggedStep, merge_owned};
+use lane_merge::{LaneLog, merge_owned};
 use lane_rounds::Gate;
 use std::alloc::{AllocError, Global};
 use world_core::{World, round_of};

@@ -2,11 +2,9 @@
 #![tactic(auto)]
 
 mod closing;
-mod laws;
 mod parking;
 mod run;
 mod seating;
 mod threads;
 
-pub use laws::runs_are_ordered;
 pub use run::run_lanes;

@@ -3,7 +3,8 @@
 ghost use Rattle.std.specs.Prelude.{◌≡◌, All, IfOk, [], length, map};
 ghost use Rattle.busdma_base.specs.Scenarios.Valid.{IsValid};
 ghost use Rattle.ideal_world.specs.Legal.{IsLegal};
-ghost use Rattle.lane_run.specs.Closing.{HasCome, IsFromLogs};
+ghost use Rattle.ideal_runs.specs.FromLogs.{IsFromLogs};
+ghost use Rattle.lane_run.specs.Closing.{HasCome};
 ghost use Rattle.lane_run.specs.Threads.{HasRun};
 
 use crate::closing::{Closing, finish};

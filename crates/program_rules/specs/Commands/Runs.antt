@@ -4,7 +4,8 @@ use Rattle.busdma_base.specs.declared.scenarios.scenario.Scenario.{Scenario}
 use Rattle.busdma_base.specs.declared.journals.journal.Journal.{Journal}
 use Rattle.scenario_format.specs.declared.reading.Reading.TheVariants.{Good}
 use Rattle.scenario_format.specs.Scenarios.Scenario.{scenario_of}
-use Rattle.ideal_world.specs.Legal.{IsLegal, IsReplayed}
+use Rattle.ideal_runs.specs.FromLogs.{IsFromLogs}
+use Rattle.ideal_world.specs.Legal.{IsReplayed}
 use Rattle.program_rules.specs.Reports.Report.{report}
 use Rattle.program_rules.specs.Storms.Scenario.{storm_scenario}
 use Rattle.program_rules.specs.Storms.Summary.{summary}
@@ -38,10 +39,10 @@ IsReader (Storm n seed) = ⊥
 IsReader Check = Unit {0}
 
 -- the journal is one that the command may make of the scenario: the one that the scenario's order replays; of drivers
--- on threads, any legal one
+-- on threads, one to which their logs are merged by the one history of the bounce lock, which is a legal one
 abbrev pub IsMadeOf : Command → Scenario → Journal → Type 0
 IsMadeOf Replay scenario journal = IsReplayed scenario journal
-IsMadeOf Run scenario journal = IsLegal scenario journal
+IsMadeOf Run scenario journal = IsFromLogs scenario journal
 IsMadeOf (Storm n seed) scenario journal = IsReplayed scenario journal
 IsMadeOf Check scenario journal = ⊥
 

@@ -1,5 +1,5 @@
 use Rattle.std.proofs.Common.{◌≡◌, IfOk, subst}
-use Rattle.lane_merge.specs.Merged.{merged}
+use Rattle.ideal_runs.specs.Merged.{merged}
 use Rattle.lane_merge.proofs.Cloned.{same-logs}
 use Rattle.lane_merge.proofs.merging.merge.Goals as goal
 

@@ -1,7 +1,7 @@
 use Rattle.std.proofs.Common.{◌≡◌, ◌+◌, ◌<◌, ◌∷◌, suc, length, sym, ap, ◌∙◌, subst, drop, slice_index_or, drop-cons}
 use Rattle.std.proofs.Common.{arith, add-one}
 use Rattle.busdma_machine.specs.declared.bounce.hold.HoldEntry.{HoldEntry}
-use Rattle.lane_merge.proofs.Seams.{length-slice_set}
+use Rattle.ideal_runs.proofs.Seams.{length-slice_set}
 use Rattle.lane_merge.proofs.Taking.{taken}
 use Rattle.lane_merge.proofs.merging.merge_owned.Goals as goal
 

@@ -1,5 +1,5 @@
 use Rattle.std.proofs.Common.{◌≡◌, ◌++◌, map, drop, length}
-use Rattle.lane_merge.specs.Merged.{merged}
+use Rattle.ideal_runs.specs.Merged.{merged}
 use Rattle.lane_merge.proofs.merging.merge_owned.Given as goal
 
 abbrev pub invariant-loop-hold : goal.invariant-loop-hold

@@ -1,5 +1,5 @@
 use Rattle.std.proofs.Common.{◌≡◌, ◌++◌, map}
-use Rattle.lane_merge.specs.Merged.{all_entries}
+use Rattle.ideal_runs.specs.Merged.{all_entries}
 use Rattle.lane_merge.proofs.merging.take_all.Given as goal
 
 abbrev pub invariant-loop-log : goal.invariant-loop-log

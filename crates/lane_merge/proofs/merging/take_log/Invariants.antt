@@ -1,5 +1,5 @@
 use Rattle.std.proofs.Common.{◌≡◌, ◌++◌}
-use Rattle.lane_merge.specs.Merged.{entries_of}
+use Rattle.ideal_runs.specs.Merged.{entries_of}
 use Rattle.lane_merge.proofs.merging.take_log.Given as goal
 
 abbrev pub invariant-loop-step : goal.invariant-loop-step

@@ -1,5 +1,5 @@
 use Rattle.std.proofs.Common.{◌≡◌, ◌++◌, length}
-use Rattle.lane_merge.specs.Merged.{past_hold, through_hold}
+use Rattle.ideal_runs.specs.Merged.{past_hold, through_hold}
 use Rattle.lane_merge.proofs.merging.take_through_hold.Given as goal
 
 abbrev pub invariant-loop-step : goal.invariant-loop-step

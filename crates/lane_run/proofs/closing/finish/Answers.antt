@@ -2,10 +2,11 @@ use Rattle.std.proofs.Common.{◌≡◌, ◌<◌, ◌∙◌, List, All, None, ap
 use Rattle.busdma_machine.specs.declared.bounce.hold.HoldEntry.{HoldEntry}
 use Rattle.ideal_world.specs.Legal.{round_from, round_of}
 use Rattle.ideal_world.specs.World.{step_entry}
-use Rattle.lane_merge.specs.Merged.{merged}
-use Rattle.lane_merge.specs.Runs.{Log}
+use Rattle.ideal_runs.specs.Merged.{merged}
+use Rattle.ideal_runs.specs.Runs.{Log}
 use Rattle.world_core.specs.Ideal.{holds, ideal_world}
-use Rattle.lane_run.proofs.Closings.{at-rest, few-logged, run-well}
+use Rattle.ideal_runs.proofs.FromLogs.{few-logged, run-well}
+use Rattle.lane_run.proofs.Closings.{at-rest}
 use Rattle.lane_run.proofs.closing.finish.Goals as goal
 
 pub merge_owned-requires : goal.merge_owned-requires

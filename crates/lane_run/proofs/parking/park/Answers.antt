@@ -2,7 +2,7 @@ use Rattle.std.proofs.Common.{◌≡◌, ◌++◌, [], ◌∷◌, List, All, ap,
 use Rattle.std.proofs.lemmas.List.Elements.{All-tail}
 use Rattle.lane_core.specs.declared.lane.Lane.{Lane}
 use Rattle.lane_core.specs.LaneIdeal.{ideal}
-use Rattle.lane_merge.specs.Runs.{Log}
+use Rattle.ideal_runs.specs.Runs.{Log}
 use Rattle.lane_threads.specs.Closing.{LanePass}
 use Rattle.lane_threads.specs.PassDoor.{place_of, seen}
 use Rattle.lane_rounds.specs.AtWork.{IsAtWork, Works}

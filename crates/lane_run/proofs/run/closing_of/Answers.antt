@@ -1,9 +1,9 @@
 use Rattle.std.proofs.Common.{◌≡◌, List, map, subst, sym}
 use Rattle.busdma_machine.specs.declared.bounce.hold.HoldEntry.{HoldEntry}
 use Rattle.ideal_world.specs.World.{WorldState}
-use Rattle.lane_merge.specs.Runs.{Log}
-use Rattle.lane_run.specs.Closing.{RunsTo}
-use Rattle.lane_run.proofs.Closings.{run-well}
+use Rattle.ideal_runs.specs.Runs.{Log}
+use Rattle.ideal_runs.specs.FromLogs.{RunsTo}
+use Rattle.ideal_runs.proofs.FromLogs.{run-well}
 use Rattle.world_core.specs.Kept.{world_of}
 use Rattle.lane_run.proofs.run.closing_of.Goals as goal
 

@@ -1,5 +1,5 @@
 use Rattle.std.proofs.lemmas.Result.{IfOk-weaker}
-use Rattle.lane_run.proofs.Closings.{from-logs-legal}
+use Rattle.ideal_runs.proofs.FromLogs.{from-logs-legal}
 use Rattle.lane_run.proofs.run.run_lanes.Goals as goal
 
 pub returns-clause-legal : goal.returns-clause-legal

@@ -1,7 +1,7 @@
 use Rattle.std.proofs.Common.{◌≡◌, ◌+◌, ◌++◌, List, All, length, drop, take, map, sym, ap, ◌∙◌, subst, arith, Some}
 use Rattle.bounce_hub.specs.Seen.{HubSeen}
 use Rattle.turnstile.specs.Start.{start_of}
-use Rattle.lane_merge.specs.Runs.{Log}
+use Rattle.ideal_runs.specs.Runs.{Log}
 use Rattle.lane_threads.specs.Closing.{ClosesAfter, LanePass}
 use Rattle.lane_threads.specs.PassDoor.{seen}
 use Rattle.lane_rounds.specs.AtWork.{Works}

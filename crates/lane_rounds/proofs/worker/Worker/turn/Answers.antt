@@ -4,7 +4,7 @@ use Rattle.lane_turns.specs.declared.turn.Turn.{Turn}
 use Rattle.lane_turns.specs.declared.turn.Turn.TheVariants.{Blocked, Ended}
 use Rattle.lane_core.specs.LaneIdeal.{ideal, turned}
 use Rattle.lane_turns.specs.Turning.{IsTurned, answered, is_held}
-use Rattle.lane_merge.specs.Merged.{logged}
+use Rattle.ideal_runs.specs.Merged.{logged}
 use Rattle.lane_rounds.proofs.Shapes.{is_step}
 use Rattle.lane_rounds.proofs.Working.{grows-one, work-fails, work-stays, work-steps}
 use Rattle.lane_rounds.proofs.worker.Worker.turn.Goals as goal

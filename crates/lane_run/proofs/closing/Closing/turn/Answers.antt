@@ -3,10 +3,10 @@ use Rattle.ideal_world.specs.World.{entry_of, step}
 use Rattle.lane_turns.specs.declared.turn.Turn.{Turn}
 use Rattle.lane_turns.specs.declared.turn.Turn.TheVariants.{Blocked, Ended}
 use Rattle.lane_turns.specs.Turning.{answered, is_held}
-use Rattle.lane_merge.specs.Merged.{logged}
-use Rattle.lane_merge.specs.Runs.{Log}
+use Rattle.ideal_runs.specs.Merged.{logged}
+use Rattle.ideal_runs.specs.Runs.{Log}
 use Rattle.world_core.specs.Ideal.{holds, ideal_world}
-use Rattle.lane_run.specs.Closing.{RunsTo}
+use Rattle.ideal_runs.specs.FromLogs.{RunsTo}
 use Rattle.lane_run.proofs.Closings.{rest-runs, rest-turned, step-logged, step-runs, step-turned}
 use Rattle.lane_run.proofs.Logging.{pushed}
 use Rattle.lane_run.proofs.closing.Closing.turn.Goals as goal

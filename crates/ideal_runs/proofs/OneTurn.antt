@@ -14,8 +14,8 @@ use Rattle.ideal_lane.specs.Turns.{Turned, Stepped, lane_step}
 use Rattle.ideal_lane.proofs.Own.{IsOwn, turn-own}
 use Rattle.ideal_world.specs.Legal.{Leads}
 use Rattle.ideal_world.specs.World.{WorldState, WorldTurned, turned, replied, step_of, step, entry_of}
-use Rattle.lane_merge.specs.Merged.{world_of}
-use Rattle.lane_merge.specs.Runs.{StepsAlone, StepsBy}
+use Rattle.ideal_runs.specs.Merged.{world_of}
+use Rattle.ideal_runs.specs.Runs.{StepsAlone, StepsBy}
 
 -- a driver's turn that is a step with this entry
 abbrev stepped : LaneState → JournalEntry → Turned

@@ -7,11 +7,11 @@ use Rattle.ideal_lane.specs.State.{LaneState}
 use Rattle.ideal_world.specs.Legal.{Leads}
 use Rattle.ideal_world.specs.World.{WorldState}
 use Rattle.ideal_world.proofs.Lanes.{within, set-here, set_same}
-use Rattle.lane_merge.specs.declared.merging.LoggedStep.TheVariants.{Local, Held}
-use Rattle.lane_merge.specs.Merged.{entries_of, past_hold, through_hold, world_of}
-use Rattle.lane_merge.specs.Runs.{Log, Runs}
-use Rattle.lane_merge.proofs.OneTurn.{leads-first, alone-owned, by-owned, alone-turns, by-turns}
-use Rattle.lane_merge.proofs.Seams.{set-again}
+use Rattle.ideal_runs.specs.declared.logged_step.LoggedStep.TheVariants.{Local, Held}
+use Rattle.ideal_runs.specs.Merged.{entries_of, past_hold, through_hold, world_of}
+use Rattle.ideal_runs.specs.Runs.{Log, Runs}
+use Rattle.ideal_runs.proofs.OneTurn.{leads-first, alone-owned, by-owned, alone-turns, by-turns}
+use Rattle.ideal_runs.proofs.Seams.{set-again}
 
 -- the driver of a number, after its entries up to its next hold
 pub record IsThroughHold (w : WorldState) (i : ℕ) (log : Log) (h : HoldEntry) (hs : List HoldEntry) (m : LaneState) :

@@ -1,3 +1,4 @@
+pub mod FromLogs
 pub mod Merged
 pub mod Order
 pub mod Runs

@@ -5,8 +5,8 @@ use Rattle.busdma_base.specs.declared.journals.journal.JournalEntry.{JournalEntr
 use Rattle.ideal_lane.specs.Asking.{Gives, call_of, by_reply}
 use Rattle.ideal_lane.specs.State.{LaneState}
 use Rattle.ideal_lane.specs.Turns.{Stepped, lane_step}
-use Rattle.lane_merge.specs.declared.merging.LoggedStep.{LoggedStep}
-use Rattle.lane_merge.specs.declared.merging.LoggedStep.TheVariants.{Local, Held}
+use Rattle.ideal_runs.specs.declared.logged_step.LoggedStep.{LoggedStep}
+use Rattle.ideal_runs.specs.declared.logged_step.LoggedStep.TheVariants.{Local, Held}
 
 -- the steps of a driver, in order
 abbrev pub Log : Type 0

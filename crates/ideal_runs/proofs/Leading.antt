@@ -16,11 +16,11 @@ use Rattle.ideal_world.specs.Ends.{IsAtRest}
 use Rattle.ideal_world.specs.Legal.{IsLegal, Leads, journal_of}
 use Rattle.ideal_world.specs.World.{WorldState, opening_world, step}
 use Rattle.ideal_world.proofs.Lanes.{found, each_set, opening_at}
-use Rattle.lane_merge.specs.Merged.{AllRun, AreNumbered, all_entries, entries_of, log_of, merged, merged_run}
-use Rattle.lane_merge.specs.Merged.{past_hold, through_hold, world_of}
-use Rattle.lane_merge.specs.Runs.{Log, Runs}
-use Rattle.lane_merge.proofs.Logged.{one-hold, no-hold}
-use Rattle.lane_merge.proofs.Seams.{length-slice_set, get-seam, set-seam}
+use Rattle.ideal_runs.specs.Merged.{AllRun, AreNumbered, all_entries, entries_of, log_of, merged, merged_run}
+use Rattle.ideal_runs.specs.Merged.{past_hold, through_hold, world_of}
+use Rattle.ideal_runs.specs.Runs.{Log, Runs}
+use Rattle.ideal_runs.proofs.Logged.{one-hold, no-hold}
+use Rattle.ideal_runs.proofs.Seams.{length-slice_set, get-seam, set-seam}
 
 leads-append : (w v u : WorldState) (xs ys : List JournalEntry) → Leads w xs v → Leads v ys u → Leads w (xs ++ ys) u
 leads-append w v u [] ys p q = subst (λ x. Leads x ys u) (sym p) q

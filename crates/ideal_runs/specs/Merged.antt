@@ -11,9 +11,9 @@ use Rattle.busdma_base.specs.Scenarios.Opening.{opening}
 use Rattle.ideal_lane.specs.State.{LaneState}
 use Rattle.ideal_world.specs.Legal.{Run}
 use Rattle.ideal_world.specs.World.{WorldState}
-use Rattle.lane_merge.specs.declared.merging.LoggedStep.{LoggedStep}
-use Rattle.lane_merge.specs.declared.merging.LoggedStep.TheVariants.{Local, Held}
-use Rattle.lane_merge.specs.Runs.{Log, Runs}
+use Rattle.ideal_runs.specs.declared.logged_step.LoggedStep.{LoggedStep}
+use Rattle.ideal_runs.specs.declared.logged_step.LoggedStep.TheVariants.{Local, Held}
+use Rattle.ideal_runs.specs.Runs.{Log, Runs}
 
 -- a step of this entry, with whether it held
 abbrev pub logged : JournalEntry → Bool → LoggedStep

@@ -11,14 +11,14 @@ use Rattle.busdma_machine.specs.Bounce.LaneEntries.{of_lane}
 use Rattle.busdma_base.specs.declared.journals.journal.JournalEntry.{JournalEntry}
 use Rattle.ideal_lane.specs.State.{LaneState}
 use Rattle.ideal_world.proofs.Lanes.{found}
-use Rattle.lane_merge.specs.declared.merging.LoggedStep.{LoggedStep}
-use Rattle.lane_merge.specs.declared.merging.LoggedStep.TheVariants.{Local, Held}
-use Rattle.lane_merge.specs.Merged.{AllRun, AreNumbered, all_entries, entries_of, log_of, merged, past_hold, through_hold}
-use Rattle.lane_merge.specs.Order.{AreOrdered, HoldsNot, IsInOrder, IsRest, driver_of, has_held}
-use Rattle.lane_merge.specs.Runs.{Log, Runs}
-use Rattle.lane_merge.proofs.Leading.{other-entry, own-entry}
-use Rattle.lane_merge.proofs.OneTurn.{alone-owned, by-owned}
-use Rattle.lane_merge.proofs.Seams.{length-slice_set}
+use Rattle.ideal_runs.specs.declared.logged_step.LoggedStep.{LoggedStep}
+use Rattle.ideal_runs.specs.declared.logged_step.LoggedStep.TheVariants.{Local, Held}
+use Rattle.ideal_runs.specs.Merged.{AllRun, AreNumbered, all_entries, entries_of, log_of, merged, past_hold, through_hold}
+use Rattle.ideal_runs.specs.Order.{AreOrdered, HoldsNot, IsInOrder, IsRest, driver_of, has_held}
+use Rattle.ideal_runs.specs.Runs.{Log, Runs}
+use Rattle.ideal_runs.proofs.Leading.{other-entry, own-entry}
+use Rattle.ideal_runs.proofs.OneTurn.{alone-owned, by-owned}
+use Rattle.ideal_runs.proofs.Seams.{length-slice_set}
 
 -- ---- logs
 

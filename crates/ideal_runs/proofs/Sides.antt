@@ -6,9 +6,9 @@ use Rattle.busdma_base.specs.declared.journals.journal.JournalEntry.{JournalEntr
 use Rattle.ideal_lane.specs.Asking.{call_of, by_reply}
 use Rattle.ideal_lane.specs.State.{LaneState}
 use Rattle.ideal_lane.specs.Turns.{Turned, Stepped, lane_step}
-use Rattle.lane_merge.specs.declared.merging.LoggedStep.TheVariants.{Local, Held}
-use Rattle.lane_merge.specs.Runs.{Log, Runs, StepsAlone, StepsBy}
-use Rattle.lane_merge.specs.Sides.{sides_of, calls_of, replies_of}
+use Rattle.ideal_runs.specs.declared.logged_step.LoggedStep.TheVariants.{Local, Held}
+use Rattle.ideal_runs.specs.Runs.{Log, Runs, StepsAlone, StepsBy}
+use Rattle.ideal_runs.specs.Sides.{sides_of, calls_of, replies_of}
 
 abbrev stepped : LaneState → JournalEntry → Turned
 stepped m e = record { lane = m; turn = Stepped e }

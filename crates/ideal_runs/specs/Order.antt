@@ -3,10 +3,10 @@ use Rattle.std.specs.Prelude.{◌≡◌, ℕ, ◌<◌, ◌≤◌, ◌==◌, Bool
 use Rattle.std.specs.List.{filter}
 use Rattle.busdma_machine.specs.declared.bounce.hold.HoldEntry.{HoldEntry}
 use Rattle.busdma_base.specs.declared.journals.journal.JournalEntry.{JournalEntry}
-use Rattle.lane_merge.specs.declared.merging.LoggedStep.{LoggedStep}
-use Rattle.lane_merge.specs.declared.merging.LoggedStep.TheVariants.{Local, Held}
-use Rattle.lane_merge.specs.Merged.{entries_of, log_of, logged_entry}
-use Rattle.lane_merge.specs.Runs.{Log}
+use Rattle.ideal_runs.specs.declared.logged_step.LoggedStep.{LoggedStep}
+use Rattle.ideal_runs.specs.declared.logged_step.LoggedStep.TheVariants.{Local, Held}
+use Rattle.ideal_runs.specs.Merged.{entries_of, log_of, logged_entry}
+use Rattle.ideal_runs.specs.Runs.{Log}
 
 -- the number of a step's driver
 abbrev pub driver_of : LoggedStep → ℕ

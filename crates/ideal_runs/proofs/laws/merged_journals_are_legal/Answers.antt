@@ -1,5 +1,5 @@
-use Rattle.lane_merge.proofs.Leading.{merged-legal}
-use Rattle.lane_merge.proofs.laws.merged_journals_are_legal.Goals as goal
+use Rattle.ideal_runs.proofs.Leading.{merged-legal}
+use Rattle.ideal_runs.proofs.laws.merged_journals_are_legal.Goals as goal
 
 pub returns : goal.returns
 returns c = λ s history logs lasts sound all rest. merged-legal s history logs lasts sound all rest

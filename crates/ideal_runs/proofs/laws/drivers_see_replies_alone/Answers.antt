@@ -1,5 +1,5 @@
-use Rattle.lane_merge.proofs.Sides.{runs-agree}
-use Rattle.lane_merge.proofs.laws.drivers_see_replies_alone.Goals as goal
+use Rattle.ideal_runs.proofs.Sides.{runs-agree}
+use Rattle.ideal_runs.proofs.laws.drivers_see_replies_alone.Goals as goal
 
 pub returns : goal.returns
 returns c = λ l log other hs ks m n r q sides replies.

@@ -1,7 +1,8 @@
-//! Laws of merged journals.
+//! Laws of merged journals, and of the journals of runs.
 
 ghost use Rattle.std.specs.Prelude.{◌≡◌, List};
 ghost use Rattle.busdma_machine.specs.declared.bounce.hold.HoldEntry.{HoldEntry};
+ghost use Rattle.busdma_base.specs.declared.journals.journal.Journal.{Journal};
 ghost use Rattle.busdma_base.specs.declared.scenarios.scenario.Scenario.{Scenario};
 ghost use Rattle.busdma_machine.specs.Bounce.Account.{Account};
 ghost use Rattle.busdma_machine.specs.Bounce.History.{IsSound, account_of};
@@ -10,10 +11,11 @@ ghost use Rattle.ideal_lane.specs.State.{LaneState};
 ghost use Rattle.ideal_world.specs.Ends.{IsAtRest};
 ghost use Rattle.ideal_world.specs.Legal.{IsLegal, Leads, journal_of};
 ghost use Rattle.ideal_world.specs.World.{opening_world};
-ghost use Rattle.lane_merge.specs.Merged.{AllRun, AreNumbered, merged, merged_run, world_of};
-ghost use Rattle.lane_merge.specs.Order.{AreOrdered};
-ghost use Rattle.lane_merge.specs.Runs.{Log, Runs};
-ghost use Rattle.lane_merge.specs.Sides.{calls_of, replies_of, sides_of};
+ghost use Rattle.ideal_runs.specs.FromLogs.{IsFromLogs};
+ghost use Rattle.ideal_runs.specs.Merged.{AllRun, AreNumbered, merged, merged_run, world_of};
+ghost use Rattle.ideal_runs.specs.Order.{AreOrdered};
+ghost use Rattle.ideal_runs.specs.Runs.{Log, Runs};
+ghost use Rattle.ideal_runs.specs.Sides.{calls_of, replies_of, sides_of};
 
 /// Where each driver has the number of its place, a history is sound from an account on and has entries
 /// of these drivers alone, and the log of each runs it by its own, the merged journal leads from the world
@@ -49,4 +51,12 @@ pub fn drivers_see_replies_alone()
     ensures { (l : LaneState) (log : Log) (other : Log) (hs : List HoldEntry) (ks : List HoldEntry) (m : LaneState)
         (n : LaneState) → Runs l log hs m → Runs l other ks n → sides_of log ≡ sides_of other →
         replies_of hs ≡ replies_of ks → (log ≡ other) × (calls_of hs ≡ calls_of ks) × (m ≡ n) }
+{}
+
+/// A journal of a run's logs is legal, and keeps each log and the holds in order. A step that held nothing
+/// stands before its driver's next hold, with no other driver's step between; or, where its driver does not
+/// hold again, at the end by driver.
+pub fn runs_are_ordered()
+    ensures legal { (s : Scenario) (j : Journal) → IsFromLogs s j → IsLegal s j }
+    ensures ordered { (s : Scenario) (j : Journal) (h : IsFromLogs s j) → AreOrdered h.history h.logs j.entries }
 {}

@@ -4,8 +4,8 @@ use Rattle.busdma_machine.specs.declared.bounce.hold.HoldEntry.{HoldEntry}
 use Rattle.busdma_machine.specs.declared.bounce.hold.HubCall.{HubCall}
 use Rattle.busdma_machine.specs.declared.bounce.hold.HubReply.{HubReply}
 use Rattle.busdma_base.specs.declared.journals.journal.Side.{Side}
-use Rattle.lane_merge.specs.Merged.{logged_entry}
-use Rattle.lane_merge.specs.Runs.{Log}
+use Rattle.ideal_runs.specs.Merged.{logged_entry}
+use Rattle.ideal_runs.specs.Runs.{Log}
 
 -- the sides whose turns the steps of a log were, in order
 abbrev pub sides_of : Log → List Side

@@ -1,5 +1,5 @@
-use Rattle.lane_run.proofs.Closings.{from-logs-legal, from-logs-ordered}
-use Rattle.lane_run.proofs.laws.runs_are_ordered.Goals as goal
+use Rattle.ideal_runs.proofs.FromLogs.{from-logs-legal, from-logs-ordered}
+use Rattle.ideal_runs.proofs.laws.runs_are_ordered.Goals as goal
 
 pub returns-clause-legal : goal.returns-clause-legal
 returns-clause-legal c = λ s j h. from-logs-legal s j h

@@ -1,0 +1,12 @@
+//! Drivers that run at once: their logs, the one history of the bounce lock that they share, and the journal that both are
+//! merged to.
+#![tactic(auto)]
+
+mod laws;
+mod logged_step;
+
+pub use laws::{
+    drivers_see_replies_alone, merged_journals_are_legal, merged_journals_are_ordered,
+    merged_journals_lead, runs_are_ordered,
+};
+pub use logged_step::LoggedStep;
