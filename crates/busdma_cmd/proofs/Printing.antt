@@ -9,10 +9,11 @@ use Rattle.std.specs.Io.KnownBytes.{Appends}
 use Rattle.io_edge.specs.Faults.{Rose}
 use Rattle.io_edge.specs.Writing.{WritesPart}
 use Rattle.io_edge.proofs.Giving.{appends_both}
+use Rattle.scenario_format.specs.declared.refusal.Refusal.{Refusal}
 use Rattle.program_rules.specs.declared.program_end.ProgramEnd.{ProgramEnd}
 use Rattle.program_rules.specs.Commands.Edges.{Edges}
 use Rattle.program_rules.specs.Commands.ProgramCall.{Answers}
-use Rattle.program_rules.specs.Commands.Line.{Prints, Writes, WritesLine, refused_line, status_line}
+use Rattle.program_rules.specs.Commands.Line.{Prints, Writes, WritesLine, refusal_line, status_line}
 
 -- a text was written as the answer of the writing says
 pub writes : {A B : Type 0} (ran : Result A B) (text : List ℕ) (before after : Option (List ℕ))
@@ -58,18 +59,15 @@ pub silent : (o : ProgramEnd) (before : Option (List ℕ)) (faults : ℕ) → o.
     → Prints o before before faults faults
 silent o before faults small =
     let done : nat_le o.status 2 ≡ true = grind (arith, nat_tests) in
-    inl (rw done (refl, refl))
+    rw done (refl, refl)
 
--- of a refused scenario its line is printed, or that of status 71
-pub refused_prints : (o : ProgramEnd) (before after : Option (List ℕ)) (faults now : ℕ) → o.status ≡ 65
-    → WritesLine (refused_line o.fault) before after faults now
-    ⊎ WritesLine (Some (status_line 71)) before after faults now
-    → Prints o before after faults now
-refused_prints o before after faults now is (inl wrote) =
+-- of a refused scenario its line is printed
+pub refused_prints : (o : ProgramEnd) (r : Refusal) (before after : Option (List ℕ)) (faults now : ℕ) → o.status ≡ 65
+    → o.fault ≡ Some r → WritesLine (Some (refusal_line r)) before after faults now → Prints o before after faults now
+refused_prints o r before after faults now is fault wrote =
     let more : nat_le o.status 2 ≡ false = grind (arith, nat_tests) in
     let refused : (o.status == 65) ≡ true = grind (arith, nat_tests) in
-    inl (rw more (rw refused wrote))
-refused_prints o before after faults now is (inr wrote) = inr (is, wrote)
+    rw more (rw refused (rw fault wrote))
 
 -- of every other outcome the line of its status is printed
 pub status_prints : (o : ProgramEnd) (before after : Option (List ℕ)) (faults now : ℕ) → 2 < o.status
@@ -78,7 +76,7 @@ pub status_prints : (o : ProgramEnd) (before after : Option (List ℕ)) (faults 
 status_prints o before after faults now high other wrote =
     let more : nat_le o.status 2 ≡ false = grind (arith, nat_tests) in
     let plain : (o.status == 65) ≡ false = grind (arith, nat_tests) in
-    inl (rw more (rw plain wrote))
+    rw more (rw plain wrote)
 
 -- an outcome of a call has a refusal at 65 alone
 pub refused_at : (words : Option (List (List ℕ))) (e : Edges) (o : ProgramEnd) → Answers words e o

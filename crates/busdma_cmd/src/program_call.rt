@@ -1,16 +1,20 @@
 //! A call of the program, from its words to its status.
 
-ghost use Rattle.std.specs.Prelude.{◌≡◌, ◌↔◌, ◌⊎◌, IsSome, Some, map, option_map, string_bytes};
+ghost use Rattle.std.specs.Prelude.{◌≡◌, ◌≢◌, ◌↔◌, IfSome, IsSome, IsSomeAnd, Some, false, true, map, option_map, string_bytes};
+ghost use Rattle.command_words.specs.Command.{run_words};
 ghost use Rattle.program_rules.specs.Commands.Edges.{edges};
 ghost use Rattle.program_rules.specs.Commands.Line as text;
 ghost use Rattle.program_rules.specs.Commands.Line.{Prints, WritesLine};
-ghost use Rattle.program_rules.specs.Commands.ProgramCall.{Answers, KeepsCall};
+ghost use Rattle.program_rules.specs.Commands.ProgramCall.{Answers, KeepsCall, no_memory};
 
+use crate::command::plain_command;
 use crate::gate::Open;
-use crate::line::{refused_line, status_line};
+use crate::line::status_line;
 use crate::top_call::top;
+use command_words::is_run;
 use io_edge::{Sink, Source, write_all};
 use program_rules::ProgramEnd;
+use report_text::write_refusal;
 use scenario_format::Refusal;
 use std::alloc::{AllocError, Global};
 use std::env;
@@ -42,33 +46,39 @@ fn print_line<E: Sink>(errors: &mut E, line: &[u8])
     }
 }
 
-/// Prints the line of a refused scenario, or that of status 71 where there is no memory for it.
-fn print_refusal<E: Sink>(alloc: Global, fault: &Option<Refusal>, errors: &mut E)
-    requires { IsSome fault.now }
-    ensures { WritesLine (text.refused_line fault.now)
-        (E.held errors.old) (E.held errors.new) (E.faults errors.old) (E.faults errors.new)
-        ⊎ WritesLine (Some (text.status_line 71))
+/// Prints the line of a refused scenario with its line feed, for which it takes no memory. If a write fails, a front of
+/// the line is printed.
+fn print_refusal<E: Sink>(refusal: &Refusal, errors: &mut E)
+    ensures { WritesLine (Some (text.refusal_line refusal.now))
         (E.held errors.old) (E.held errors.new) (E.faults errors.old) (E.faults errors.new) }
 {
-    match refused_line(alloc, fault) {
-        Ok(Some(line)) => print_line(errors, line.as_slice()),
-        Ok(None) => unreachable!(),
-        Err(AllocError) => print_line(errors, status_line(71).as_bytes()),
-    }
+    let _written = write_refusal(refusal, errors);
 }
 
-/// Prints the line that tells why a run did not go well, with its line feed. Where there is no memory for
-/// that of a refused scenario, it prints that of status 71; the others take none. Where the line
-/// cannot be printed whole, the status alone tells.
-fn print_fault<E: Sink>(alloc: Global, outcome: &ProgramEnd, errors: &mut E)
+/// Prints the line that says why a run did not go well, with its line feed, for which it takes no memory. If a write
+/// fails, a front of the line is printed, and only the status says the rest.
+fn print_fault<E: Sink>(outcome: &ProgramEnd, errors: &mut E)
     requires { IsSome outcome.now.fault ↔ (outcome.now.status ≡ 65) }
     ensures { Prints outcome.now
         (E.held errors.old) (E.held errors.new) (E.faults errors.old) (E.faults errors.new) }
 {
-    match outcome.status {
-        0..=2 => {}
-        65 => print_refusal(alloc, &outcome.fault, errors),
-        status => print_line(errors, status_line(status).as_bytes()),
+    if outcome.status <= 2 {
+        return;
+    }
+    match &outcome.fault {
+        Some(refusal) => print_refusal(refusal, errors),
+        None => print_line(errors, status_line(outcome.status).as_bytes()),
+    }
+}
+
+/// How a call ends for whose words there was no memory.
+fn no_memory() -> ProgramEnd
+    ensures { result ≡ no_memory }
+{
+    ProgramEnd {
+        status: 71,
+        journal: None,
+        fault: None,
     }
 }
 
@@ -87,12 +97,42 @@ fn run_words<R: Threads + Wait + Sync, S: Source, K: Sink>(
 {
     match words {
         Some(words) => top(rt, alloc, &words, source, sink, &Open),
-        None => ProgramEnd {
-            status: 71,
-            journal: None,
-            fault: None,
-        },
+        None => no_memory(),
     }
+}
+
+/// Returns whether the words ask for a run on threads.
+pub fn is_run_call(words: &Option<Vec<String>>) -> bool
+    ensures yes { result ≡ true → IsSomeAnd words.now (λ w. map string_bytes w.items ≡ run_words) }
+    ensures no { result ≡ false → IfSome words.now (λ w. map string_bytes w.items ≢ run_words) }
+{
+    match words {
+        Some(words) => is_run(words),
+        None => false,
+    }
+}
+
+/// Does what [`program`] does, for words that do not ask for a run on threads. It starts no thread, waits for nobody and
+/// always returns.
+pub fn plain_program<S: Source, K: Sink, E: Sink>(
+    alloc: Global,
+    words: Option<Vec<String>>,
+    source: &mut S,
+    sink: &mut K,
+    errors: &mut E,
+) -> u8
+    requires { IfSome words (λ w. map string_bytes w.items ≢ run_words) }
+    ensures { KeepsCall (option_map (λ w. map string_bytes w.items) words)
+        (edges S.left S.faults K.held K.faults source.old source.new sink.old sink.new)
+        (E.held errors.old) (E.held errors.new) (E.faults errors.old) (E.faults errors.new)
+        result }
+{
+    let outcome = match words {
+        Some(words) => plain_command(alloc, &words, source, sink),
+        None => no_memory(),
+    };
+    print_fault(&outcome, errors);
+    outcome.status
 }
 
 /// Runs the command that the words ask for, prints the line that tells why it did not go well, and
@@ -111,6 +151,6 @@ pub fn program<R: Threads + Wait + Sync, S: Source, K: Sink, E: Sink>(
         result }
 {
     let outcome = run_words(rt, alloc, words, source, sink);
-    print_fault(alloc, &outcome, errors);
+    print_fault(&outcome, errors);
     outcome.status
 }

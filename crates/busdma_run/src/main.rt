@@ -1,7 +1,7 @@
 //! The program: its words and its standard streams, handed to the command.
 #![tactic(auto)]
 
-use busdma_cmd::{program, program_words};
+use busdma_cmd::{is_run_call, plain_program, program, program_words};
 use io_edge::{StdSink, StdSource};
 use std::io;
 use std::process::ExitCode;
@@ -11,6 +11,12 @@ fn main(rt: HostRuntime) -> ExitCode {
     let mut source = StdSource::new(rt.reader());
     let mut sink = StdSink::new(io::writer(&rt));
     let mut errors = StdSink::new(rt.stderr());
-    let status = program(&rt, rt.alloc(), words, &mut source, &mut sink, &mut errors);
+    let alloc = rt.alloc();
+    // Only a run on threads may wait, so every other command is a call that cannot.
+    let status = if is_run_call(&words) {
+        program(&rt, alloc, words, &mut source, &mut sink, &mut errors)
+    } else {
+        plain_program(alloc, words, &mut source, &mut sink, &mut errors)
+    };
     ExitCode::from(status)
 }

@@ -4,6 +4,7 @@ use Rattle.std.proofs.Common.{◌==◌, refl, sym, ap, ◌∙◌, add-one, drop-
 use Rattle.std.proofs.Math.Dec.{eqb-suc-zero}
 use Rattle.std.proofs.Math.ListN.{drop_of_length-le}
 use Rattle.std.specs.List.{flat_map}
+use Rattle.scenario_format.specs.Json.RefusalText.{behind_space}
 use Rattle.program_rules.specs.Reports.Text.{numbered}
 use Rattle.program_rules.specs.Reports.Answer.{byte_text, bytes_text}
 
@@ -39,3 +40,13 @@ pub some_bytes : (bytes : List ℕ) (none : Bool) → none ≡ (length bytes == 
     → codes " " ++ flat_map byte_text bytes ≡ bytes_text bytes
 some_bytes [] none is fails = absurd (cc (is, fails))
 some_bytes (byte ∷ bytes) none is fails = refl
+
+-- an empty path has no text
+pub no_path : (path : List ℕ) (none : Bool) → none ≡ (length path == 0) → none ≡ true → [] ≡ behind_space path
+no_path [] none is holds = refl
+no_path (byte ∷ bytes) none is holds = absurd (cc (is, holds, eqb-suc-zero (length bytes)))
+
+pub some_path : (path : List ℕ) (none : Bool) → none ≡ (length path == 0) → none ≡ false
+    → codes " " ++ path ≡ behind_space path
+some_path [] none is fails = absurd (cc (is, fails))
+some_path (byte ∷ bytes) none is fails = refl

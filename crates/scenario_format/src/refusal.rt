@@ -1,7 +1,6 @@
 //! Why a scenario is refused.
 
 use busdma_base::Text;
-use std::fmt;
 
 /// The limits of a scenario.
 #[derive(Clone, Copy, Debug, PartialEq, Eq)]
@@ -62,66 +61,4 @@ pub type PathText = Text;
 pub struct Refusal {
     pub kind: RefusalKind,
     pub path: PathText,
-}
-
-impl fmt::Display for LimitName {
-    ghost use Rattle.std.specs.Prelude.{Some};
-    ghost use Rattle.scenario_format.specs.Json.RefusalText.{limit_text};
-
-    ghost output = { λ n. Some (limit_text n) };
-
-    fn fmt<W: fmt::Write>(&self, f: &mut fmt::Formatter<W>) -> fmt::Result {
-        let name = match self {
-            LimitName::Frames => "frames",
-            LimitName::FrameNumber => "frame_number",
-            LimitName::MaxBpages => "max_bpages",
-            LimitName::Drivers => "drivers",
-            LimitName::Order => "order",
-            LimitName::Steps => "steps",
-            LimitName::Entries => "entries",
-            LimitName::Access => "access",
-            LimitName::Reads => "reads",
-            LimitName::Buffer => "buffer",
-            LimitName::Loaded => "loaded",
-        };
-        write!(f, "{name}")
-    }
-}
-
-impl fmt::Display for RefusalKind {
-    ghost use Rattle.std.specs.Prelude.{Some};
-    ghost use Rattle.scenario_format.specs.Json.RefusalText.{kind_text};
-
-    ghost output = { λ k. Some (kind_text k) };
-
-    fn fmt<W: fmt::Write>(&self, f: &mut fmt::Formatter<W>) -> fmt::Result {
-        match self {
-            RefusalKind::NotJson => write!(f, "NotJson"),
-            RefusalKind::BadField => write!(f, "BadField"),
-            RefusalKind::BadFlag => write!(f, "BadFlag"),
-            RefusalKind::BadOp => write!(f, "BadOp"),
-            RefusalKind::Limit(name) => write!(f, "Limit({name})"),
-            RefusalKind::FrameTwice => write!(f, "FrameTwice"),
-            RefusalKind::FrameAbsent => write!(f, "FrameAbsent"),
-            RefusalKind::UnknownName => write!(f, "UnknownName"),
-            RefusalKind::BadHeader => write!(f, "BadHeader"),
-        }
-    }
-}
-
-impl fmt::Display for Refusal {
-    ghost use Rattle.std.specs.Prelude.{Some};
-    ghost use Rattle.scenario_format.specs.Json.RefusalText.{refusal_text};
-
-    ghost output = { λ r. Some (refusal_text r) };
-
-    fn fmt<W: fmt::Write>(&self, f: &mut fmt::Formatter<W>) -> fmt::Result {
-        let kind = self.kind;
-        let path = self.path.as_str();
-        if path.is_empty() {
-            write!(f, "{kind}")
-        } else {
-            write!(f, "{kind} {path}")
-        }
-    }
 }

@@ -8,9 +8,9 @@ use Rattle.scenario_format.specs.declared.refusal.Refusal.{Refusal}
 use Rattle.scenario_format.specs.Json.RefusalText.{refusal_text}
 use Rattle.program_rules.specs.declared.program_end.ProgramEnd.{ProgramEnd}
 
--- the line of a refused scenario
-abbrev pub refused_line : Option Refusal → Option (List ℕ)
-refused_line refusal = option_map (λ r. codes "busdma_run: bad scenario: " ++ refusal_text r) refusal
+-- the line of a refused scenario, without its line feed
+abbrev pub refusal_line : Refusal → List ℕ
+refusal_line r = codes "busdma_run: bad scenario: " ++ refusal_text r
 
 -- the line of a status that alone says what is printed, without its line feed
 abbrev pub status_line : ℕ → List ℕ
@@ -25,7 +25,7 @@ status_line n =
 abbrev pub line_of : ProgramEnd → Option (List ℕ)
 line_of o =
     if nat_le o.status 2 then None
-    else (if o.status == 65 then refused_line o.fault
+    else (if o.status == 65 then option_map refusal_line o.fault
     else Some (status_line o.status))
 
 -- a text was written whole, or a front of it before a write that failed
@@ -39,9 +39,6 @@ abbrev pub WritesLine : Option (List ℕ) → Option (List ℕ) → Option (List
 WritesLine None before after faults now = (after ≡ before) × (now ≡ faults)
 WritesLine (Some line) before after faults now = Writes (line ++ codes "\n") before after faults now
 
--- what is printed of an outcome: its line; or, of a scenario that was refused, where there was no memory for its line,
--- that of status 71 in its place
+-- the line of an outcome is printed
 abbrev pub Prints : ProgramEnd → Option (List ℕ) → Option (List ℕ) → ℕ → ℕ → Type 0
-Prints o before after faults now =
-    WritesLine (line_of o) before after faults now
-    ⊎ ((o.status ≡ 65) × WritesLine (Some (status_line 71)) before after faults now)
+Prints o before after faults now = WritesLine (line_of o) before after faults now

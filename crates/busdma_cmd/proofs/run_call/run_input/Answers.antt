@@ -22,5 +22,5 @@ returns-clause-ends g c =
     let e : Edges = edges g.S.Source.left g.S.Source.faults g.K.Sink.held g.K.Sink.faults
     c.args.source.now c.read_scenario.new.source c.args.sink.now c.write_report.new.sink in
     sink_failed Run e c.in_ok-scenario.scenario c.in_ok-journal.journal _
-    (runs_input Run e c.in_ok-scenario.scenario tt read.reads) read.valid c.in_ok-journal.ensures.legal refl
+    (runs_input Run e c.in_ok-scenario.scenario tt read.reads) read.valid c.in_ok-journal.ensures.merged refl
     failed.unwritten failed.failed
