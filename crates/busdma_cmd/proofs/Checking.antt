@@ -19,11 +19,13 @@ use Rattle.busdma_cmd.specs.declared.cause.Cause.TheVariants as cause
 use Rattle.program_rules.specs.declared.program_end.ProgramEnd.{ProgramEnd}
 use Rattle.program_rules.specs.Commands.Checks.{Checked, HasVerdict, verdict_journal, verdict_line, verdict_status}
 use Rattle.busdma_cmd.specs.Checks.{ChecksBy, Judges, ReadsVerdict, checked_outcome}
-use Rattle.program_rules.specs.Commands.Edges.{Edges, NoReadFailed, WriteFailed, NoWriteFailed, WroteNothing, WroteAll}
+use Rattle.program_rules.specs.Commands.Edges.{StreamEdges as Edges, NoReadFailed, WriteFailed}
+use Rattle.program_rules.specs.Commands.Edges.{NoWriteFailed, WroteNothing, WroteAll}
 use Rattle.program_rules.specs.Commands.Edges.{WrotePart, input_limit}
 use Rattle.busdma_cmd.specs.Ends.{CountsReads, outcome}
 use Rattle.program_rules.specs.Commands.Judging.{bad_header, command_reading as judged, scenario_behind_header}
-use Rattle.program_rules.specs.Commands.Keeps.{Done, IsComplete, IsDone, Keeps, KeepsJournal, Unwritten}
+use Rattle.program_rules.specs.Commands.Keeps.{Done, IsComplete, IsDoneStatus as IsDone}
+use Rattle.program_rules.specs.Commands.Keeps.{Keeps, KeepsJournal, EndsUnwritten as Unwritten}
 use Rattle.program_rules.specs.Commands.Runs.{IsReader}
 use Rattle.busdma_cmd.proofs.Endings.{done_answers, done_of_reading, long_keeps, no_memory_keeps, none_is_some, not_done, other_of_reading, refused_keeps, unread_keeps, unwritten_answers}
 use Rattle.busdma_cmd.proofs.Taking.{AsksFor, all_at_most, if_command, not_gave_too_many, of_command, some_command}

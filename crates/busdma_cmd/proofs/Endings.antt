@@ -18,15 +18,18 @@ use Rattle.program_rules.specs.declared.program_end.ProgramEnd.{ProgramEnd}
 use Rattle.program_rules.specs.declared.command.Command.{Command}
 use Rattle.program_rules.specs.declared.command.Command.TheVariants.{Replay, Run, Storm, Check}
 use Rattle.program_rules.specs.Commands.Words.{command}
-use Rattle.program_rules.specs.Commands.Edges.{Edges, ReadFailed, NoReadFailed, ReadNothing, ReadAll, ReadAtMost}
+use Rattle.program_rules.specs.Commands.Edges.{StreamEdges as Edges, ReadFailed, NoReadFailed}
+use Rattle.program_rules.specs.Commands.Edges.{ReadNothing, ReadAll, ReadAtMost}
 use Rattle.program_rules.specs.Commands.Edges.{ReadTooMany, input_limit}
 use Rattle.program_rules.specs.Commands.Edges.{WriteFailed, NoWriteFailed, WroteNothing, WroteAll, WrotePart}
 use Rattle.busdma_cmd.specs.Ends.{OfInput, CountsReads, Makes, Stops, StopsReading, EndsBy, outcome}
 use Rattle.program_rules.specs.Commands.Judging.{command_reading as judged}
-use Rattle.program_rules.specs.Commands.Keeps.{IsDone, IsOfReading, HasWritten, KeepsJournal, Ran, RanAndWrote}
-use Rattle.program_rules.specs.Commands.Keeps.{RanUnwritten, Done, Unwritten, WasRefused, AnswersInput, AnswersReading}
+use Rattle.program_rules.specs.Commands.Keeps.{IsDoneStatus as IsDone, IsOfReading, HasWritten}
+use Rattle.program_rules.specs.Commands.Keeps.{KeepsJournal, Ran, RanAndWrote}
+use Rattle.program_rules.specs.Commands.Keeps.{RanUnwritten, Done, EndsUnwritten as Unwritten}
+use Rattle.program_rules.specs.Commands.Keeps.{WasRefused, AnswersInput, AnswersReading}
 use Rattle.program_rules.specs.Commands.Keeps.{IsComplete, Keeps}
-use Rattle.program_rules.specs.Commands.Runs.{IsRead, IsReader, Runs}
+use Rattle.program_rules.specs.Commands.Runs.{ReadScenario as IsRead, IsReader, RunsScenario as Runs}
 use Rattle.busdma_cmd.proofs.Taking.{AsksFor, all_at_most, if_command, is_long, not_gave_too_many, not_long, not_too_many, nothing_at_most, of_command, one_more_at_most, runs_few, runs_read, runs_unread, same_judged, some_command}
 
 -- ---- the fields

@@ -1,19 +1,17 @@
 -- What is printed of an outcome.
-use Rattle.std.proofs.Common.{◌≡◌, ℕ, ◌+◌, ◌==◌, ◌<◌, ◌≤◌, ◌↔◌, ◌⊎◌, ◌++◌, Bool, true, false, List, Option, Some, None}
-use Rattle.std.proofs.Common.{Result, Ok, Err, inl, inr, refl, sym, ◌∙◌, subst, arith, nat_le, length, take, length-append}
+use Rattle.std.proofs.Common.{◌≡◌, ℕ, ◌+◌, ◌==◌, ◌<◌, ◌≤◌, ◌↔◌, ◌⊎◌, ◌++◌, List, Option, Some, None}
+use Rattle.std.proofs.Common.{Result, Ok, Err, inl, inr, sym, ◌∙◌, subst, arith, length, take, length-append}
 use Rattle.std.specs.Prelude.{OnOk, OnErr, IsSome}
 use Rattle.std.proofs.Math.Seq.{take-append-add}
-use Rattle.std.proofs.lemmas.Bool.Decides.{nat_tests}
 use Rattle.std.proofs.lemmas.List.{take-append-le}
 use Rattle.std.specs.Io.KnownBytes.{Appends}
 use Rattle.io_edge.specs.Faults.{Rose}
 use Rattle.io_edge.specs.Writing.{WritesPart}
 use Rattle.io_edge.proofs.Giving.{appends_both}
-use Rattle.scenario_format.specs.declared.refusal.Refusal.{Refusal}
 use Rattle.program_rules.specs.declared.program_end.ProgramEnd.{ProgramEnd}
-use Rattle.program_rules.specs.Commands.Edges.{Edges}
-use Rattle.program_rules.specs.Commands.ProgramCall.{Answers}
-use Rattle.program_rules.specs.Commands.Line.{Prints, Writes, WritesLine, refusal_line, status_line}
+use Rattle.program_rules.specs.Commands.Edges.{StreamEdges as Edges}
+use Rattle.program_rules.specs.Commands.ProgramCall.{AnswersWords as Answers}
+use Rattle.program_rules.specs.Commands.Line.{Writes}
 
 -- a text was written as the answer of the writing says
 pub writes : {A B : Type 0} (ran : Result A B) (text : List ℕ) (before after : Option (List ℕ))
@@ -53,30 +51,6 @@ writes_before first second before after faults now (n, less, part) rose =
       ),
       rose,
     )
-
--- of a run that was done and written nothing is printed
-pub silent : (o : ProgramEnd) (before : Option (List ℕ)) (faults : ℕ) → o.status ≤ 2
-    → Prints o before before faults faults
-silent o before faults small =
-    let done : nat_le o.status 2 ≡ true = grind (arith, nat_tests) in
-    rw done (refl, refl)
-
--- of a refused scenario its line is printed
-pub refused_prints : (o : ProgramEnd) (r : Refusal) (before after : Option (List ℕ)) (faults now : ℕ) → o.status ≡ 65
-    → o.fault ≡ Some r → WritesLine (Some (refusal_line r)) before after faults now → Prints o before after faults now
-refused_prints o r before after faults now is fault wrote =
-    let more : nat_le o.status 2 ≡ false = grind (arith, nat_tests) in
-    let refused : (o.status == 65) ≡ true = grind (arith, nat_tests) in
-    rw more (rw refused (rw fault wrote))
-
--- of every other outcome the line of its status is printed
-pub status_prints : (o : ProgramEnd) (before after : Option (List ℕ)) (faults now : ℕ) → 2 < o.status
-    → (o.status ≡ 65 → ⊥) → WritesLine (Some (status_line o.status)) before after faults now
-    → Prints o before after faults now
-status_prints o before after faults now high other wrote =
-    let more : nat_le o.status 2 ≡ false = grind (arith, nat_tests) in
-    let plain : (o.status == 65) ≡ false = grind (arith, nat_tests) in
-    rw more (rw plain wrote)
 
 -- an outcome of a call has a refusal at 65 alone
 pub refused_at : (words : Option (List (List ℕ))) (e : Edges) (o : ProgramEnd) → Answers words e o

@@ -14,12 +14,12 @@ use Rattle.busdma_cmd.specs.declared.cause.Cause.TheVariants as cause
 use Rattle.program_rules.specs.declared.command.Command.{Command}
 use Rattle.program_rules.specs.declared.command.Command.TheVariants.{Replay, Run, Storm, Check}
 use Rattle.program_rules.specs.Commands.Words.{command}
-use Rattle.program_rules.specs.Commands.Edges.{Edges, ReadNothing, ReadAll, ReadAtMost, input_limit}
+use Rattle.program_rules.specs.Commands.Edges.{StreamEdges as Edges, ReadNothing, ReadAll, ReadAtMost, input_limit}
 use Rattle.program_rules.specs.Commands.Edges.{WriteFailed, WroteNothing, WrotePart}
 use Rattle.busdma_cmd.specs.Ends.{Reads, CountsReads, Stops, StopsReading, EndsBy}
 use Rattle.program_rules.specs.Commands.Judging.{command_reading as judged}
 use Rattle.program_rules.specs.Commands.Keeps.{GaveTooMany}
-use Rattle.program_rules.specs.Commands.Runs.{IsMadeOf, IsRead, IsReader, Runs, text_of}
+use Rattle.program_rules.specs.Commands.Runs.{IsMadeOf, ReadScenario as IsRead, IsReader, RunsScenario as Runs, text_of}
 
 -- ---- what is taken
 

@@ -6,7 +6,8 @@ use Rattle.program_rules.specs.declared.command.Command.TheVariants.{Check}
 use Rattle.busdma_cmd.specs.declared.cause.Cause.{Cause}
 use Rattle.busdma_cmd.specs.declared.cause.Cause.TheVariants as cause
 use Rattle.program_rules.specs.declared.program_end.ProgramEnd.{ProgramEnd}
-use Rattle.program_rules.specs.Commands.Edges.{Edges, WriteFailed, NoWriteFailed, WroteNothing, WroteAll, WrotePart}
+use Rattle.program_rules.specs.Commands.Edges.{StreamEdges, WriteFailed, NoWriteFailed}
+use Rattle.program_rules.specs.Commands.Edges.{WroteNothing, WroteAll, WrotePart}
 use Rattle.busdma_cmd.specs.Ends.{OfInput, Stops, StopsReading, outcome}
 use Rattle.program_rules.specs.Commands.Judging.{scenario_behind_header}
 use Rattle.program_rules.specs.Commands.Checks.{HasVerdict, verdict_line, verdict_status, verdict_journal, Checked}
@@ -23,7 +24,7 @@ ReadsVerdict left after (Ok v) = OfInput left after (λ input. HasVerdict input 
 ReadsVerdict left after (Err why) = StopsReading scenario_behind_header left after why
 
 -- how a whole check ends
-abbrev pub ChecksBy : Edges → Result Verdict Cause → Type 0
+abbrev pub ChecksBy : StreamEdges → Result Verdict Cause → Type 0
 ChecksBy e (Ok v) = NoWriteFailed e × Checked e v × WroteAll (verdict_line v) e
 ChecksBy e (Err cause.LineUnwritten) =
     WriteFailed e × ((v : Verdict) × Checked e v × WrotePart (verdict_line v) e)

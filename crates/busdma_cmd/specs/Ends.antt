@@ -14,10 +14,11 @@ use Rattle.busdma_cmd.specs.declared.cause.Cause.TheVariants as cause
 use Rattle.program_rules.specs.declared.program_end.ProgramEnd.{ProgramEnd}
 use Rattle.program_rules.specs.declared.command.Command.{Command}
 use Rattle.program_rules.specs.declared.command.Command.TheVariants.{Replay, Run, Storm, Check}
-use Rattle.program_rules.specs.Commands.Edges.{Edges, ReadNothing, WriteFailed, NoWriteFailed, WroteNothing, WroteAll}
+use Rattle.program_rules.specs.Commands.Edges.{StreamEdges, ReadNothing, WriteFailed}
+use Rattle.program_rules.specs.Commands.Edges.{NoWriteFailed, WroteNothing, WroteAll}
 use Rattle.program_rules.specs.Commands.Edges.{WrotePart, input_limit}
 use Rattle.program_rules.specs.Commands.Judging.{scenario_behind_header}
-use Rattle.program_rules.specs.Commands.Runs.{IsMadeOf, Runs, text_of}
+use Rattle.program_rules.specs.Commands.Runs.{IsMadeOf, RunsScenario, text_of}
 
 -- P holds of all the bytes that were left, which are not too many, and nothing is left
 abbrev pub OfInput : Option (List ℕ) → Option (List ℕ) → (List ℕ → Type 0) → Type 0
@@ -47,20 +48,20 @@ CountsReads before now (Err cause.ReadFailed) = Rose before now
 CountsReads before now (Err why) = now ≡ before
 
 -- the command made the journal of its scenario, a valid one, and this was written of its text
-abbrev pub Makes : Command → Edges → Journal → (List ℕ → Edges → Type 0) → Type 0
+abbrev pub Makes : Command → StreamEdges → Journal → (List ℕ → StreamEdges → Type 0) → Type 0
 Makes c e journal Wrote =
-    (scenario : Scenario) × Runs c e scenario × IsValid scenario × IsMadeOf c scenario journal
+    (scenario : Scenario) × RunsScenario c e scenario × IsValid scenario × IsMadeOf c scenario journal
     × Wrote (text_of c scenario journal) e
 
 -- why a command that wrote nothing stopped; a storm stops only where memory runs out
-abbrev pub Stops : Command → Edges → Cause → Type 0
+abbrev pub Stops : Command → StreamEdges → Cause → Type 0
 Stops Replay e why = StopsReading scenario_of e.left e.left_after why
 Stops Run e why = StopsReading scenario_of e.left e.left_after why
 Stops (Storm n seed) e why = (why ≡ cause.OutOfMemory) × ReadNothing e
 Stops Check e why = StopsReading scenario_behind_header e.left e.left_after why
 
 -- how the whole run of a command ends
-abbrev pub EndsBy : Command → Edges → Result Journal Cause → Type 0
+abbrev pub EndsBy : Command → StreamEdges → Result Journal Cause → Type 0
 EndsBy c e (Ok journal) = NoWriteFailed e × Makes c e journal WroteAll
 EndsBy c e (Err (cause.WriteFailed journal)) = WriteFailed e × Makes c e journal WrotePart
 EndsBy c e (Err why) = Stops c e why × WroteNothing e

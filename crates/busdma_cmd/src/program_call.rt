@@ -5,7 +5,7 @@ ghost use Rattle.command_words.specs.Command.{run_words};
 ghost use Rattle.program_rules.specs.Commands.Edges.{edges};
 ghost use Rattle.program_rules.specs.Commands.Line as text;
 ghost use Rattle.program_rules.specs.Commands.Line.{Prints, WritesLine};
-ghost use Rattle.program_rules.specs.Commands.ProgramCall.{Answers, KeepsCall, no_memory};
+ghost use Rattle.program_rules.specs.Commands.ProgramCall.{AnswersWords, KeepsCall, no_memory};
 
 use crate::command::plain_command;
 use crate::gate::Open;
@@ -91,7 +91,7 @@ fn run_words<R: Threads + Wait + Sync, S: Source, K: Sink>(
     source: &mut S,
     sink: &mut K,
 ) -> ProgramEnd
-    ensures { Answers (option_map (λ w. map string_bytes w.items) words)
+    ensures { AnswersWords (option_map (λ w. map string_bytes w.items) words)
         (edges S.left S.faults K.held K.faults source.old source.new sink.old sink.new)
         result }
 {

@@ -23,7 +23,7 @@ use Rattle.clap.proofs.OnLiterals.{clap_on_literals}
 use Rattle.clap.proofs.WalkLemmas.{walk_stopped}
 use Rattle.clap.proofs.FaultLemmas.{stopped_fault}
 use Rattle.program_rules.specs.Commands.Words.{command, storm_command as storm}
-use Rattle.command_words.specs.Line.{is_flag, line, met, storm_line}
+use Rattle.command_words.specs.Line.{is_flag, line, met, storm_arguments as storm_line}
 
 neither : (a b : Bool) → (a || b) ≡ false → (a ≡ false) × (b ≡ false)
 neither true b is = absurd (true≢false is)

@@ -11,13 +11,13 @@ abbrev pub is_flag : Text → Bool
 is_flag word = slice_index word 0 == 45
 
 -- an argument that has to be given
-abbrev pub required : Text → Rule
-required id = record (new_rule id) { required = true }
+abbrev pub required_argument : Text → Rule
+required_argument id = record (new_rule id) { required = true }
 
 -- `storm N SEED`
-abbrev pub storm_line : App
-storm_line =
-    with_rule (with_rule (new_app (codes "storm")) (required (codes "N"))) (required (codes "SEED"))
+abbrev pub storm_arguments : App
+storm_arguments =
+    with_rule (with_rule (new_app (codes "storm")) (required_argument (codes "N"))) (required_argument (codes "SEED"))
 
 -- the program, without its commands
 abbrev pub program : App
@@ -36,7 +36,7 @@ line = with_subcommand
     (with_subcommand
     (with_subcommand (with_subcommand program (new_app (codes "replay")).top) (new_app (codes "run")).top)
     (new_app (codes "check")).top)
-    storm_line.top
+    storm_arguments.top
 
 -- the storm of two words that may have been given
 abbrev pub storm_asked : Option Text → Option Text → Option Command

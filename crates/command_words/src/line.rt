@@ -2,7 +2,7 @@
 
 ghost use Rattle.std.specs.Prelude.{◌≡◌, IfOk};
 ghost use Rattle.clap.specs.Words.{app_of};
-ghost use Rattle.command_words.specs.Line.{line, storm_line};
+ghost use Rattle.command_words.specs.Line.{line, storm_arguments as storm_line};
 
 use clap::{Arg, Command};
 use std::alloc::{AllocError, Global};

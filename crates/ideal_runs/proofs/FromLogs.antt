@@ -1,5 +1,5 @@
 -- Runs that logs tell: the merged journal leads to their world, is legal and keeps their order.
-use Rattle.std.proofs.Common.{◌≡◌, ℕ, ◌<◌, List, [], ◌∷◌, length, All, sym, subst, arith, map}
+use Rattle.std.proofs.Common.{◌<◌, List, [], ◌∷◌, length, All, sym, subst, arith, map}
 use Rattle.std.proofs.lemmas.List.Elements.{All-weaker}
 use Rattle.std.proofs.lemmas.List.{length-map}
 use Rattle.busdma_machine.specs.declared.bounce.hold.HoldEntry.{HoldEntry}

@@ -1,11 +1,12 @@
 -- A merged journal has its steps in order.
-use Rattle.std.proofs.Common.{◌≡◌, ◌≢◌, ◌⊎◌, inl, inr, ℕ, zero, suc, ◌+◌, ◌<◌, ◌≤◌, ◌==◌, Bool, true, false, List, [], ◌∷◌}
-use Rattle.std.proofs.Common.{◌++◌, length, map, All, Some, refl, sym, ap, ◌∙◌, subst, arith, eq-eqb, ne_eqb, slice_get}
-use Rattle.std.proofs.Common.{slice_set, append_assoc, append-nil}
-use Rattle.std.specs.List.{filter}
+use Rattle.std.proofs.Common.{◌≡◌, ◌≢◌, ◌⊎◌, inl, inr, ℕ, zero, suc, ◌+◌, ◌<◌, ◌≤◌, ◌==◌, cond, List, [], ◌∷◌}
+use Rattle.std.proofs.Common.{◌++◌, length, map, All, refl, sym, ap, ◌∙◌, subst, arith, eq-eqb, ne_eqb}
+use Rattle.std.proofs.Common.{slice_set, append-nil}
+use Rattle.std.specs.List.{count_by, filter}
 use Rattle.std.proofs.lemmas.Bool.{cases_order}
 use Rattle.std.proofs.lemmas.List.{get_or-set_other, get_or-set_same, map-append}
-use Rattle.std.proofs.lemmas.List.Elements.{All-append, All-cons, All-head, All-nil, All-tail, filter-append}
+use Rattle.std.proofs.lemmas.List.Sums.{sum_by-cons}
+use Rattle.std.proofs.lemmas.List.Elements.{All-cons, All-head, All-nil, All-tail, filter-append}
 use Rattle.busdma_machine.specs.declared.bounce.hold.HoldEntry.{HoldEntry}
 use Rattle.busdma_machine.specs.Bounce.LaneEntries.{of_lane}
 use Rattle.busdma_base.specs.declared.journals.journal.JournalEntry.{JournalEntry}
@@ -14,7 +15,7 @@ use Rattle.ideal_world.proofs.Lanes.{found}
 use Rattle.ideal_runs.specs.declared.logged_step.LoggedStep.{LoggedStep}
 use Rattle.ideal_runs.specs.declared.logged_step.LoggedStep.TheVariants.{Local, Held}
 use Rattle.ideal_runs.specs.Merged.{AllRun, AreNumbered, all_entries, entries_of, log_of, merged, past_hold, through_hold}
-use Rattle.ideal_runs.specs.Order.{AreOrdered, HoldsNot, IsInOrder, IsRest, driver_of, has_held}
+use Rattle.ideal_runs.specs.Order.{AreOfDrivers, AreOrdered, HoldsNot, IsRest, driver_of, has_held}
 use Rattle.ideal_runs.specs.Runs.{Log, Runs}
 use Rattle.ideal_runs.proofs.Leading.{other-entry, own-entry}
 use Rattle.ideal_runs.proofs.OneTurn.{alone-owned, by-owned}
@@ -378,15 +379,11 @@ are-merged (h ∷ hs) logs below fit =
     (are-merged hs (slice_set logs h.lane.0 (past_hold (log_of logs h.lane.0)))
     (subst (λ n. All (λ (x : HoldEntry). x.lane.0 < n) hs) (sym same) rest) (fits-on h hs logs first fit))
 
-pub merged-ordered : (hs : List HoldEntry) (logs : List Log) (firsts lasts : List LaneState) → AreNumbered firsts →
-    AllRun firsts logs hs lasts → AreOrdered hs logs (merged hs logs)
-merged-ordered hs logs firsts lasts numbers all =
-    let fit : AllFit hs logs = (λ i lt.
-    let first = found firsts i (omega (arith, lt, all.logged)) in
-    let last = found lasts i (omega (arith, lt, all.logged, all.last)) in
-    runs-fit i (log_of logs i) (of_lane i hs) first.0 last.0 (numbers i first.0 first.1)
-    (all.each i first.0 last.0 first.1 last.1)) in
-    let steps = are-merged hs logs (subst (λ n. All (λ (x : HoldEntry). x.lane.0 < n) hs) (sym all.logged) all.own) fit in
+-- logs that fit a history are merged in order
+fitting-ordered : (hs : List HoldEntry) (logs : List Log) → All (λ (h : HoldEntry). h.lane.0 < length logs) hs →
+    AllFit hs logs → AreOrdered hs logs (merged hs logs)
+fitting-ordered hs logs below fit =
+    let steps = are-merged hs logs below fit in
     record {
       steps = merged_steps hs logs;
       order = record {
@@ -402,3 +399,34 @@ merged-ordered hs logs firsts lasts numbers all =
       };
       is = merged-entries hs logs;
     }
+
+pub merged-ordered : (hs : List HoldEntry) (logs : List Log) (firsts lasts : List LaneState) → AreNumbered firsts →
+    AllRun firsts logs hs lasts → AreOrdered hs logs (merged hs logs)
+merged-ordered hs logs firsts lasts numbers all =
+    fitting-ordered hs logs (subst (λ n. All (λ (x : HoldEntry). x.lane.0 < n) hs) (sym all.logged) all.own) (λ i lt.
+    let first = found firsts i (omega (arith, lt, all.logged)) in
+    let last = found lasts i (omega (arith, lt, all.logged, all.last)) in
+    runs-fit i (log_of logs i) (of_lane i hs) first.0 last.0 (numbers i first.0 first.1)
+    (all.each i first.0 last.0 first.1 last.1))
+
+-- a log whose steps are a driver's, of which so many held
+counted-fit : (i : ℕ) (log : Log) (hs : List HoldEntry) → All (λ s. driver_of s ≡ i) log →
+    count_by has_held log ≡ length hs → Fits i log hs
+counted-fit i [] [] all count = tt
+counted-fit i [] (h ∷ hs) all count = absurd (omega (arith, count))
+counted-fit i (Local e ∷ log) hs all count = (
+  All-head (λ (s : LoggedStep). driver_of s ≡ i) (Local e) log all,
+  counted-fit i log hs (All-tail (λ (s : LoggedStep). driver_of s ≡ i) (Local e) log all)
+      (let more = sum_by-cons (λ (s : LoggedStep). cond (has_held s) 1 0) (Local e) log in omega (arith, more, count)),
+)
+counted-fit i (Held e ∷ log) [] all count =
+    absurd (let more = sum_by-cons (λ (s : LoggedStep). cond (has_held s) 1 0) (Held e) log in omega (arith, more, count))
+counted-fit i (Held e ∷ log) (h ∷ hs) all count = (
+  All-head (λ (s : LoggedStep). driver_of s ≡ i) (Held e) log all,
+  counted-fit i log hs (All-tail (λ (s : LoggedStep). driver_of s ≡ i) (Held e) log all)
+      (let more = sum_by-cons (λ (s : LoggedStep). cond (has_held s) 1 0) (Held e) log in omega (arith, more, count)),
+)
+
+pub logs-ordered : (hs : List HoldEntry) (logs : List Log) → AreOfDrivers hs logs → AreOrdered hs logs (merged hs logs)
+logs-ordered hs logs of =
+    fitting-ordered hs logs of.within (λ i lt. counted-fit i (log_of logs i) (of_lane i hs) (of.own i lt) (of.held i lt))

@@ -1,7 +1,8 @@
 -- The order in which a merged journal has the steps of drivers.
 use Rattle.std.specs.Prelude.{◌≡◌, ℕ, ◌<◌, ◌≤◌, ◌==◌, Bool, true, false, List, ◌∷◌, ◌++◌, map, length, All}
-use Rattle.std.specs.List.{filter}
+use Rattle.std.specs.List.{count_by, filter}
 use Rattle.busdma_machine.specs.declared.bounce.hold.HoldEntry.{HoldEntry}
+use Rattle.busdma_machine.specs.Bounce.LaneEntries.{of_lane}
 use Rattle.busdma_base.specs.declared.journals.journal.JournalEntry.{JournalEntry}
 use Rattle.ideal_runs.specs.declared.logged_step.LoggedStep.{LoggedStep}
 use Rattle.ideal_runs.specs.declared.logged_step.LoggedStep.TheVariants.{Local, Held}
@@ -16,6 +17,13 @@ driver_of s = (logged_entry s).actor.lane.0
 abbrev pub has_held : LoggedStep → Bool
 has_held (Local e) = false
 has_held (Held e) = true
+
+-- each hold is of a driver that has a log; each step of a log is its driver's, and as many of them held as its driver has
+-- holds
+pub record AreOfDrivers (holds : List HoldEntry) (logs : List Log) : Type 0 where
+  pub within : All (λ h. h.lane.0 < length logs) holds
+  pub own : (i : ℕ) → i < length logs → All (λ s. driver_of s ≡ i) (log_of logs i)
+  pub held : (i : ℕ) → i < length logs → count_by has_held (log_of logs i) ≡ length (of_lane i holds)
 
 -- a step is no hold of this driver
 abbrev pub HoldsNot : ℕ → LoggedStep → Type 0

@@ -13,7 +13,7 @@ ghost use Rattle.ideal_world.specs.Legal.{IsLegal, Leads, journal_of};
 ghost use Rattle.ideal_world.specs.World.{opening_world};
 ghost use Rattle.ideal_runs.specs.FromLogs.{IsFromLogs};
 ghost use Rattle.ideal_runs.specs.Merged.{AllRun, AreNumbered, merged, merged_run, world_of};
-ghost use Rattle.ideal_runs.specs.Order.{AreOrdered};
+ghost use Rattle.ideal_runs.specs.Order.{AreOfDrivers, AreOrdered};
 ghost use Rattle.ideal_runs.specs.Runs.{Log, Runs};
 ghost use Rattle.ideal_runs.specs.Sides.{calls_of, replies_of, sides_of};
 
@@ -33,6 +33,13 @@ pub fn merged_journals_lead()
 pub fn merged_journals_are_ordered()
     ensures { (history : List HoldEntry) (logs : List Log) (firsts lasts : List LaneState) →
         AreNumbered firsts → AllRun firsts logs history lasts → AreOrdered history logs (merged history logs) }
+{}
+
+/// So it is of all logs whose steps are their drivers', and of which as many held as the history has holds of the driver,
+/// whatever the steps did.
+pub fn merged_logs_are_ordered()
+    ensures { (history : List HoldEntry) (logs : List Log) → AreOfDrivers history logs →
+        AreOrdered history logs (merged history logs) }
 {}
 
 /// Where that is so of the drivers and the account of a scenario's opening, and no actor can step in the

@@ -7,6 +7,6 @@ mod logged_step;
 
 pub use laws::{
     drivers_see_replies_alone, merged_journals_are_legal, merged_journals_are_ordered,
-    merged_journals_lead, runs_are_ordered,
+    merged_journals_lead, merged_logs_are_ordered, runs_are_ordered,
 };
 pub use logged_step::LoggedStep;

@@ -9,9 +9,10 @@ use Rattle.program_rules.specs.Reports.Zone.{zone_lines}
 use Rattle.ideal_world.specs.Ends.{IsAtRest}
 use Rattle.ideal_world.specs.World.{WorldState}
 use Rattle.journal_check.specs.Following.{AreFollowedTo}
-use Rattle.program_rules.specs.Verdicts.Lines.{lines, alike}
+use Rattle.program_rules.specs.Verdicts.Lines.{lines, alike_lines as alike}
 use Rattle.program_rules.specs.Verdicts.ReportLines.{closing_lines}
-use Rattle.program_rules.specs.Verdicts.Verdict.{CanGoOn, Follows, IsWhole, StopsAtEnd, StopsWithin, journal_at}
+use Rattle.program_rules.specs.Verdicts.Verdict.{CanGoOn, FollowsText as Follows, IsWhole}
+use Rattle.program_rules.specs.Verdicts.Verdict.{StopsAtEnd, StopsWithin, journal_at}
 use Rattle.journal_check.proofs.Lines.{concat-lines}
 
 -- texts with the same lines are the same

@@ -9,7 +9,7 @@ use Rattle.std.proofs.lemmas.Slice.Eq.{starts_is}
 use Rattle.std.specs.Fmt.{decimal}
 use Rattle.std.specs.List.{before_first, starts_with}
 use Rattle.std.specs.Str.Parse.{digits_value}
-use Rattle.program_rules.specs.Verdicts.Header.{Cut, cut_at, cut_of, header, is_headed, size_of}
+use Rattle.program_rules.specs.Verdicts.Header.{Cut, cut_behind_header as cut_at, cut_of, header, is_headed, size_of}
 use Rattle.journal_check.specs.Header.{IsCut}
 use Rattle.journal_check.proofs.FirstLine.{first, first-behind}
 use Rattle.journal_check.proofs.Lines.{and-both}

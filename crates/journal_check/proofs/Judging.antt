@@ -1,7 +1,7 @@
 -- The verdict on lines, over any machine whose actors each have one step.
 use Rattle.std.proofs.Common.{◌≡◌, ◌≢◌, ℕ, zero, suc, ◌+◌, ◌<◌, ◌≤◌, Bool, true, false, List, [], ◌∷◌, ◌++◌, length, take, Option, Some, None}
 use Rattle.std.proofs.lemmas.List.{append_assoc, append-nil, take-take}
-use Rattle.program_rules.specs.Verdicts.Lines.{alike}
+use Rattle.program_rules.specs.Verdicts.Lines.{alike_lines as alike}
 use Rattle.journal_check.proofs.Lines.{take-past, alike-front, alike-breaks}
 use Rattle.std.proofs.Common.{◌⊎◌, inl, inr, refl, sym, ap, ◌∙◌, arith, subst, length-append}
 

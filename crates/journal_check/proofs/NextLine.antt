@@ -9,7 +9,7 @@ use Rattle.ideal_world.specs.WellFormed.{IsWellFormed}
 use Rattle.ideal_world.specs.World.{WorldState, step, step_entry}
 use Rattle.ideal_world.proofs.Falling.{step-rests}
 use Rattle.ideal_world.proofs.Keeping.{step-named}
-use Rattle.program_rules.specs.Verdicts.Verdict.{CanGoOn, IsNext}
+use Rattle.program_rules.specs.Verdicts.Verdict.{CanGoOn, IsNextLine as IsNext}
 use Rattle.journal_check.proofs.Verdicts.{steps-within}
 use Rattle.journal_check.specs.declared.stepping.Line.{Line}
 use Rattle.journal_check.specs.declared.stepping.Line.TheVariants.{Right, Wrong, Nobody}

@@ -8,7 +8,7 @@ use Rattle.program_rules.specs.Verdicts.Lines.{lines}
 use Rattle.program_rules.specs.Verdicts.ReportLines.{entry_lines}
 use Rattle.ideal_world.specs.Legal.{Leads}
 use Rattle.ideal_world.specs.World.{WorldState, opening_world, step, step_entry}
-use Rattle.program_rules.specs.Verdicts.Verdict.{CanGoOn, IsNext, IsWrong, StopsWithin}
+use Rattle.program_rules.specs.Verdicts.Verdict.{CanGoOn, IsNextLine as IsNext, IsWrong, StopsWithin}
 use Rattle.journal_check.specs.declared.stepping.Line.{Line}
 use Rattle.journal_check.specs.declared.stepping.Line.TheVariants.{Right, Wrong, Nobody}
 use Rattle.journal_check.specs.Following.{IsJudged, AreFollowed, AreFollowedTo}

@@ -10,7 +10,7 @@ use Rattle.busdma_base.specs.declared.journals.journal.JournalEntry.{JournalEntr
 use Rattle.busdma_base.specs.declared.scenarios.scenario.Scenario.{Scenario}
 use Rattle.busdma_base.specs.Scenarios.Valid.{IsValid}
 use Rattle.program_rules.specs.Reports.Report.{entry_line, report}
-use Rattle.program_rules.specs.Verdicts.Lines.{lines, alike}
+use Rattle.program_rules.specs.Verdicts.Lines.{lines, alike_lines as alike}
 use Rattle.program_rules.specs.Verdicts.ReportLines.{entry_lines, closing_lines}
 use Rattle.journal_check.proofs.EntryLines.{one-actor, lines-report, report-from_lines}
 use Rattle.journal_check.proofs.Judging as judging
@@ -25,7 +25,8 @@ use Rattle.ideal_world.proofs.Opens.{opens-well}
 use Rattle.ideal_world.proofs.Rest.{NoneSteps, in_round}
 use Rattle.program_rules.specs.declared.verdict.Verdict.{Verdict}
 use Rattle.program_rules.specs.declared.verdict.Verdict.TheVariants.{Yes, No}
-use Rattle.program_rules.specs.Verdicts.Verdict.{Follows, journal_at, CanGoOn, IsNext, IsWrong, IsWhole, StopsWithin}
+use Rattle.program_rules.specs.Verdicts.Verdict.{FollowsText as Follows, journal_at, CanGoOn}
+use Rattle.program_rules.specs.Verdicts.Verdict.{IsNextLine as IsNext, IsWrong, IsWhole, StopsWithin}
 use Rattle.program_rules.specs.Verdicts.Verdict.{StopsAtEnd, IsVerdict}
 use Rattle.journal_check.specs.Laws.{BreaksAt}
 

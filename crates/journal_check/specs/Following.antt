@@ -8,7 +8,7 @@ use Rattle.program_rules.specs.Verdicts.ReportLines.{entry_lines}
 use Rattle.ideal_world.specs.Ends.{IsAtRest}
 use Rattle.ideal_world.specs.Legal.{Leads}
 use Rattle.ideal_world.specs.World.{WorldState, opening_world, step, step_entry}
-use Rattle.program_rules.specs.Verdicts.Verdict.{CanGoOn, IsNext, IsWrong, StopsWithin}
+use Rattle.program_rules.specs.Verdicts.Verdict.{CanGoOn, IsNextLine, IsWrong, StopsWithin}
 use Rattle.journal_check.specs.declared.stepping.Line.{Line}
 use Rattle.journal_check.specs.declared.stepping.Line.TheVariants.{Right, Wrong, Nobody}
 use Rattle.journal_check.specs.declared.following.Halt.{Halt}
@@ -18,8 +18,8 @@ use Rattle.journal_check.specs.declared.following.Halt.TheVariants.{Breaks, Ends
 abbrev pub IsJudged : Scenario → ℕ → WorldState → List ℕ → Line → WorldState → Type 0
 IsJudged s n w line (Right e) after =
     (step_entry w e.actor ≡ Some e) × (after ≡ (step w e.actor).world) × (line ≡ entry_line s n e)
-IsJudged s n w line Wrong after = CanGoOn w × (IsNext s n w line → ⊥)
-IsJudged s n w line Nobody after = (after ≡ w) × (IsNext s n w line → ⊥)
+IsJudged s n w line Wrong after = CanGoOn w × (IsNextLine s n w line → ⊥)
+IsJudged s n w line Nobody after = (after ≡ w) × (IsNextLine s n w line → ⊥)
 
 -- entries lead to this world, the first lines are theirs, and these bytes of the text are left
 pub record AreFollowed (s : Scenario) (text : List ℕ) (entries : List JournalEntry) (at : ℕ) (w : WorldState) : Type 0 where

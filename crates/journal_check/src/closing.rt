@@ -1,7 +1,7 @@
 //! How far two texts are the same, in lines.
 
 ghost use Rattle.std.specs.Prelude.{◌≡◌, ◌≤◌, length};
-ghost use Rattle.program_rules.specs.Verdicts.Lines.{alike, lines};
+ghost use Rattle.program_rules.specs.Verdicts.Lines.{alike_lines as alike, lines};
 
 use crate::cutting::line_end;
 

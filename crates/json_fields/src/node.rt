@@ -13,10 +13,10 @@ ghost use Rattle.scenario_format.specs.Json.Read.{refusal};
 ghost use Rattle.json_fields.specs.Field.{spot_of, placed_at};
 ghost use Rattle.scenario_format.specs.Json.Field.{item_of, field, required};
 ghost use Rattle.scenario_format.specs.Json.Field.{members_of, only_keys, unknown_key};
-ghost use Rattle.scenario_format.specs.Json.Number.{number_in as number_of_kind, number_at};
+ghost use Rattle.scenario_format.specs.Json.Number.{number_in as number_of_kind, read_number as number_at};
 ghost use Rattle.scenario_format.specs.Json.Number.{number_field, number_or};
-ghost use Rattle.scenario_format.specs.Json.Text.{read_name as name_at, read_bytes as bytes_at, text_at};
-ghost use Rattle.scenario_format.specs.Json.Items.{items_at};
+ghost use Rattle.scenario_format.specs.Json.Text.{read_name as name_at, read_bytes as bytes_at, read_text as text_at};
+ghost use Rattle.scenario_format.specs.Json.Items.{read_items as items_at};
 
 use crate::path::Path;
 use crate::stop::Stop;
@@ -121,7 +121,7 @@ impl<'v> Node<'v> {
 
     /// A number: a JSON number below 2^64 without sign, fraction or exponent, or a text of `0x` and 1
     /// to 16 hexadecimal digits.
-    #[tactic(auto, unfolding(scenario_format::specs::Json::Number::number_at))]
+    #[tactic(auto, unfolding(scenario_format::specs::Json::Number::read_number))]
     pub fn number(&self) -> Result<u64, Stop>
         ensures { Gives result (number_at (spot_of self.now)) }
     {
@@ -151,7 +151,7 @@ impl<'v> Node<'v> {
     }
 
     /// A text.
-    #[tactic(auto, unfolding(scenario_format::specs::Json::Text::text_at))]
+    #[tactic(auto, unfolding(scenario_format::specs::Json::Text::read_text))]
     pub fn text(&self) -> Result<&'v str, Stop>
         ensures { GivesSeen (λ s. s.now) result (text_at (spot_of self.now)) }
     {
@@ -196,7 +196,7 @@ impl<'v> Node<'v> {
     }
 
     /// A list.
-    #[tactic(auto, unfolding(scenario_format::specs::Json::Items::items_at), using(crate::proofs::Lists::list_of_items))]
+    #[tactic(auto, unfolding(scenario_format::specs::Json::Items::read_items), using(crate::proofs::Lists::list_of_items))]
     pub fn items(&self) -> Result<&'v [Value], Stop>
         ensures { GivesSeen (λ v. map view v.now) result (items_at (spot_of self.now)) }
     {

@@ -2,7 +2,13 @@
 
 ghost use Rattle.std.specs.Prelude.{◌≡◌, IfOk, OnErr, OnOk, is_some, slice_get};
 ghost use Rattle.ideal_lane.specs.Turns.{lane_step};
+ghost use Rattle.ideal_lane.specs.Standing.{Stands};
+ghost use Rattle.ideal_wire.specs.Apart.{IsApart};
 ghost use Rattle.ideal_wire.specs.Centre.{IsFaithful};
+ghost use Rattle.ideal_wire.specs.Laid.{AreLaid};
+ghost use Rattle.ideal_wire.specs.Machine.{IsInMachine};
+ghost use Rattle.ideal_wire.specs.Mapped.{AreMapped};
+ghost use Rattle.ideal_wire.specs.Spaced.{AreSpaced};
 ghost use Rattle.ideal_wire.specs.WireStep.{Follows};
 ghost use Rattle.ideal_wire.specs.WireStep as wires;
 ghost use Rattle.lane_state.specs.Doing.{IsUndone};
@@ -79,8 +85,17 @@ impl Lane<'_> {
         share_of(self.holdings.shares.as_slice(), zone)
     }
 
-    /// What the lane really holds is faithful to its ideal memory, at any time.
+    /// What the lane really holds is faithful to its ideal memory, at any time. The ideal driver stands and lies in its
+    /// machine, its loads are laid in its memory and in their pages, which lie apart, and the address spaces of its IOMMU
+    /// tags are in order and hold their loads. These are the premises of `ideal_wire` `calls_read_faithfully`: so each
+    /// read that a turn answers has the bytes that the lane really holds.
     pub fn is_faithful(&self)
-        ensures { IsFaithful (ideal self.now) (wire self.now) }
+        ensures faithful { IsFaithful (ideal self.now) (wire self.now) }
+        ensures stands { ∥ Stands (ideal self.now) ∥₁ }
+        ensures machine { IsInMachine (ideal self.now) }
+        ensures laid { AreLaid (ideal self.now) }
+        ensures apart { IsApart (ideal self.now) }
+        ensures spaced { AreSpaced (ideal self.now) }
+        ensures mapped { ∥ AreMapped (ideal self.now) ∥₁ }
     {}
 }

@@ -1,9 +1,11 @@
 //! A driver at work at a door.
 
-ghost use Rattle.std.specs.Prelude.{◌≡◌, [], IfOk};
+ghost use Rattle.std.specs.Prelude.{◌≡◌, [], IfOk, is_some, not, slice_get};
+ghost use Rattle.busdma_base.specs.declared.journals.journal.Side.TheVariants as sides;
 ghost use Rattle.busdma_machine.specs.Bounce.LaneEntries.{of_lane};
 ghost use Rattle.lane_core.specs.LaneIdeal.{ideal};
 ghost use Rattle.lane_state.specs.Served.{IsServed};
+ghost use Rattle.lane_turns.specs.Turning.{has_step};
 ghost use Rattle.lane_rounds.specs.AtWork as work;
 ghost use Rattle.lane_rounds.specs.AtWork.{Grows, IsAtWork, Tells, Works, place_of, tells_failure, tells_step};
 
@@ -94,8 +96,12 @@ impl<'s, D: HubDoor + Drop> Worker<'s, D> {
         }
     }
 
-    /// Whether a look tells that a side makes no step. Where no load of the driver waits, no callback can be its own.
-    fn is_idle(&self, side: Side) -> bool {
+    /// Returns whether a side makes no step, for which it only looks. If no load of the driver waits, no callback can be
+    /// its own; that the count of these is right is not said here.
+    fn is_idle(&self, side: Side) -> bool
+        ensures script { side ≡ sides.Script → result ≡ not (has_step (ideal self.now.lane)) }
+        ensures device { side ≡ sides.Transfer → result ≡ not (is_some (slice_get (ideal self.now.lane).queue 0)) }
+    {
         match side {
             Side::Callback => self.waiting == 0,
             Side::Transfer => !self.lane.has_item(),

@@ -4,12 +4,11 @@ use Rattle.std.proofs.Common.{◌||◌, Option, Some, None, refl, sym, ap, ◌�
 use Rattle.std.proofs.Common.{map, add-one, append-nil, get_or, length-append, take, if◌then◌else◌}
 use Rattle.std.proofs.Math.Seq.{take-suc}
 use Rattle.std.proofs.lemmas.Bool.Decides.{nat_tests}
-use Rattle.std.proofs.lemmas.List.Elements.{All-head, All-nil, All-push, All-tail, All-weaker}
+use Rattle.std.proofs.lemmas.List.Elements.{All-head, All-nil, All-push, All-tail}
 use Rattle.std.proofs.lemmas.List.{length-map}
 use Rattle.std.proofs.lemmas.Option.{slice_get_past}
 use Rattle.busdma_machine.specs.declared.bounce.hold.HoldEntry.{HoldEntry}
 use Rattle.busdma_base.specs.declared.journals.journal.Actor.{Actor}
-use Rattle.busdma_base.specs.declared.journals.journal.Journal.{Journal}
 use Rattle.busdma_base.specs.declared.journals.journal.JournalEntry.{JournalEntry}
 use Rattle.busdma_base.specs.declared.scenarios.scenario.Scenario.{Scenario}
 use Rattle.busdma_machine.specs.Bounce.Account.{Account}
@@ -22,25 +21,22 @@ use Rattle.ideal_lane.specs.Turns.{Turn, Stepped, Blocked, lane_step}
 use Rattle.ideal_world.specs.Ends.{IsAtRest}
 use Rattle.ideal_world.specs.Holds.{holds_at, step_holds}
 use Rattle.ideal_world.specs.Left.{left_of}
-use Rattle.ideal_world.specs.Legal.{IsLegal, Leads, round_of}
+use Rattle.ideal_world.specs.Legal.{round_of}
 use Rattle.ideal_world.specs.WellFormed.{IsWellFormed}
 use Rattle.ideal_world.specs.World.{WorldState, WorldTurned, entry_of, opening_world, step, step_entry, step_of}
 use Rattle.ideal_world.proofs.Falling.{step-falls, step-rests}
 use Rattle.ideal_world.proofs.Holding.{holds-lead, holds-sound}
-use Rattle.ideal_world.proofs.Keeping.{step-keeps}
 use Rattle.ideal_world.proofs.Lanes.{within}
-use Rattle.ideal_world.proofs.Opens.{opens-well}
 use Rattle.ideal_world.proofs.Rest.{NoneSteps, in_round}
-use Rattle.ideal_runs.specs.Merged.{AllRun, AreNumbered, log_of, logged, merged, world_of}
-use Rattle.ideal_runs.specs.Order.{AreOrdered}
+use Rattle.ideal_runs.specs.Merged.{AllRun, log_of, logged}
 use Rattle.ideal_runs.specs.Runs.{Log, Runs}
-use Rattle.ideal_runs.proofs.Leading.{Some-inj, merged-leads, opening-numbered}
-use Rattle.ideal_runs.proofs.Ordering.{merged-ordered}
+use Rattle.ideal_runs.proofs.Leading.{Some-inj}
+use Rattle.ideal_runs.proofs.FromLogs.{run-well}
 use Rattle.lane_rounds.proofs.Shapes.{turn-shape}
 use Rattle.bounce_hub.specs.Seen.{HubSeen}
 use Rattle.lane_core.specs.declared.lane.Lane.{Lane}
 use Rattle.lane_core.specs.LaneIdeal.{ideal}
-use Rattle.ideal_runs.specs.FromLogs.{IsFromLogs, RunsTo}
+use Rattle.ideal_runs.specs.FromLogs.{RunsTo}
 use Rattle.lane_run.specs.Closing.{HaveTurned}
 use Rattle.lane_run.specs.Threads.{HasRun}
 use Rattle.lane_run.proofs.Logging.{Joins, all-run-on, joins}

@@ -1,21 +1,15 @@
 -- How far a run has come, and the journal that it ends with.
 use Rattle.std.specs.Prelude.{◌≡◌, ◌<◌, Bool, true, false, List, map, All, None}
-use Rattle.busdma_machine.specs.declared.bounce.hold.HoldEntry.{HoldEntry}
-use Rattle.busdma_machine.specs.Bounce.History.{IsSound, account_of}
 use Rattle.busdma_base.specs.declared.journals.journal.Actor.{Actor}
-use Rattle.busdma_base.specs.declared.journals.journal.Journal.{Journal}
 use Rattle.busdma_base.specs.declared.scenarios.scenario.Scenario.{Scenario}
 use Rattle.busdma_base.specs.Scenarios.Opening.{opening}
-use Rattle.ideal_world.specs.Ends.{IsAtRest, world_end}
 use Rattle.ideal_world.specs.Left.{left_of}
-use Rattle.ideal_world.specs.World.{WorldState, opening_world, step_entry, zone_counts}
+use Rattle.ideal_world.specs.World.{WorldState, step_entry}
 use Rattle.ideal_runs.specs.FromLogs.{RunsTo}
-use Rattle.ideal_runs.specs.Merged.{AllRun, merged}
-use Rattle.ideal_runs.specs.Runs.{Log}
 use Rattle.world_core.specs.Ideal.{holds, ideal_world}
 use Rattle.lane_run.specs.declared.closing.Closing.{Closing}
 
--- so it is of a run's logs, the holds so far and its world
+-- a run's logs and the holds so far run its scenario's opening to its world
 abbrev pub HasCome : Scenario → Closing → Type 0
 HasCome s c = RunsTo s (map (λ l. l.items) c.logs.items) (holds c.world) (ideal_world c.world)
 

@@ -1,9 +1,9 @@
 //! The drivers on threads.
 
-ghost use Rattle.std.specs.Prelude.{◌≡◌, ℕ, ◌<◌, All, IfOk, IfSome, length, map, slice_index_or};
+ghost use Rattle.std.specs.Prelude.{◌≡◌, ℕ, ◌<◌, All, IfOk, IfSome, OnOk, false, length, map, slice_index_or};
 ghost use Rattle.busdma_base.specs.Scenarios.Valid.{IsValid};
 ghost use Rattle.lane_threads.specs.PassDoor.{place_of, seen};
-ghost use Rattle.lane_rounds.specs.AtWork.{GoesOn, Works};
+ghost use Rattle.lane_rounds.specs.AtWork.{GoesOn, Works, tells_failure};
 ghost use Rattle.lane_run.specs.Threads.{HasRun};
 
 use crate::parking::{Parked, park};
@@ -18,7 +18,17 @@ use std::thread::Threads;
 use turnstile::Turnstile;
 use world_core::opening_parts;
 
+/// Returns whether a further round is to be made: the last one made a step, and memory has not run out.
+fn wants_round<Rt: Wait + Sync>(workers: &[Worker<'_, PassDoor<'_, Rt>>]) -> bool {
+    let has_failed = workers.iter().any(|worker| worker.has_failed());
+    !has_failed && workers.iter().any(|worker| worker.has_stepped())
+}
+
 /// Rounds on threads until one makes no step.
+///
+/// # Errors
+///
+/// Returns `AllocError` if a driver ran out of memory in a round. The drivers are then wherever that left them.
 fn all_rounds<Rt: Threads + Wait + Sync, G: Gate + Sync>(
     rt: &Rt,
     alloc: Global,
@@ -29,15 +39,16 @@ fn all_rounds<Rt: Threads + Wait + Sync, G: Gate + Sync>(
     ensures len { length workers.new ≡ length workers.old }
     ensures each { (i : ℕ) (w : _) → i < length workers.old →
         GoesOn seen place_of (slice_index_or workers.old i w) (slice_index_or workers.new i w) }
+    ensures well { OnOk result (All (λ w. tells_failure w ≡ false) workers.new) }
 {
     for _ in rt.forever() {
         round_on_threads(rt, alloc, gate, workers);
-        if workers.iter().any(|worker| worker.has_failed()) {
-            return Err(AllocError);
-        }
-        if !workers.iter().any(|worker| worker.has_stepped()) {
+        if !wants_round(workers) {
             break;
         }
+    }
+    if workers.iter().any(|worker| worker.has_failed()) {
+        return Err(AllocError);
     }
     Ok(())
 }

@@ -1,5 +1,5 @@
 //! Which bytes are which scenario, or which refusal, as definitions: JSON values and their places, the fields of operations
-//! and items, scripts, scenarios. It has the types of which they speak. Its only code writes a refusal.
+//! and items, scripts, scenarios. It has the types of which they speak, and no code.
 #![tactic(auto)]
 
 mod bio_kind;

@@ -13,7 +13,7 @@ ghost use Rattle.json_fields.specs.Field.{spot_of};
 ghost use Rattle.scenario_format.specs.Json.Field.{field};
 ghost use Rattle.scenario_format.specs.Json.Items.{each};
 ghost use Rattle.script_fields.specs.Counts.{IsWithin};
-ghost use Rattle.scenario_format.specs.Parts.Counts.{counts_of, with_ops};
+ghost use Rattle.scenario_format.specs.Parts.Counts.{counts_after_drivers, with_ops};
 ghost use Rattle.scenario_format.specs.Scenarios.Driver as driver;
 ghost use Rattle.busdma_base.specs.Scenarios.Limits.{drivers_limit, loaded_limit, reads_limit};
 
@@ -49,7 +49,7 @@ fn script_field(here: &Node, pages: &[PageRun], counts: &mut Counts) -> Result<O
     script_of(&here.required("script")?, pages, counts)
 }
 
-#[tactic(auto, unfolding(scenario_format::specs::Scenarios::Driver::driver_at))]
+#[tactic(auto, unfolding(scenario_format::specs::Scenarios::Driver::read_driver))]
 fn driver(
     here: &Node,
     frames: &[FrameRun],
@@ -57,9 +57,9 @@ fn driver(
     counts: &mut Counts,
 ) -> Result<Driver, Stop>
     requires numbered { AllByRecursion IsNumbered frames.now }
-    requires counted { counts.old ≡ counts_of earlier.now }
+    requires counted { counts.old ≡ counts_after_drivers earlier.now }
     requires within { IsWithin counts.old }
-    ensures value { Gives result (driver.driver_at frames.now earlier.now (spot_of here.now)) }
+    ensures value { Gives result (driver.read_driver frames.now earlier.now (spot_of here.now)) }
     ensures valid { IfOk result (IsDriver frames.now earlier.now) }
     ensures counted { IfOk result (λ d. counts.new ≡ with_ops counts.old d.script) }
     ensures within { IfOk result (λ _. IsWithin counts.new) }
@@ -77,7 +77,7 @@ fn each_driver<'v>(
 ) -> Result<Vec<Driver>, Stop>
     requires numbered { AllByRecursion IsNumbered frames.now }
     ensures value { GivesSeen (λ v. v.items) result
-        (each (driver.driver_at frames.now) (spot_of here.now) [] (map view items.now)) }
+        (each (driver.read_driver frames.now) (spot_of here.now) [] (map view items.now)) }
     ensures valid { IfOk result (λ v. EachAfter (IsDriver frames.now) [] v.items) }
     ensures count { IfOk result (λ v. length v.items ≡ length items.now) }
     ensures read { IfOk result (λ v. read_of v.items ≤ reads_limit) }
@@ -103,10 +103,10 @@ fn each_driver<'v>(
 }
 
 /// The drivers that stand here.
-#[tactic(auto, unfolding(scenario_format::specs::Scenarios::Driver::drivers_at))]
+#[tactic(auto, unfolding(scenario_format::specs::Scenarios::Driver::read_drivers))]
 pub(crate) fn drivers(here: &Node, frames: &[FrameRun]) -> Result<DriverList, Stop>
     requires { AllByRecursion IsNumbered frames.now }
-    ensures value { Gives result (driver.drivers_at frames.now (spot_of here.now)) }
+    ensures value { Gives result (driver.read_drivers frames.now (spot_of here.now)) }
     ensures valid { IfOk result (EachAfter (IsDriver frames.now) []) }
     ensures count { IfOk result (λ v. length v ≤ drivers_limit) }
     ensures read { IfOk result (λ v. read_of v ≤ reads_limit) }

@@ -9,7 +9,8 @@ ghost use Rattle.json_fields.specs.Place.{place_of};
 ghost use Rattle.json_fields.specs.Read.{Gives, GivesSeen};
 ghost use Rattle.json_fields.specs.Field.{spot_of};
 ghost use Rattle.scenario_format.specs.Json.Items.{each};
-ghost use Rattle.scenario_format.specs.Scenarios.Frames.{run_at, run_judged, frame_run_at};
+ghost use Rattle.scenario_format.specs.Scenarios.Frames.{read_run as run_at};
+ghost use Rattle.scenario_format.specs.Scenarios.Frames.{run_judged, read_frame_run as frame_run_at};
 ghost use Rattle.scenario_format.specs.Scenarios.Frames.{read_frame_runs as frames_at};
 ghost use Rattle.busdma_base.specs.Scenarios.Limits.{frames_limit};
 
@@ -26,7 +27,7 @@ pub(crate) fn is_in(frame: u64, run: &FrameRun) -> bool
     frame >= run.first && frame - run.first < run.count
 }
 
-#[tactic(auto, unfolding(scenario_format::specs::Scenarios::Frames::run_at))]
+#[tactic(auto, unfolding(scenario_format::specs::Scenarios::Frames::read_run))]
 fn run(here: &Node) -> Result<FrameRun, Stop>
     ensures value { Gives result (run_at (spot_of here.now)) }
     ensures some { IfOk result (λ r. 1 ≤ r.count) }
@@ -76,7 +77,7 @@ fn judge(here: &Node, before: &[FrameRun], total: u64, run: FrameRun) -> Result<
     Ok(run)
 }
 
-#[tactic(auto, unfolding(scenario_format::specs::Scenarios::Frames::frame_run_at))]
+#[tactic(auto, unfolding(scenario_format::specs::Scenarios::Frames::read_frame_run))]
 fn frame_run(here: &Node, before: &[FrameRun], total: u64) -> Result<FrameRun, Stop>
     requires sum { total ≡ frame_count before.now }
     requires few { total ≤ frames_limit }

@@ -58,7 +58,7 @@ fn decimal_number(bytes: &[u8]) -> Option<u32>
 
 /// A driver, of so many.
 fn lane_of(drivers: u32, bytes: &[u8]) -> Option<u32>
-    ensures { result ≡ order.lane_of drivers bytes.now }
+    ensures { result ≡ order.lane_in_text drivers bytes.now }
 {
     let lane = decimal_number(bytes)?;
     if lane < drivers { Some(lane) } else { None }
@@ -77,9 +77,9 @@ fn actor_of(drivers: u32, text: &[u8]) -> Option<Actor>
     Some(Actor { lane, side })
 }
 
-#[tactic(auto, unfolding(scenario_format::specs::Scenarios::Order::actor_at))]
+#[tactic(auto, unfolding(scenario_format::specs::Scenarios::Order::read_actor))]
 fn actor(here: &Node, drivers: u32) -> Result<Actor, Stop>
-    ensures value { Gives result (order.actor_at drivers (spot_of here.now)) }
+    ensures value { Gives result (order.read_actor drivers (spot_of here.now)) }
     ensures there { IfOk result (λ a. a.lane.0 < drivers) }
 {
     match actor_of(drivers, here.text()?.as_bytes()) {
@@ -90,7 +90,7 @@ fn actor(here: &Node, drivers: u32) -> Result<Actor, Stop>
 
 fn actors<'v>(here: &'v Node<'v>, items: &'v [Value], drivers: u32) -> Result<Vec<Actor>, Stop>
     ensures value { GivesSeen (λ v. v.items) result
-        (each (λ _. order.actor_at drivers) (spot_of here.now) [] (map view items.now)) }
+        (each (λ _. order.read_actor drivers) (spot_of here.now) [] (map view items.now)) }
     ensures count { IfOk result (λ v. length v.items ≡ length items.now) }
     ensures there { IfOk result (λ v. AllByRecursion (λ a. a.lane.0 < drivers) v.items) }
 {
@@ -102,9 +102,9 @@ fn actors<'v>(here: &'v Node<'v>, items: &'v [Value], drivers: u32) -> Result<Ve
     Ok(actors)
 }
 
-#[tactic(auto, unfolding(scenario_format::specs::Scenarios::Order::order_at))]
+#[tactic(auto, unfolding(scenario_format::specs::Scenarios::Order::read_order))]
 fn order(here: &Node, drivers: u32) -> Result<ActorList, Stop>
-    ensures value { Gives result (order.order_at drivers (spot_of here.now)) }
+    ensures value { Gives result (order.read_order drivers (spot_of here.now)) }
     ensures count { IfOk result (λ v. length v ≤ order_limit) }
     ensures there { IfOk result (AllByRecursion (λ a. a.lane.0 < drivers)) }
 {

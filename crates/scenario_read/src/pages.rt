@@ -12,8 +12,8 @@ ghost use Rattle.json_fields.specs.Read.{Gives, GivesSeen};
 ghost use Rattle.json_fields.specs.Field.{spot_of};
 ghost use Rattle.scenario_format.specs.Json.Items.{each};
 ghost use Rattle.scenario_read.specs.Pages.{IsOnPages};
-ghost use Rattle.scenario_format.specs.Scenarios.Pages.{page_values_at, page_run_judged};
-ghost use Rattle.scenario_format.specs.Scenarios.Pages.{page_run_at, pages_at};
+ghost use Rattle.scenario_format.specs.Scenarios.Pages.{read_page_values as page_values_at, page_run_judged};
+ghost use Rattle.scenario_format.specs.Scenarios.Pages.{read_page_run as page_run_at, read_pages as pages_at};
 
 use crate::frames::is_in;
 use busdma_base::{Driver, FrameRun, ListOf, PageRun, PageRunList, Va};
@@ -25,7 +25,7 @@ use serde_json::Value;
 /// Where the virtual addresses of pages end.
 const PAGES_END: u64 = 0xfffff80000000000;
 
-#[tactic(auto, unfolding(scenario_format::specs::Scenarios::Pages::page_values_at))]
+#[tactic(auto, unfolding(scenario_format::specs::Scenarios::Pages::read_page_values))]
 fn page_values(here: &Node) -> Result<PageRun, Stop>
     ensures value { Gives result (page_values_at (spot_of here.now)) }
     ensures on_pages { IfOk result IsOnPages }
@@ -131,7 +131,7 @@ fn judge(
     Ok(run)
 }
 
-#[tactic(auto, unfolding(scenario_format::specs::Scenarios::Pages::page_run_at))]
+#[tactic(auto, unfolding(scenario_format::specs::Scenarios::Pages::read_page_run))]
 fn page_run(
     here: &Node,
     frames: &[FrameRun],
@@ -148,7 +148,7 @@ fn page_run(
 }
 
 /// A driver's pages.
-#[tactic(auto, unfolding(scenario_format::specs::Scenarios::Pages::pages_at))]
+#[tactic(auto, unfolding(scenario_format::specs::Scenarios::Pages::read_pages))]
 pub(crate) fn pages(
     here: &Node,
     frames: &[FrameRun],

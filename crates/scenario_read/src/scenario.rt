@@ -57,9 +57,9 @@ fn drivers_field(here: &Node, frames: &[FrameRun]) -> Result<DriverList, Stop>
     drivers(&here.required("drivers")?, frames)
 }
 
-#[tactic(auto, unfolding(scenario_format::specs::Scenarios::Scenario::scenario_at))]
+#[tactic(auto, unfolding(scenario_format::specs::Scenarios::Scenario::read_scenario))]
 fn scenario(here: &Node) -> Result<Scenario, Stop>
-    ensures value { Gives result (scenario.scenario_at (spot_of here.now)) }
+    ensures value { Gives result (scenario.read_scenario (spot_of here.now)) }
     ensures valid { IfOk result IsValid }
 {
     here.only_keys(&["frames", "max_bpages", "drivers", "order"])?;

@@ -9,8 +9,10 @@ mod rings;
 mod sends;
 mod values;
 
+use report_text::refusal_line;
 use scenario_read::{Reading, scenario_of};
 use std::alloc::{AllocError, Global};
+use std::str;
 use std::test::Fail;
 
 /// Lines `WANT <- PART` or `WANT <- N times PART`, each of which is a document with the part between two texts, or the
@@ -201,7 +203,12 @@ const RINGS: &str =
 fn told(alloc: Global, text: &str) -> Result<String, AllocError> {
     match scenario_of(alloc, text.as_bytes())? {
         Reading::Good(_) => String::from_str(alloc, "good"),
-        Reading::Bad(refusal) => refusal.to_string(alloc),
+        Reading::Bad(refusal) => {
+            let line = refusal_line(alloc, &refusal)?;
+            let text = str::from_utf8(line.as_slice()).unwrap_or("");
+            let told = text.strip_prefix("busdma_run: bad scenario: ");
+            String::from_str(alloc, told.unwrap_or(text))
+        }
     }
 }
 

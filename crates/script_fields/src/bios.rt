@@ -79,9 +79,9 @@ fn frames_field(here: &Node, pages: &[PageRun]) -> Result<ListOf<u64>, Stop>
 }
 
 /// Where in its first frame an unmapped bio begins.
-#[tactic(auto, unfolding(scenario_format::specs::Parts::Bios::off_at))]
+#[tactic(auto, unfolding(scenario_format::specs::Parts::Bios::read_off))]
 fn off(here: &Node) -> Result<u64, Stop>
-    ensures value { Gives result (bios.off_at (spot_of here.now)) }
+    ensures value { Gives result (bios.read_off (spot_of here.now)) }
     ensures within { IfOk result (λ off. off < 4096) }
 {
     let off = here.number_field("off")?;
@@ -103,9 +103,9 @@ fn kind_of(word: &str) -> Option<BioKind>
     }
 }
 
-#[tactic(auto, unfolding(scenario_format::specs::Parts::Bios::kind_at))]
+#[tactic(auto, unfolding(scenario_format::specs::Parts::Bios::read_bio_kind))]
 fn kind(here: &Node) -> Result<BioKind, Stop>
-    ensures { Gives result (bios.kind_at (spot_of here.now)) }
+    ensures { Gives result (bios.read_bio_kind (spot_of here.now)) }
 {
     match kind_of(here.required("kind")?.text()?) {
         Some(kind) => Ok(kind),
@@ -113,9 +113,9 @@ fn kind(here: &Node) -> Result<BioKind, Stop>
     }
 }
 
-#[tactic(auto, unfolding(scenario_format::specs::Parts::Bios::mapped_at))]
+#[tactic(auto, unfolding(scenario_format::specs::Parts::Bios::read_mapped))]
 fn mapped(here: &Node) -> Result<Bio, Stop>
-    ensures value { Gives result (bios.mapped_at (spot_of here.now)) }
+    ensures value { Gives result (bios.read_mapped (spot_of here.now)) }
     ensures own { IfOk result (λ b. (pages : List PageRun) → IsBioOf pages b) }
     ensures few { IfOk result (λ b. bio_entries b ≤ entries_limit) }
 {
@@ -124,9 +124,9 @@ fn mapped(here: &Node) -> Result<Bio, Stop>
     Ok(Bio::Mapped(span))
 }
 
-#[tactic(auto, unfolding(scenario_format::specs::Parts::Bios::vector_at))]
+#[tactic(auto, unfolding(scenario_format::specs::Parts::Bios::read_vector))]
 fn vector(here: &Node) -> Result<Bio, Stop>
-    ensures value { Gives result (bios.vector_at (spot_of here.now)) }
+    ensures value { Gives result (bios.read_vector (spot_of here.now)) }
     ensures own { IfOk result (λ b. (pages : List PageRun) → IsBioOf pages b) }
     ensures few { IfOk result (λ b. bio_entries b ≤ entries_limit) }
 {
@@ -135,9 +135,9 @@ fn vector(here: &Node) -> Result<Bio, Stop>
     Ok(Bio::Vector(spans))
 }
 
-#[tactic(auto, unfolding(scenario_format::specs::Parts::Bios::unmapped_at))]
+#[tactic(auto, unfolding(scenario_format::specs::Parts::Bios::read_unmapped))]
 fn unmapped(here: &Node, pages: &[PageRun]) -> Result<Bio, Stop>
-    ensures value { Gives result (bios.unmapped_at pages.now (spot_of here.now)) }
+    ensures value { Gives result (bios.read_unmapped pages.now (spot_of here.now)) }
     ensures own { IfOk result (IsBioOf pages.now) }
     ensures few { IfOk result (λ b. bio_entries b ≤ entries_limit) }
 {

@@ -12,17 +12,17 @@ use json_fields::{Node, Stop};
 use scenario_format::RefusalKind;
 
 /// Bytes by `hex`.
-#[tactic(auto, unfolding(scenario_format::specs::Parts::Bytes::listed_at))]
+#[tactic(auto, unfolding(scenario_format::specs::Parts::Bytes::read_listed))]
 fn listed(hex: &Node) -> Result<Bytes, Stop>
-    ensures { Gives result (bytes.listed_at (spot_of hex.now)) }
+    ensures { Gives result (bytes.read_listed (spot_of hex.now)) }
 {
     Ok(Bytes::Listed(hex.bytes()?))
 }
 
 /// One byte, `len` times.
-#[tactic(auto, unfolding(scenario_format::specs::Parts::Bytes::filled_at))]
+#[tactic(auto, unfolding(scenario_format::specs::Parts::Bytes::read_filled))]
 fn filled(here: &Node) -> Result<Bytes, Stop>
-    ensures { Gives result (bytes.filled_at (spot_of here.now)) }
+    ensures { Gives result (bytes.read_filled (spot_of here.now)) }
 {
     let byte = byte_field(here, "fill")?;
     let len = here.number_field("len")?;

@@ -32,9 +32,9 @@ fn word_bits(set: FlagSet, word: &str) -> Option<u32>
     }
 }
 
-#[tactic(auto, unfolding(scenario_format::specs::Parts::Flags::flag_at))]
+#[tactic(auto, unfolding(scenario_format::specs::Parts::Flags::read_flag))]
 fn flag(here: &Node, set: FlagSet) -> Result<u32, Stop>
-    ensures { Gives result (flags.flag_at set (spot_of here.now)) }
+    ensures { Gives result (flags.read_flag set (spot_of here.now)) }
 {
     match word_bits(set, here.text()?) {
         Some(bits) => Ok(bits),
@@ -55,9 +55,9 @@ fn union<'v>(here: &'v Node<'v>, set: FlagSet, items: &'v [Value]) -> Result<u32
 }
 
 /// The bits of all words of a list.
-#[tactic(auto, unfolding(scenario_format::specs::Parts::Flags::flags_at))]
+#[tactic(auto, unfolding(scenario_format::specs::Parts::Flags::read_flags))]
 fn flags_here(here: &Node, set: FlagSet) -> Result<u32, Stop>
-    ensures { Gives result (flags.flags_at set (spot_of here.now)) }
+    ensures { Gives result (flags.read_flags set (spot_of here.now)) }
 {
     let items = here.items()?;
     union(here, set, items)

@@ -28,9 +28,9 @@ pub fn new_name<'v>(here: &'v Node<'v>, field: &'v str, before: &NamedOps) -> Re
 }
 
 /// The place of the operation before that made the name that stands here, as a thing that can be used so.
-#[tactic(auto, unfolding(scenario_format::specs::Parts::Names::used_at))]
+#[tactic(auto, unfolding(scenario_format::specs::Parts::Names::read_use))]
 pub(crate) fn used(here: &Node, used_as: NameUse, before: &NamedOps) -> Result<u32, Stop>
-    ensures value { Gives result (names.used_at used_as before.now (spot_of here.now)) }
+    ensures value { Gives result (names.read_use used_as before.now (spot_of here.now)) }
     ensures made { IfOk result (λ place. base.IsMade before.now (record { used_as = used_as; made_at = place })) }
 {
     match before.maker(used_as, here.name_text()?) {

@@ -16,9 +16,9 @@ use json_fields::{Node, Stop};
 use scenario_format::RefusalKind;
 
 /// The virtual address that stands here.
-#[tactic(auto, unfolding(scenario_format::specs::Parts::Places::address_at))]
+#[tactic(auto, unfolding(scenario_format::specs::Parts::Places::read_address))]
 fn address(va: &Node) -> Result<Place, Stop>
-    ensures value { Gives result (places.address_at (spot_of va.now)) }
+    ensures value { Gives result (places.read_address (spot_of va.now)) }
     ensures within { IfOk result (λ p. place_within p ≡ []) }
     ensures whole { IfOk result IsBegin }
 {
@@ -26,9 +26,9 @@ fn address(va: &Node) -> Result<Place, Stop>
 }
 
 /// The first byte of the memory that is named here.
-#[tactic(auto, unfolding(scenario_format::specs::Parts::Places::begin_at))]
+#[tactic(auto, unfolding(scenario_format::specs::Parts::Places::read_begin))]
 fn begin(mem: &Node, before: &NamedOps) -> Result<Place, Stop>
-    ensures value { Gives result (places.begin_at before.now (spot_of mem.now)) }
+    ensures value { Gives result (places.read_begin before.now (spot_of mem.now)) }
     ensures within { IfOk result (λ p. AllByRecursion (IsMade before.now) (place_within p)) }
     ensures whole { IfOk result IsBegin }
 {
@@ -37,9 +37,9 @@ fn begin(mem: &Node, before: &NamedOps) -> Result<Place, Stop>
 }
 
 /// `off` bytes behind it.
-#[tactic(auto, unfolding(scenario_format::specs::Parts::Places::behind_begin_at))]
+#[tactic(auto, unfolding(scenario_format::specs::Parts::Places::read_behind_begin))]
 fn behind_begin(mem: &Node, here: &Node, before: &NamedOps) -> Result<Place, Stop>
-    ensures value { Gives result (places.behind_begin_at before.now (spot_of mem.now) (spot_of here.now)) }
+    ensures value { Gives result (places.read_behind_begin before.now (spot_of mem.now) (spot_of here.now)) }
     ensures within { IfOk result (λ p. AllByRecursion (IsMade before.now) (place_within p)) }
 {
     let mem = used(mem, NameUse::Memory, before)?;
@@ -48,9 +48,9 @@ fn behind_begin(mem: &Node, here: &Node, before: &NamedOps) -> Result<Place, Sto
 }
 
 /// Where an access of the driver begins: `va`, or `mem` with `off`.
-#[tactic(auto, unfolding(scenario_format::specs::Parts::Places::access_at))]
+#[tactic(auto, unfolding(scenario_format::specs::Parts::Places::read_access))]
 pub fn access_place(here: &Node, before: &NamedOps) -> Result<Place, Stop>
-    ensures value { Gives result (places.access_at before.now (spot_of here.now)) }
+    ensures value { Gives result (places.read_access before.now (spot_of here.now)) }
     ensures within { IfOk result (λ p. AllByRecursion (IsMade before.now) (place_within p)) }
 {
     match (here.field("va"), here.field("mem")) {

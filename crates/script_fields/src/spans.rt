@@ -7,7 +7,9 @@ ghost use Rattle.busdma_base.specs.Scenarios.Limits.{entries_limit};
 ghost use Rattle.json_fields.specs.Field.{spot_of};
 ghost use Rattle.scenario_format.specs.Json.Items.{each};
 ghost use Rattle.json_fields.specs.Read.{Gives, GivesSeen};
-ghost use Rattle.scenario_format.specs.Parts.Spans.{entries_at, entries_field, span_at, span_fields_at, spans_at};
+ghost use Rattle.scenario_format.specs.Parts.Spans.{read_entries as entries_at, entries_field};
+ghost use Rattle.scenario_format.specs.Parts.Spans.{read_span as span_at};
+ghost use Rattle.scenario_format.specs.Parts.Spans.{read_span_fields as span_fields_at, read_spans as spans_at};
 
 use crate::limits::ENTRIES;
 use busdma_base::{ListOf, Span, Va};
@@ -17,7 +19,7 @@ use serde_json::Value;
 
 /// The elements of a load's list, which are its spans, its frames or its clusters, in order. More than the limit are
 /// refused.
-#[tactic(auto, unfolding(scenario_format::specs::Parts::Spans::entries_at))]
+#[tactic(auto, unfolding(scenario_format::specs::Parts::Spans::read_entries))]
 pub fn entries<'v>(here: &Node<'v>) -> Result<&'v [Value], Stop>
     ensures value { GivesSeen (λ v. map view v.now) result (entries_at (spot_of here.now)) }
     ensures few { IfOk result (λ v. length v.now ≤ entries_limit) }
@@ -30,7 +32,7 @@ pub fn entries<'v>(here: &Node<'v>) -> Result<&'v [Value], Stop>
 }
 
 /// `len` bytes from `va` on.
-#[tactic(auto, unfolding(scenario_format::specs::Parts::Spans::span_fields_at))]
+#[tactic(auto, unfolding(scenario_format::specs::Parts::Spans::read_span_fields))]
 pub(crate) fn span_fields(here: &Node) -> Result<Span, Stop>
     ensures { Gives result (span_fields_at (spot_of here.now)) }
 {
@@ -39,7 +41,7 @@ pub(crate) fn span_fields(here: &Node) -> Result<Span, Stop>
     Ok(Span { va: Va(va), len })
 }
 
-#[tactic(auto, unfolding(scenario_format::specs::Parts::Spans::span_at))]
+#[tactic(auto, unfolding(scenario_format::specs::Parts::Spans::read_span))]
 fn span(here: &Node) -> Result<Span, Stop>
     ensures { Gives result (span_at (spot_of here.now)) }
 {
@@ -60,7 +62,7 @@ fn each_span<'v>(here: &'v Node<'v>, items: &'v [Value]) -> Result<Vec<Span>, St
     Ok(spans)
 }
 
-#[tactic(auto, unfolding(scenario_format::specs::Parts::Spans::spans_at))]
+#[tactic(auto, unfolding(scenario_format::specs::Parts::Spans::read_spans))]
 fn spans(here: &Node) -> Result<ListOf<Span>, Stop>
     ensures value { Gives result (spans_at (spot_of here.now)) }
     ensures few { IfOk result (λ v. length v ≤ entries_limit) }

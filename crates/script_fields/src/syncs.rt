@@ -5,7 +5,8 @@ ghost use Rattle.busdma_base.specs.Scenarios.Names.{IsMade};
 ghost use Rattle.busdma_base.specs.Scenarios.Operations.{map_at};
 ghost use Rattle.json_fields.specs.Field.{spot_of};
 ghost use Rattle.json_fields.specs.Read.{Gives};
-ghost use Rattle.scenario_format.specs.Parts.Syncs.{sync_fields_at, range_fields_at};
+ghost use Rattle.scenario_format.specs.Parts.Syncs.{read_sync_fields as sync_fields_at};
+ghost use Rattle.scenario_format.specs.Parts.Syncs.{read_range_fields as range_fields_at};
 
 use crate::flags::ops_field;
 use crate::named_ops::NamedOps;
@@ -15,7 +16,7 @@ use json_fields::{Node, Stop};
 use scenario_format::{RangeFields, SyncFields};
 
 /// What a sync of a whole load says.
-#[tactic(auto, unfolding(scenario_format::specs::Parts::Syncs::sync_fields_at))]
+#[tactic(auto, unfolding(scenario_format::specs::Parts::Syncs::read_sync_fields))]
 pub fn sync_fields(here: &Node, before: &NamedOps) -> Result<SyncFields, Stop>
     ensures value { Gives result (sync_fields_at before.now (spot_of here.now)) }
     ensures made { IfOk result (λ s. IsMade before.now (map_at s.map)) }
@@ -27,7 +28,7 @@ pub fn sync_fields(here: &Node, before: &NamedOps) -> Result<SyncFields, Stop>
 }
 
 /// What a sync of a range of a load says.
-#[tactic(auto, unfolding(scenario_format::specs::Parts::Syncs::range_fields_at))]
+#[tactic(auto, unfolding(scenario_format::specs::Parts::Syncs::read_range_fields))]
 pub fn range_fields(here: &Node, before: &NamedOps) -> Result<RangeFields, Stop>
     ensures value { Gives result (range_fields_at before.now (spot_of here.now)) }
     ensures made { IfOk result (λ s. IsMade before.now (map_at s.map)) }

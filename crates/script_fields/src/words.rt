@@ -18,9 +18,9 @@ fn word_text<'v>(here: &'v Node<'v>) -> Result<&'v str, Stop>
 }
 
 /// The word of an operation.
-#[tactic(auto, unfolding(scenario_format::specs::Parts::Words::op_word_at))]
+#[tactic(auto, unfolding(scenario_format::specs::Parts::Words::read_op_word))]
 pub fn op_word<'v>(here: &'v Node<'v>) -> Result<OpWord, Stop>
-    ensures { Gives result (words.op_word_at (spot_of here.now)) }
+    ensures { Gives result (words.read_op_word (spot_of here.now)) }
 {
     match OpWord::from_text(word_text(here)?) {
         Some(word) => Ok(word),
@@ -29,9 +29,9 @@ pub fn op_word<'v>(here: &'v Node<'v>) -> Result<OpWord, Stop>
 }
 
 /// The word of an item.
-#[tactic(auto, unfolding(scenario_format::specs::Parts::Words::item_word_at))]
+#[tactic(auto, unfolding(scenario_format::specs::Parts::Words::read_item_word))]
 pub fn item_word<'v>(here: &'v Node<'v>) -> Result<ItemWord, Stop>
-    ensures { Gives result (words.item_word_at (spot_of here.now)) }
+    ensures { Gives result (words.read_item_word (spot_of here.now)) }
 {
     match ItemWord::from_text(word_text(here)?) {
         Some(word) => Ok(word),

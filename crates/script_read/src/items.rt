@@ -10,9 +10,12 @@ ghost use Rattle.json_fields.specs.Field.{spot_of};
 ghost use Rattle.scenario_format.specs.Json.Items.{each};
 ghost use Rattle.script_fields.specs.Counts.{IsWithin, having_read};
 ghost use Rattle.scenario_format.specs.Parts.Counts.{with_items, one_step_counted};
-ghost use Rattle.scenario_format.specs.Scripts.Items.{sync_item_at, sync_range_item_at, read_dev_read as dev_read_at};
-ghost use Rattle.scenario_format.specs.Scripts.Items.{read_dev_write as dev_write_at, raw_read_at, raw_write_at};
-ghost use Rattle.scenario_format.specs.Scripts.Items.{item_by, read_item as item_at, then_at, then_field};
+ghost use Rattle.scenario_format.specs.Scripts.Items.{read_sync_item as sync_item_at};
+ghost use Rattle.scenario_format.specs.Scripts.Items.{read_sync_range_item as sync_range_item_at};
+ghost use Rattle.scenario_format.specs.Scripts.Items.{read_dev_read as dev_read_at};
+ghost use Rattle.scenario_format.specs.Scripts.Items.{read_dev_write as dev_write_at};
+ghost use Rattle.scenario_format.specs.Scripts.Items.{read_raw_read as raw_read_at, read_raw_write as raw_write_at};
+ghost use Rattle.scenario_format.specs.Scripts.Items.{item_by, read_item as item_at, read_then as then_at, then_field};
 
 use busdma_base::{Item, ItemList, ItemWord, ListOf, NameUse};
 use json_fields::{Node, Stop};
@@ -23,7 +26,7 @@ use script_fields::{
 };
 use serde_json::Value;
 
-#[tactic(auto, unfolding(scenario_format::specs::Scripts::Items::sync_item_at))]
+#[tactic(auto, unfolding(scenario_format::specs::Scripts::Items::read_sync_item))]
 fn sync(here: &Node, before: &NamedOps) -> Result<Item, Stop>
     ensures value { Gives result (sync_item_at before.now (spot_of here.now)) }
     ensures valid { IfOk result (IsItem before.now) }
@@ -37,7 +40,7 @@ fn sync(here: &Node, before: &NamedOps) -> Result<Item, Stop>
     })
 }
 
-#[tactic(auto, unfolding(scenario_format::specs::Scripts::Items::sync_range_item_at))]
+#[tactic(auto, unfolding(scenario_format::specs::Scripts::Items::read_sync_range_item))]
 fn sync_range(here: &Node, before: &NamedOps) -> Result<Item, Stop>
     ensures value { Gives result (sync_range_item_at before.now (spot_of here.now)) }
     ensures valid { IfOk result (IsItem before.now) }
@@ -85,7 +88,7 @@ fn dev_write(here: &Node, before: &NamedOps) -> Result<Item, Stop>
     Ok(Item::DevWrite { map, off, bytes })
 }
 
-#[tactic(auto, unfolding(scenario_format::specs::Scripts::Items::raw_read_at))]
+#[tactic(auto, unfolding(scenario_format::specs::Scripts::Items::read_raw_read))]
 fn raw_read(here: &Node, before: &NamedOps, counts: &mut Counts) -> Result<Item, Stop>
     requires within { IsWithin counts.old }
     ensures value { Gives result (raw_read_at before.now counts.old (spot_of here.now)) }
@@ -102,7 +105,7 @@ fn raw_read(here: &Node, before: &NamedOps, counts: &mut Counts) -> Result<Item,
     Ok(Item::DevReadAt { tag, addr, len })
 }
 
-#[tactic(auto, unfolding(scenario_format::specs::Scripts::Items::raw_write_at))]
+#[tactic(auto, unfolding(scenario_format::specs::Scripts::Items::read_raw_write))]
 fn raw_write(here: &Node, before: &NamedOps) -> Result<Item, Stop>
     ensures value { Gives result (raw_write_at before.now (spot_of here.now)) }
     ensures valid { IfOk result (IsItem before.now) }
@@ -181,7 +184,7 @@ fn each_item<'v>(
     Ok(done)
 }
 
-#[tactic(auto, unfolding(scenario_format::specs::Scripts::Items::then_at))]
+#[tactic(auto, unfolding(scenario_format::specs::Scripts::Items::read_then))]
 fn then(here: &Node, before: &NamedOps, counts: &mut Counts) -> Result<ItemList, Stop>
     requires within { IsWithin counts.old }
     ensures value { Gives result (then_at before.now counts.old (spot_of here.now)) }

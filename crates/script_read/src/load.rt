@@ -50,9 +50,9 @@ fn counted_bytes(buffer: &Buffer) -> u128
     }
 }
 
-#[tactic(auto, unfolding(scenario_format::specs::Scripts::Loads::flat_at))]
+#[tactic(auto, unfolding(scenario_format::specs::Scripts::Loads::read_flat))]
 fn flat(here: &Node, before: &NamedOps) -> Result<Buffer, Stop>
-    ensures value { Gives result (loads.flat_at before.now (spot_of here.now)) }
+    ensures value { Gives result (loads.read_flat before.now (spot_of here.now)) }
     ensures within { IfOk result (λ b. AllByRecursion (IsMade before.now) (buffer_within b)) }
     ensures whole { IfOk result IsFromBegin }
     ensures own { IfOk result (λ b. (pages : List PageRun) → IsBufferOf pages b) }
@@ -65,9 +65,9 @@ fn flat(here: &Node, before: &NamedOps) -> Result<Buffer, Stop>
 }
 
 /// The map of a load.
-#[tactic(auto, unfolding(scenario_format::specs::Scripts::Loads::loaded_map_at))]
+#[tactic(auto, unfolding(scenario_format::specs::Scripts::Loads::read_loaded_map))]
 pub(crate) fn loaded_map(here: &Node, before: &NamedOps) -> Result<u32, Stop>
-    ensures value { Gives result (loads.loaded_map_at before.now (spot_of here.now)) }
+    ensures value { Gives result (loads.read_loaded_map before.now (spot_of here.now)) }
     ensures made { IfOk result (λ map. IsMade before.now (map_at map)) }
 {
     used_name(here, NameUse::Map, "map", before)
@@ -106,10 +106,10 @@ pub(crate) fn load_of(
 }
 
 /// A load of bytes from a place on, whose own step is counted.
-#[tactic(auto, unfolding(scenario_format::specs::Scripts::Loads::load_at))]
+#[tactic(auto, unfolding(scenario_format::specs::Scripts::Loads::read_load))]
 pub(crate) fn load(here: &Node, before: &NamedOps, counts: &mut Counts) -> Result<Op, Stop>
     requires within { IsWithin counts.old }
-    ensures value { Gives result (loads.load_at before.now counts.old (spot_of here.now)) }
+    ensures value { Gives result (loads.read_load before.now counts.old (spot_of here.now)) }
     ensures valid { IfOk result (IsOp before.now) }
     ensures counted { IfOk result (λ o. counts.new ≡ with_op counts.old o) }
     ensures within { IfOk result (λ _. IsWithin counts.new) }
@@ -122,10 +122,10 @@ pub(crate) fn load(here: &Node, before: &NamedOps, counts: &mut Counts) -> Resul
 }
 
 /// A load of a vector, whose own step is counted.
-#[tactic(auto, unfolding(scenario_format::specs::Scripts::Loads::load_vector_at))]
+#[tactic(auto, unfolding(scenario_format::specs::Scripts::Loads::read_load_vector))]
 pub(crate) fn load_vector(here: &Node, before: &NamedOps, counts: &mut Counts) -> Result<Op, Stop>
     requires within { IsWithin counts.old }
-    ensures value { Gives result (loads.load_vector_at before.now counts.old (spot_of here.now)) }
+    ensures value { Gives result (loads.read_load_vector before.now counts.old (spot_of here.now)) }
     ensures valid { IfOk result (IsOp before.now) }
     ensures counted { IfOk result (λ o. counts.new ≡ with_op counts.old o) }
     ensures within { IfOk result (λ _. IsWithin counts.new) }
@@ -138,10 +138,10 @@ pub(crate) fn load_vector(here: &Node, before: &NamedOps, counts: &mut Counts) -
 }
 
 /// A load of an mbuf chain, whose own step is counted. It has no flags.
-#[tactic(auto, unfolding(scenario_format::specs::Scripts::Loads::load_mbuf_at))]
+#[tactic(auto, unfolding(scenario_format::specs::Scripts::Loads::read_load_mbuf))]
 pub(crate) fn load_mbuf(here: &Node, before: &NamedOps, counts: &mut Counts) -> Result<Op, Stop>
     requires within { IsWithin counts.old }
-    ensures value { Gives result (loads.load_mbuf_at before.now counts.old (spot_of here.now)) }
+    ensures value { Gives result (loads.read_load_mbuf before.now counts.old (spot_of here.now)) }
     ensures valid { IfOk result (IsOp before.now) }
     ensures counted { IfOk result (λ o. counts.new ≡ with_op counts.old o) }
     ensures within { IfOk result (λ _. IsWithin counts.new) }
@@ -154,7 +154,7 @@ pub(crate) fn load_mbuf(here: &Node, before: &NamedOps, counts: &mut Counts) -> 
 }
 
 /// A load of a bio of a driver with these pages, whose own step is counted.
-#[tactic(auto, unfolding(scenario_format::specs::Scripts::Loads::load_bio_at))]
+#[tactic(auto, unfolding(scenario_format::specs::Scripts::Loads::read_load_bio))]
 pub(crate) fn load_bio(
     here: &Node,
     pages: &[PageRun],
@@ -162,7 +162,7 @@ pub(crate) fn load_bio(
     counts: &mut Counts,
 ) -> Result<Op, Stop>
     requires within { IsWithin counts.old }
-    ensures value { Gives result (loads.load_bio_at pages.now before.now counts.old (spot_of here.now)) }
+    ensures value { Gives result (loads.read_load_bio pages.now before.now counts.old (spot_of here.now)) }
     ensures valid { IfOk result (IsOp before.now) }
     ensures counted { IfOk result (λ o. counts.new ≡ with_op counts.old o) }
     ensures within { IfOk result (λ _. IsWithin counts.new) }

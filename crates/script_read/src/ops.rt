@@ -17,9 +17,9 @@ use script_fields::{
     parent_tag, range_fields, short_or, sync_fields, used_name, written_bytes,
 };
 
-#[tactic(auto, unfolding(scenario_format::specs::Scripts::Ops::limits_at))]
+#[tactic(auto, unfolding(scenario_format::specs::Scripts::Ops::read_limits))]
 fn limits(here: &Node) -> Result<TagLimits, Stop>
-    ensures { Gives result (ops.limits_at (spot_of here.now)) }
+    ensures { Gives result (ops.read_limits (spot_of here.now)) }
 {
     let alignment = here.number_or("alignment", 1)?;
     let boundary = here.number_or("boundary", 0)?;
@@ -70,9 +70,9 @@ pub(crate) fn tag(here: &Node, before: &NamedOps) -> Result<Op, Stop>
     })
 }
 
-#[tactic(auto, unfolding(scenario_format::specs::Scripts::Ops::space_limits_at))]
+#[tactic(auto, unfolding(scenario_format::specs::Scripts::Ops::read_space_limits))]
 fn space_limits(here: &Node) -> Result<SpaceLimits, Stop>
-    ensures { Gives result (ops.space_limits_at (spot_of here.now)) }
+    ensures { Gives result (ops.read_space_limits (spot_of here.now)) }
 {
     let lowaddr = here.number_or("lowaddr", u64::from(u32::MAX))?;
     let boundary = here.number_or("boundary", 0)?;
@@ -108,9 +108,9 @@ pub(crate) fn iommu_tag(here: &Node, before: &NamedOps) -> Result<Op, Stop>
     Ok(Op::IommuTag { name, limits })
 }
 
-#[tactic(auto, unfolding(scenario_format::specs::Scripts::Ops::tag_destroy_at))]
+#[tactic(auto, unfolding(scenario_format::specs::Scripts::Ops::read_tag_destroy))]
 pub(crate) fn tag_destroy(here: &Node, before: &NamedOps) -> Result<Op, Stop>
-    ensures value { Gives result (ops.tag_destroy_at before.now (spot_of here.now)) }
+    ensures value { Gives result (ops.read_tag_destroy before.now (spot_of here.now)) }
     ensures valid { IfOk result (IsOp before.now) }
     ensures quiet { IfOk result IsQuiet }
 {
@@ -132,18 +132,18 @@ pub(crate) fn map(here: &Node, before: &NamedOps) -> Result<Op, Stop>
 }
 
 // The map of an operation that says nothing else.
-#[tactic(auto, unfolding(scenario_format::specs::Scripts::Ops::only_map_at))]
+#[tactic(auto, unfolding(scenario_format::specs::Scripts::Ops::read_only_map))]
 fn only_map(here: &Node, used_as: NameUse, before: &NamedOps) -> Result<u32, Stop>
-    ensures value { Gives result (ops.only_map_at used_as before.now (spot_of here.now)) }
+    ensures value { Gives result (ops.read_only_map used_as before.now (spot_of here.now)) }
     ensures made { IfOk result (λ m. IsMade before.now (record { used_as = used_as; made_at = m })) }
 {
     here.only_keys(&["op", "map"])?;
     used_name(here, used_as, "map", before)
 }
 
-#[tactic(auto, unfolding(scenario_format::specs::Scripts::Ops::map_destroy_at))]
+#[tactic(auto, unfolding(scenario_format::specs::Scripts::Ops::read_map_destroy))]
 pub(crate) fn map_destroy(here: &Node, before: &NamedOps) -> Result<Op, Stop>
-    ensures value { Gives result (ops.map_destroy_at before.now (spot_of here.now)) }
+    ensures value { Gives result (ops.read_map_destroy before.now (spot_of here.now)) }
     ensures valid { IfOk result (IsOp before.now) }
     ensures quiet { IfOk result IsQuiet }
 {
@@ -151,9 +151,9 @@ pub(crate) fn map_destroy(here: &Node, before: &NamedOps) -> Result<Op, Stop>
     Ok(Op::MapDestroy { map })
 }
 
-#[tactic(auto, unfolding(scenario_format::specs::Scripts::Ops::dmamem_at))]
+#[tactic(auto, unfolding(scenario_format::specs::Scripts::Ops::read_dmamem))]
 pub(crate) fn dmamem(here: &Node, before: &NamedOps) -> Result<Op, Stop>
-    ensures value { Gives result (ops.dmamem_at before.now (spot_of here.now)) }
+    ensures value { Gives result (ops.read_dmamem before.now (spot_of here.now)) }
     ensures valid { IfOk result (IsOp before.now) }
     ensures quiet { IfOk result IsQuiet }
 {
@@ -164,9 +164,9 @@ pub(crate) fn dmamem(here: &Node, before: &NamedOps) -> Result<Op, Stop>
     Ok(Op::Dmamem { name, tag, flags })
 }
 
-#[tactic(auto, unfolding(scenario_format::specs::Scripts::Ops::dmamem_free_at))]
+#[tactic(auto, unfolding(scenario_format::specs::Scripts::Ops::read_dmamem_free))]
 pub(crate) fn dmamem_free(here: &Node, before: &NamedOps) -> Result<Op, Stop>
-    ensures value { Gives result (ops.dmamem_free_at before.now (spot_of here.now)) }
+    ensures value { Gives result (ops.read_dmamem_free before.now (spot_of here.now)) }
     ensures valid { IfOk result (IsOp before.now) }
     ensures quiet { IfOk result IsQuiet }
 {
@@ -175,9 +175,9 @@ pub(crate) fn dmamem_free(here: &Node, before: &NamedOps) -> Result<Op, Stop>
     Ok(Op::DmamemFree { mem })
 }
 
-#[tactic(auto, unfolding(scenario_format::specs::Scripts::Ops::unload_at))]
+#[tactic(auto, unfolding(scenario_format::specs::Scripts::Ops::read_unload))]
 pub(crate) fn unload(here: &Node, before: &NamedOps) -> Result<Op, Stop>
-    ensures value { Gives result (ops.unload_at before.now (spot_of here.now)) }
+    ensures value { Gives result (ops.read_unload before.now (spot_of here.now)) }
     ensures valid { IfOk result (IsOp before.now) }
     ensures quiet { IfOk result IsQuiet }
 {
@@ -185,9 +185,9 @@ pub(crate) fn unload(here: &Node, before: &NamedOps) -> Result<Op, Stop>
     Ok(Op::Unload { map })
 }
 
-#[tactic(auto, unfolding(scenario_format::specs::Scripts::Ops::sync_at))]
+#[tactic(auto, unfolding(scenario_format::specs::Scripts::Ops::read_sync))]
 pub(crate) fn sync(here: &Node, before: &NamedOps) -> Result<Op, Stop>
-    ensures value { Gives result (ops.sync_at before.now (spot_of here.now)) }
+    ensures value { Gives result (ops.read_sync before.now (spot_of here.now)) }
     ensures valid { IfOk result (IsOp before.now) }
     ensures quiet { IfOk result IsQuiet }
 {
@@ -198,9 +198,9 @@ pub(crate) fn sync(here: &Node, before: &NamedOps) -> Result<Op, Stop>
     })
 }
 
-#[tactic(auto, unfolding(scenario_format::specs::Scripts::Ops::sync_range_at))]
+#[tactic(auto, unfolding(scenario_format::specs::Scripts::Ops::read_sync_range))]
 pub(crate) fn sync_range(here: &Node, before: &NamedOps) -> Result<Op, Stop>
-    ensures value { Gives result (ops.sync_range_at before.now (spot_of here.now)) }
+    ensures value { Gives result (ops.read_sync_range before.now (spot_of here.now)) }
     ensures valid { IfOk result (IsOp before.now) }
     ensures quiet { IfOk result IsQuiet }
 {
@@ -213,10 +213,10 @@ pub(crate) fn sync_range(here: &Node, before: &NamedOps) -> Result<Op, Stop>
     })
 }
 
-#[tactic(auto, unfolding(scenario_format::specs::Scripts::Ops::cpu_read_at))]
+#[tactic(auto, unfolding(scenario_format::specs::Scripts::Ops::read_cpu_read))]
 pub(crate) fn cpu_read(here: &Node, before: &NamedOps, counts: &mut Counts) -> Result<Op, Stop>
     requires within { IsWithin counts.old }
-    ensures value { Gives result (ops.cpu_read_at before.now counts.old (spot_of here.now)) }
+    ensures value { Gives result (ops.read_cpu_read before.now counts.old (spot_of here.now)) }
     ensures valid { IfOk result (IsOp before.now) }
     ensures loads_nothing { IfOk result (λ o. (about o).loads ≡ None) }
     ensures counted { IfOk result (λ o. counts.new ≡ with_op counts.old o) }
@@ -229,9 +229,9 @@ pub(crate) fn cpu_read(here: &Node, before: &NamedOps, counts: &mut Counts) -> R
     Ok(Op::CpuRead { place, len })
 }
 
-#[tactic(auto, unfolding(scenario_format::specs::Scripts::Ops::cpu_write_at))]
+#[tactic(auto, unfolding(scenario_format::specs::Scripts::Ops::read_cpu_write))]
 pub(crate) fn cpu_write(here: &Node, before: &NamedOps) -> Result<Op, Stop>
-    ensures value { Gives result (ops.cpu_write_at before.now (spot_of here.now)) }
+    ensures value { Gives result (ops.read_cpu_write before.now (spot_of here.now)) }
     ensures valid { IfOk result (IsOp before.now) }
     ensures quiet { IfOk result IsQuiet }
 {
@@ -242,9 +242,9 @@ pub(crate) fn cpu_write(here: &Node, before: &NamedOps) -> Result<Op, Stop>
     Ok(Op::CpuWrite { place, bytes })
 }
 
-#[tactic(auto, unfolding(scenario_format::specs::Scripts::Ops::await_at))]
+#[tactic(auto, unfolding(scenario_format::specs::Scripts::Ops::read_await))]
 pub(crate) fn await_op(here: &Node, before: &NamedOps) -> Result<Op, Stop>
-    ensures value { Gives result (ops.await_at before.now (spot_of here.now)) }
+    ensures value { Gives result (ops.read_await before.now (spot_of here.now)) }
     ensures valid { IfOk result (IsOp before.now) }
     ensures quiet { IfOk result IsQuiet }
 {

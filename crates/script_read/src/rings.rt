@@ -29,9 +29,9 @@ pub(crate) fn ring(here: &Node, before: &NamedOps) -> Result<Op, Stop>
     Ok(Op::Ring { name, mem, slots })
 }
 
-#[tactic(auto, unfolding(scenario_format::specs::Scripts::Rings::ring_post_at))]
+#[tactic(auto, unfolding(scenario_format::specs::Scripts::Rings::read_ring_post))]
 pub(crate) fn ring_post(here: &Node, before: &NamedOps) -> Result<Op, Stop>
-    ensures value { Gives result (rings.ring_post_at before.now (spot_of here.now)) }
+    ensures value { Gives result (rings.read_ring_post before.now (spot_of here.now)) }
     ensures valid { IfOk result (IsOp before.now) }
     ensures quiet { IfOk result IsQuiet }
 {
@@ -55,9 +55,9 @@ pub(crate) fn ring_post(here: &Node, before: &NamedOps) -> Result<Op, Stop>
 }
 
 /// How many steps a kick asks for.
-#[tactic(auto, unfolding(scenario_format::specs::Scripts::Rings::count_at))]
+#[tactic(auto, unfolding(scenario_format::specs::Scripts::Rings::read_count))]
 fn count(here: &Node) -> Result<u64, Stop>
-    ensures value { Gives result (rings.count_at (spot_of here.now)) }
+    ensures value { Gives result (rings.read_count (spot_of here.now)) }
     ensures some { IfOk result (λ n. 1 ≤ n) }
     ensures few { IfOk result (λ n. n ≤ steps_limit) }
 {
@@ -69,10 +69,10 @@ fn count(here: &Node) -> Result<u64, Stop>
 }
 
 /// A kick of a ring's device, whose own step is counted.
-#[tactic(auto, unfolding(scenario_format::specs::Scripts::Rings::kick_at))]
+#[tactic(auto, unfolding(scenario_format::specs::Scripts::Rings::read_kick))]
 pub(crate) fn kick(here: &Node, before: &NamedOps, counts: &mut Counts) -> Result<Op, Stop>
     requires within { IsWithin counts.old }
-    ensures value { Gives result (rings.kick_at before.now counts.old (spot_of here.now)) }
+    ensures value { Gives result (rings.read_kick before.now counts.old (spot_of here.now)) }
     ensures valid { IfOk result (IsOp before.now) }
     ensures loads_nothing { IfOk result (λ o. (about o).loads ≡ None) }
     ensures counted { IfOk result (λ o. counts.new ≡ with_op counts.old o) }

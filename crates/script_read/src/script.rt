@@ -11,7 +11,7 @@ ghost use Rattle.json_fields.specs.Field.{spot_of};
 ghost use Rattle.scenario_format.specs.Json.Items.{each};
 ghost use Rattle.script_fields.specs.Counts.{IsWithin, with_op};
 ghost use Rattle.scenario_format.specs.Parts.Counts.{with_ops, one_step_counted};
-ghost use Rattle.scenario_format.specs.Scripts.Script.{op_by, op_at, script_at};
+ghost use Rattle.scenario_format.specs.Scripts.Script.{op_by, read_op as op_at, read_script as script_at};
 
 use crate::load::{load, load_bio, load_mbuf, load_vector};
 use crate::sends::send;
@@ -63,7 +63,7 @@ fn op_by(
     }
 }
 
-#[tactic(auto, unfolding(scenario_format::specs::Scripts::Script::op_at))]
+#[tactic(auto, unfolding(scenario_format::specs::Scripts::Script::read_op))]
 fn op(here: &Node, pages: &[PageRun], before: &NamedOps, counts: &mut Counts) -> Result<Op, Stop>
     requires within { IsWithin counts.old }
     ensures value { Gives result (op_at pages.now before.now counts.old (spot_of here.now)) }
@@ -103,7 +103,7 @@ fn each_op<'v>(
 
 /// The operations of the script that stands here, in order, of a driver with these pages. Their steps and bytes are
 /// counted.
-#[tactic(auto, unfolding(scenario_format::specs::Scripts::Script::script_at))]
+#[tactic(auto, unfolding(scenario_format::specs::Scripts::Script::read_script))]
 pub fn script_of(here: &Node, pages: &[PageRun], counts: &mut Counts) -> Result<OpList, Stop>
     requires within { IsWithin counts.old }
     ensures value { Gives result (script_at pages.now counts.old (spot_of here.now)) }

@@ -102,7 +102,7 @@ fn is_one_of(va: u64, before: &[Va], highest: u64) -> bool
     is_any(va, before)
 }
 
-#[tactic(auto, unfolding(scenario_format::specs::Scripts::Sends::cluster_at))]
+#[tactic(auto, unfolding(scenario_format::specs::Scripts::Sends::read_cluster))]
 fn cluster(
     here: &Node,
     chain: &[Span],
@@ -112,7 +112,7 @@ fn cluster(
 ) -> Result<Va, Stop>
     requires bounds { AllByRecursion (LiesBetween bounds) chain.now }
     requires highest { AllByRecursion (IsUpTo highest) before.now }
-    ensures value { Gives result (sends.cluster_at chain.now before.now (spot_of here.now)) }
+    ensures value { Gives result (sends.read_cluster chain.now before.now (spot_of here.now)) }
     ensures valid { IfOk result (IsClusterOf chain.now before.now) }
 {
     let va = here.number()?;
@@ -124,7 +124,7 @@ fn cluster(
 
 fn each_cluster<'v>(here: &'v Node<'v>, items: &'v [Value], chain: &[Span]) -> Result<Vec<Va>, Stop>
     ensures value { GivesSeen (λ v. v.items) result
-        (each (sends.cluster_at chain.now) (spot_of here.now) [] (map view items.now)) }
+        (each (sends.read_cluster chain.now) (spot_of here.now) [] (map view items.now)) }
     ensures valid { IfOk result (λ v. EachAfter (IsClusterOf chain.now) [] v.items) }
     ensures count { IfOk result (λ v. length v.items ≡ length items.now) }
 {
@@ -140,9 +140,9 @@ fn each_cluster<'v>(here: &'v Node<'v>, items: &'v [Value], chain: &[Span]) -> R
     Ok(clusters)
 }
 
-#[tactic(auto, unfolding(scenario_format::specs::Scripts::Sends::clusters_at))]
+#[tactic(auto, unfolding(scenario_format::specs::Scripts::Sends::read_clusters))]
 fn clusters(here: &Node, chain: &[Span]) -> Result<ListOf<Va>, Stop>
-    ensures value { Gives result (sends.clusters_at chain.now (spot_of here.now)) }
+    ensures value { Gives result (sends.read_clusters chain.now (spot_of here.now)) }
     ensures valid { IfOk result (EachAfter (IsClusterOf chain.now) []) }
     ensures few { IfOk result (λ v. length v ≤ entries_limit) }
 {

@@ -1,5 +1,6 @@
 -- The ideal state of a world of the program, and of its run.
-use Rattle.std.specs.Prelude.{List}
+use Rattle.std.specs.Prelude.{ℕ, ◌==◌, Bool, true, not, List, Option, Some, None, slice_get}
+use Rattle.busdma_machine.specs.declared.bounce.zone.Waiter.{Waiter}
 use Rattle.busdma_machine.specs.declared.bounce.hold.HoldEntry.{HoldEntry}
 use Rattle.ideal_world.specs.Legal.{Run}
 use Rattle.ideal_world.specs.World.{WorldState}
@@ -18,3 +19,12 @@ holds w = w.hub.history
 -- the run that a replay has come to
 abbrev pub ideal_run : Progress → Run
 ideal_run p = record { world = ideal_world p.world; entries = p.entries.items }
+
+-- the head of a callback list, if there is one, is not of the driver of this number
+abbrev pub is_others_head : ℕ → Option Waiter → Bool
+is_others_head lane None = true
+is_others_head lane (Some w) = not (w.map.lane.0 == lane)
+
+-- no callback can be taken by the driver of this number
+abbrev pub has_no_callback : WorldState → ℕ → Bool
+has_no_callback w lane = is_others_head lane (slice_get w.account.ready 0)

@@ -1,19 +1,18 @@
 //! The turns of actors.
 
-ghost use Rattle.std.specs.Prelude.{◌≡◌, ◌+◌, ◌++◌, IfOk, OnErr, OnOk, None, true, if◌then◌else◌, length};
-ghost use Rattle.busdma_base.specs.declared.journals.journal.Side.TheVariants as side;
+ghost use Rattle.std.specs.Prelude.{◌≡◌, ◌+◌, ◌++◌, IfOk, OnErr, OnOk, is_some, not, if◌then◌else◌, length};
 ghost use Rattle.busdma_machine.specs.Bounce.History.{IsOpening, IsSound};
 ghost use Rattle.lane_turns.specs.Turning.{answered, is_held};
 ghost use Rattle.ideal_world.specs.Holds.{step_holds};
 ghost use Rattle.ideal_world.specs.Wires.{WiresFollow};
 ghost use Rattle.ideal_world.specs.World.{step, step_entry};
-ghost use Rattle.world_core.specs.Ideal.{holds, ideal_world};
+ghost use Rattle.world_core.specs.Ideal.{has_no_callback, holds, ideal_world};
 ghost use Rattle.world_core.specs.Wanting.{MayWant};
 ghost use Rattle.world_core.specs.Wires.{WiresStay, wires_of};
 
 use crate::world::World;
 use bounce_hub::Hub;
-use busdma_base::{Actor, Side};
+use busdma_base::{Actor, LaneId, Side};
 use lane_core::Turn;
 use std::alloc::{AllocError, Global};
 
@@ -46,49 +45,28 @@ impl World<'_> {
         self.lanes[at].turn(alloc, &mut self.hub, actor.side)
     }
 
-    /// Whether a look tells that an actor makes no step: a script that waits or has ended, a device whose
-    /// driver has no item for it, or a driver whose map is not the first of the callback list.
+    /// Returns whether an actor makes no step, for which it only looks: a script that waits or has ended, a device whose
+    /// driver has no item for it, a driver whose map is not the first of the callback list, or an actor without a driver.
     pub(crate) fn is_idle(&self, actor: Actor) -> bool
-        ensures { result ≡ true → step_entry (ideal_world self.now) actor ≡ None }
+        ensures { result ≡ not (is_some (step_entry (ideal_world self.now) actor)) }
     {
+        let number = actor.lane.0 as usize;
+        if number >= self.lanes.len() {
+            return true;
+        }
         match actor.side {
-            Side::Script => self.is_idle_script(actor),
-            Side::Transfer => self.is_idle_device(actor),
-            Side::Callback => self.has_no_callback(actor),
+            Side::Script => !self.lanes[number].has_step(),
+            Side::Transfer => !self.lanes[number].has_item(),
+            Side::Callback => self.is_no_callback_of(actor.lane),
         }
     }
 
-    /// Whether a driver's script has no step to make.
-    fn is_idle_script(&self, actor: Actor) -> bool
-        requires { actor.side ≡ side.Script }
-        ensures { result ≡ true → step_entry (ideal_world self.now) actor ≡ None }
-    {
-        let number = actor.lane.0 as usize;
-        if number >= self.lanes.len() {
-            return false;
-        }
-        !self.lanes[number].has_step()
-    }
-
-    /// Whether a driver has no item for its device.
-    fn is_idle_device(&self, actor: Actor) -> bool
-        requires { actor.side ≡ side.Transfer }
-        ensures { result ≡ true → step_entry (ideal_world self.now) actor ≡ None }
-    {
-        let number = actor.lane.0 as usize;
-        if number >= self.lanes.len() {
-            return false;
-        }
-        !self.lanes[number].has_item()
-    }
-
-    /// Whether the first map of the callback list is another driver's, or the list is empty.
-    fn has_no_callback(&self, actor: Actor) -> bool
-        requires { actor.side ≡ side.Callback }
-        ensures { result ≡ true → step_entry (ideal_world self.now) actor ≡ None }
+    /// Returns whether the first map of the callback list is another driver's, or the list is empty.
+    fn is_no_callback_of(&self, lane: LaneId) -> bool
+        ensures { result ≡ has_no_callback (ideal_world self.now) lane.0 }
     {
         match self.hub.first_callback() {
-            Some(first) => first.map.lane != actor.lane,
+            Some(first) => first.map.lane != lane,
             None => true,
         }
     }

@@ -11,7 +11,7 @@ use Rattle.program_rules.specs.declared.verdict.Verdict.TheVariants.{Yes, No}
 use Rattle.program_rules.specs.Verdicts.Header.{Cut, cut_of}
 use Rattle.program_rules.specs.Verdicts.Verdict.{IsVerdict}
 use Rattle.program_rules.specs.declared.program_end.ProgramEnd.{ProgramEnd}
-use Rattle.program_rules.specs.Commands.Edges.{Edges, ReadAll, WriteFailed, WroteAll, WrotePart}
+use Rattle.program_rules.specs.Commands.Edges.{StreamEdges, ReadAll, WriteFailed, WroteAll, WrotePart}
 
 -- the input has a header, and behind it a scenario, and this is the verdict on the text behind that
 pub record HasVerdict (input : List ℕ) (v : Verdict) : Type 0 where
@@ -38,13 +38,13 @@ verdict_journal (Yes journal) = Some journal
 verdict_journal (No number) = None
 
 -- all the bytes were read, and this is the verdict on them
-pub record Checked (e : Edges) (v : Verdict) : Type 0 where
+pub record Checked (e : StreamEdges) (v : Verdict) : Type 0 where
   pub bytes : List ℕ
   pub read : ReadAll bytes e
   pub judged : HasVerdict bytes v
 
 -- its line was written whole, and the status and the journal are the verdict's
-pub record CheckedAndWrote (e : Edges) (o : ProgramEnd) : Type 0 where
+pub record CheckedAndWrote (e : StreamEdges) (o : ProgramEnd) : Type 0 where
   pub verdict : Verdict
   pub checked : Checked e verdict
   pub wrote : WroteAll (verdict_line verdict) e
@@ -52,7 +52,7 @@ pub record CheckedAndWrote (e : Edges) (o : ProgramEnd) : Type 0 where
   pub journal : o.journal ≡ verdict_journal verdict
 
 -- the sink failed, and a front of the line was written, and not the whole
-pub record CheckedUnwritten (e : Edges) (o : ProgramEnd) : Type 0 where
+pub record CheckedUnwritten (e : StreamEdges) (o : ProgramEnd) : Type 0 where
   pub verdict : Verdict
   pub checked : Checked e verdict
   pub wrote : WrotePart (verdict_line verdict) e

@@ -11,7 +11,7 @@ abbrev pub input_limit : ℕ
 input_limit = 16777216
 
 -- the bytes left in a source and held by a sink, and how often each had failed, before a call and after it
-pub record Edges : Type 0 where
+pub record StreamEdges : Type 0 where
   pub left : Option (List ℕ)
   pub left_after : Option (List ℕ)
   pub held : Option (List ℕ)
@@ -23,7 +23,7 @@ pub record Edges : Type 0 where
 
 -- the edges of a call, by what its source and its sink mean
 abbrev pub edges : {S K : Type 0} → (S → Option (List ℕ)) → (S → ℕ) → (K → Option (List ℕ)) → (K → ℕ)
-    → S → S → K → K → Edges
+    → S → S → K → K → StreamEdges
 edges left read_faults held write_faults s t k l = record {
   left = left s;
   left_after = left t;
@@ -36,48 +36,48 @@ edges left read_faults held write_faults s t k l = record {
 }
 
 -- reading failed
-abbrev pub ReadFailed : Edges → Type 0
+abbrev pub ReadFailed : StreamEdges → Type 0
 ReadFailed e = Rose e.read_faults e.read_faults_after
 
 -- writing failed
-abbrev pub WriteFailed : Edges → Type 0
+abbrev pub WriteFailed : StreamEdges → Type 0
 WriteFailed e = Rose e.write_faults e.write_faults_after
 
 -- no read failed
-abbrev pub NoReadFailed : Edges → Type 0
+abbrev pub NoReadFailed : StreamEdges → Type 0
 NoReadFailed e = e.read_faults_after ≡ e.read_faults
 
 -- no write failed
-abbrev pub NoWriteFailed : Edges → Type 0
+abbrev pub NoWriteFailed : StreamEdges → Type 0
 NoWriteFailed e = e.write_faults_after ≡ e.write_faults
 
 -- nothing was read, and no read failed
-pub record ReadNothing (e : Edges) : Type 0 where
+pub record ReadNothing (e : StreamEdges) : Type 0 where
   pub bytes : e.left_after ≡ e.left
   pub faults : NoReadFailed e
 
 -- nothing was written, and no write failed
-pub record WroteNothing (e : Edges) : Type 0 where
+pub record WroteNothing (e : StreamEdges) : Type 0 where
   pub bytes : e.held_after ≡ e.held
   pub faults : NoWriteFailed e
 
 -- these bytes, which are not too many, were all that was left, and nothing is left
-pub record ReadAll (bytes : List ℕ) (e : Edges) : Type 0 where
+pub record ReadAll (bytes : List ℕ) (e : StreamEdges) : Type 0 where
   pub all : TakesAll bytes e.left e.left_after
   pub short : length bytes ≤ input_limit
 
 -- one byte too many was given
-abbrev pub ReadTooMany : Edges → Type 0
+abbrev pub ReadTooMany : StreamEdges → Type 0
 ReadTooMany e = Takes (input_limit + 1) e.left e.left_after
 
 -- at most one byte too many was taken
-abbrev pub ReadAtMost : Edges → Type 0
+abbrev pub ReadAtMost : StreamEdges → Type 0
 ReadAtMost e = TakesAtMost (input_limit + 1) e.left e.left_after
 
 -- the whole text was written
-abbrev pub WroteAll : List ℕ → Edges → Type 0
+abbrev pub WroteAll : List ℕ → StreamEdges → Type 0
 WroteAll text e = Appends e.held e.held_after text
 
 -- a front of the text was written, and not the whole
-abbrev pub WrotePart : List ℕ → Edges → Type 0
+abbrev pub WrotePart : List ℕ → StreamEdges → Type 0
 WrotePart text e = WritesPart text e.held e.held_after

@@ -13,18 +13,18 @@ use Rattle.program_rules.specs.declared.command.Command.TheVariants.{Replay, Run
 use Rattle.program_rules.specs.Commands.Words.{command}
 use Rattle.program_rules.specs.Commands.Checks.{CheckedAndWrote, CheckedUnwritten}
 use Rattle.program_rules.specs.Commands.Judging.{command_reading}
-use Rattle.program_rules.specs.Commands.Edges.{Edges, ReadFailed, NoReadFailed, ReadNothing, ReadAll, ReadTooMany}
+use Rattle.program_rules.specs.Commands.Edges.{StreamEdges, ReadFailed, NoReadFailed, ReadNothing, ReadAll, ReadTooMany}
 use Rattle.program_rules.specs.Commands.Edges.{ReadAtMost, input_limit, WriteFailed, NoWriteFailed, WroteNothing}
 use Rattle.program_rules.specs.Commands.Edges.{WroteAll, WrotePart}
-use Rattle.program_rules.specs.Commands.Runs.{IsMadeOf, IsReader, Runs, text_of}
+use Rattle.program_rules.specs.Commands.Runs.{IsMadeOf, IsReader, RunsScenario, text_of}
 
 -- the statuses of a run that was done and written
-abbrev pub IsDone : ℕ → Type 0
-IsDone n = (n ≡ 0) ⊎ ((n ≡ 1) ⊎ (n ≡ 2))
+abbrev pub IsDoneStatus : ℕ → Type 0
+IsDoneStatus n = (n ≡ 0) ⊎ ((n ≡ 1) ⊎ (n ≡ 2))
 
 -- the statuses of calls that wrote their text, or a front of it
 abbrev pub HasWritten : ℕ → Type 0
-HasWritten n = IsDone n ⊎ (n ≡ 73)
+HasWritten n = IsDoneStatus n ⊎ (n ≡ 73)
 
 -- the statuses of outcomes with a journal
 abbrev pub KeepsJournal : Command → ℕ → Type 0
@@ -35,46 +35,46 @@ KeepsJournal Check n = n ≡ 0
 
 -- every status
 abbrev pub IsStatus : ℕ → Type 0
-IsStatus n = IsDone n ⊎ ((n ≡ 64) ⊎ ((n ≡ 65) ⊎ ((n ≡ 66) ⊎ ((n ≡ 71) ⊎ ((n ≡ 73) ⊎ (n ≡ 74))))))
+IsStatus n = IsDoneStatus n ⊎ ((n ≡ 64) ⊎ ((n ≡ 65) ⊎ ((n ≡ 66) ⊎ ((n ≡ 71) ⊎ ((n ≡ 73) ⊎ (n ≡ 74))))))
 
 -- The run of a command: its scenario is valid, and the journal of the outcome is one that the command
 -- may make of it.
-pub record Ran (c : Command) (e : Edges) (o : ProgramEnd) : Type 0 where
+pub record Ran (c : Command) (e : StreamEdges) (o : ProgramEnd) : Type 0 where
   pub scenario : Scenario
   pub journal : Journal
-  pub runs : Runs c e scenario
+  pub runs : RunsScenario c e scenario
   pub valid : IsValid scenario
   pub kept : o.journal ≡ Some journal
   pub made : IsMadeOf c scenario journal
 
 -- its text was written whole, and the status is its journal's
-pub record RanAndWrote (c : Command) (e : Edges) (o : ProgramEnd) : Type 0 where
+pub record RanAndWrote (c : Command) (e : StreamEdges) (o : ProgramEnd) : Type 0 where
   pub ran : Ran c e o
   pub wrote : WroteAll (text_of c ran.scenario ran.journal) e
   pub status : o.status ≡ status ran.journal
 
 -- the sink failed, and a front of the text was written, and not the whole
-pub record RanUnwritten (c : Command) (e : Edges) (o : ProgramEnd) : Type 0 where
+pub record RanUnwritten (c : Command) (e : StreamEdges) (o : ProgramEnd) : Type 0 where
   pub ran : Ran c e o
   pub wrote : WrotePart (text_of c ran.scenario ran.journal) e
   pub cause : WriteFailed e
 
 -- how a command ends that did its work and wrote
-abbrev pub Done : Command → Edges → ProgramEnd → Type 0
+abbrev pub Done : Command → StreamEdges → ProgramEnd → Type 0
 Done Replay e o = RanAndWrote Replay e o
 Done Run e o = RanAndWrote Run e o
 Done (Storm n seed) e o = RanAndWrote (Storm n seed) e o
 Done Check e o = CheckedAndWrote e o
 
 -- how a command ends that did its work and could not write
-abbrev pub Unwritten : Command → Edges → ProgramEnd → Type 0
-Unwritten Replay e o = RanUnwritten Replay e o
-Unwritten Run e o = RanUnwritten Run e o
-Unwritten (Storm n seed) e o = RanUnwritten (Storm n seed) e o
-Unwritten Check e o = CheckedUnwritten e o
+abbrev pub EndsUnwritten : Command → StreamEdges → ProgramEnd → Type 0
+EndsUnwritten Replay e o = RanUnwritten Replay e o
+EndsUnwritten Run e o = RanUnwritten Run e o
+EndsUnwritten (Storm n seed) e o = RanUnwritten (Storm n seed) e o
+EndsUnwritten Check e o = CheckedUnwritten e o
 
 -- all the bytes were read, and they are refused, for the reason that the outcome has
-pub record WasRefused (c : Command) (e : Edges) (o : ProgramEnd) : Type 0 where
+pub record WasRefused (c : Command) (e : StreamEdges) (o : ProgramEnd) : Type 0 where
   pub bytes : List ℕ
   pub refusal : Refusal
   pub read : ReadAll bytes e
@@ -87,12 +87,12 @@ OrNoMemory o P = P ⊎ (o.status ≡ 71)
 
 -- what comes of the bytes that were left
 abbrev pub AnswersReading : ProgramEnd → Reading → Type 0
-AnswersReading o (Good s) = IsDone o.status
+AnswersReading o (Good s) = IsDoneStatus o.status
 AnswersReading o (Bad r) = (o.status ≡ 65) × (o.fault ≡ Some r)
 
 -- What comes of the bytes that were left, where there was memory: where neither source nor sink failed, the outcome
 -- that they give; where the source did not fail, 66 for too many, and 65 with the refusal for bytes that are refused.
-pub record AnswersInput (c : Command) (e : Edges) (o : ProgramEnd) : Type 0 where
+pub record AnswersInput (c : Command) (e : StreamEdges) (o : ProgramEnd) : Type 0 where
   pub short : (input : List ℕ) → e.left ≡ Some input → length input ≤ input_limit
       → (ReadFailed e → ⊥) → (WriteFailed e → ⊥)
       → OrNoMemory o (AnswersReading o (command_reading c input))
@@ -103,10 +103,10 @@ pub record AnswersInput (c : Command) (e : Edges) (o : ProgramEnd) : Type 0 wher
       → OrNoMemory o ((o.status ≡ 65) × (o.fault ≡ Some r))
 
 -- where nothing failed that the command calls, and there was memory, the outcome is that of the command
-abbrev pub IsComplete : Command → Edges → ProgramEnd → Type 0
+abbrev pub IsComplete : Command → StreamEdges → ProgramEnd → Type 0
 IsComplete Replay e o = AnswersInput Replay e o
 IsComplete Run e o = AnswersInput Run e o
-IsComplete (Storm n seed) e o = (WriteFailed e → ⊥) → OrNoMemory o (IsDone o.status)
+IsComplete (Storm n seed) e o = (WriteFailed e → ⊥) → OrNoMemory o (IsDoneStatus o.status)
 IsComplete Check e o = AnswersInput Check e o
 
 -- the statuses that no command has but one that reads
@@ -114,24 +114,24 @@ abbrev pub IsOfReading : ℕ → Type 0
 IsOfReading n = (n ≡ 65) ⊎ ((n ≡ 66) ⊎ (n ≡ 74))
 
 -- more bytes were taken than an input may have
-abbrev pub GaveTooMany : Edges → Type 0
+abbrev pub GaveTooMany : StreamEdges → Type 0
 GaveTooMany e =
     (input : List ℕ) × (rest : List ℕ) × (e.left ≡ Some input) × (e.left_after ≡ Some rest)
     × (length rest + input_limit < length input)
 
 -- What a call of the program with these words keeps. Words are judged before reading, reading is
 -- done before judging and judging before the work, and all memory is taken before the first write.
-pub record Keeps (words : List (List ℕ)) (e : Edges) (o : ProgramEnd) : Type 0 where
+pub record Keeps (words : List (List ℕ)) (e : StreamEdges) (o : ProgramEnd) : Type 0 where
   pub known : IsStatus o.status
   pub no_command : o.status ≡ 64 → command words ≡ None
   pub usage : command words ≡ None → OrNoMemory o (o.status ≡ 64)
   pub reads : IsOfReading o.status → IsSomeAnd (command words) IsReader
   pub reads_nothing : (IsSomeAnd (command words) IsReader → ⊥) → ReadNothing e
-  pub done : IsDone o.status → IsSomeAnd (command words) (λ c. Done c e o)
+  pub done : IsDoneStatus o.status → IsSomeAnd (command words) (λ c. Done c e o)
   pub refused : o.status ≡ 65 → IsSomeAnd (command words) (λ c. WasRefused c e o)
   pub too_long : o.status ≡ 66 → ReadTooMany e
   pub too_many : GaveTooMany e → OrNoMemory o (o.status ≡ 66)
-  pub unwritten : o.status ≡ 73 → IsSomeAnd (command words) (λ c. Unwritten c e o)
+  pub unwritten : o.status ≡ 73 → IsSomeAnd (command words) (λ c. EndsUnwritten c e o)
   pub unread : o.status ≡ 74 → ReadFailed e
   pub no_read_failed : o.status ≢ 74 → NoReadFailed e
   pub no_write_failed : o.status ≢ 73 → NoWriteFailed e

@@ -11,25 +11,25 @@ use Rattle.program_rules.specs.Storms.Scenario.{storm_scenario}
 use Rattle.program_rules.specs.Storms.Summary.{summary}
 use Rattle.program_rules.specs.declared.command.Command.{Command}
 use Rattle.program_rules.specs.declared.command.Command.TheVariants.{Replay, Run, Storm, Check}
-use Rattle.program_rules.specs.Commands.Edges.{Edges, ReadAll, ReadNothing}
+use Rattle.program_rules.specs.Commands.Edges.{StreamEdges, ReadAll, ReadNothing}
 
 -- all the bytes that were left are the scenario's
-pub record IsRead (e : Edges) (scenario : Scenario) : Type 0 where
+pub record ReadScenario (e : StreamEdges) (scenario : Scenario) : Type 0 where
   pub bytes : List ℕ
   pub read : ReadAll bytes e
   pub good : scenario_of bytes ≡ Good scenario
 
 -- nothing was read, and the scenario is the storm of n rounds and this seed
-pub record IsStorm (n seed : ℕ) (e : Edges) (scenario : Scenario) : Type 0 where
+pub record IsStorm (n seed : ℕ) (e : StreamEdges) (scenario : Scenario) : Type 0 where
   pub read : ReadNothing e
   pub made : scenario ≡ storm_scenario n seed
 
 -- the scenario is the one that the command runs; a check runs none
-abbrev pub Runs : Command → Edges → Scenario → Type 0
-Runs Replay e scenario = IsRead e scenario
-Runs Run e scenario = IsRead e scenario
-Runs (Storm n seed) e scenario = IsStorm n seed e scenario
-Runs Check e scenario = ⊥
+abbrev pub RunsScenario : Command → StreamEdges → Scenario → Type 0
+RunsScenario Replay e scenario = ReadScenario e scenario
+RunsScenario Run e scenario = ReadScenario e scenario
+RunsScenario (Storm n seed) e scenario = IsStorm n seed e scenario
+RunsScenario Check e scenario = ⊥
 
 -- the command reads its scenario, or of a check a header before it
 abbrev pub IsReader : Command → Type 0

@@ -25,11 +25,11 @@ is_headed input size =
     && nat_le (length (header size) + size) (length input))
 
 -- the parts of an input behind the header of this number
-abbrev pub cut_at : List ℕ → ℕ → Cut
-cut_at input size =
+abbrev pub cut_behind_header : List ℕ → ℕ → Cut
+cut_behind_header input size =
     let behind : List ℕ = drop (length (header size)) input in
     record { scenario = take size behind; report = drop size behind }
 
 -- the parts of an input; none where it has no header, or too few bytes behind it
 abbrev pub cut_of : List ℕ → Option Cut
-cut_of input = if is_headed input (size_of input) then Some (cut_at input (size_of input)) else None
+cut_of input = if is_headed input (size_of input) then Some (cut_behind_header input (size_of input)) else None

@@ -9,5 +9,5 @@ lines [] = []
 lines (b ∷ bs) = if b == 10 then (b ∷ []) ∷ lines bs else onto_first b (lines bs)
 
 -- with how many lines two lists begin alike
-abbrev pub alike : List (List ℕ) → List (List ℕ) → ℕ
-alike xs ys = common_prefix_len bytes_eq xs ys
+abbrev pub alike_lines : List (List ℕ) → List (List ℕ) → ℕ
+alike_lines xs ys = common_prefix_len bytes_eq xs ys

@@ -4,7 +4,7 @@ use Rattle.busdma_base.specs.declared.journals.journal.Journal.{Journal}
 use Rattle.busdma_base.specs.declared.journals.journal.JournalEntry.{JournalEntry}
 use Rattle.busdma_base.specs.declared.scenarios.scenario.Scenario.{Scenario}
 use Rattle.program_rules.specs.Reports.Report.{entry_line}
-use Rattle.program_rules.specs.Verdicts.Lines.{lines, alike}
+use Rattle.program_rules.specs.Verdicts.Lines.{lines, alike_lines}
 use Rattle.program_rules.specs.Verdicts.ReportLines.{entry_lines, closing_lines}
 use Rattle.ideal_world.specs.Ends.{IsAtRest}
 use Rattle.ideal_world.specs.Legal.{Leads, journal_of}
@@ -13,7 +13,7 @@ use Rattle.program_rules.specs.declared.verdict.Verdict.{Verdict}
 use Rattle.program_rules.specs.declared.verdict.Verdict.TheVariants.{Yes, No}
 
 -- the first lines of a text are those of entries that lead from the opening world to this one, and these are left
-pub record Follows (s : Scenario) (text : List ℕ) : Type 0 where
+pub record FollowsText (s : Scenario) (text : List ℕ) : Type 0 where
   pub entries : List JournalEntry
   pub world : WorldState
   pub rest : List (List ℕ)
@@ -29,35 +29,35 @@ abbrev pub CanGoOn : WorldState → Type 0
 CanGoOn w = (e : JournalEntry) × (step_entry w e.actor ≡ Some e)
 
 -- a line is that of the step of an actor that can step, under this number
-abbrev pub IsNext : Scenario → ℕ → WorldState → List ℕ → Type 0
-IsNext s n w line = (e : JournalEntry) × (step_entry w e.actor ≡ Some e) × (line ≡ entry_line s n e)
+abbrev pub IsNextLine : Scenario → ℕ → WorldState → List ℕ → Type 0
+IsNextLine s n w line = (e : JournalEntry) × (step_entry w e.actor ≡ Some e) × (line ≡ entry_line s n e)
 
 -- the next line is not that of a step, or there is none
 abbrev pub IsWrong : Scenario → ℕ → WorldState → List (List ℕ) → Type 0
 IsWrong s n w [] = Unit {0}
-IsWrong s n w (line ∷ rest) = IsNext s n w line → ⊥
+IsWrong s n w (line ∷ rest) = IsNextLine s n w line → ⊥
 
 -- no actor can step, and what is left are the lines of the zones and the last line
 pub record IsWhole (s : Scenario) (text : List ℕ) (j : Journal) : Type 0 where
-  pub right : Follows s text
+  pub right : FollowsText s text
   pub still : IsAtRest right.world
   pub journal : j ≡ journal_at right.world right.entries
   pub closing : right.rest ≡ closing_lines j
 
 -- an actor can step, and the line with this number, from 1, is not that of a step
 pub record StopsWithin (s : Scenario) (text : List ℕ) (number : ℕ) : Type 0 where
-  pub right : Follows s text
+  pub right : FollowsText s text
   pub goes_on : CanGoOn right.world
   pub wrong : IsWrong s (length right.entries) right.world right.rest
   pub place : number ≡ length right.entries + 1
 
 -- no actor can step, and this is the first line that is not one of the zones or the last line
 pub record StopsAtEnd (s : Scenario) (text : List ℕ) (number : ℕ) : Type 0 where
-  pub right : Follows s text
+  pub right : FollowsText s text
   pub still : IsAtRest right.world
   pub other : right.rest ≡ closing_lines (journal_at right.world right.entries) → ⊥
   pub place : number ≡ length right.entries
-      + alike right.rest (closing_lines (journal_at right.world right.entries)) + 1
+      + alike_lines right.rest (closing_lines (journal_at right.world right.entries)) + 1
 
 -- the verdict on a text
 abbrev pub IsVerdict : Scenario → List ℕ → Verdict → Type 0

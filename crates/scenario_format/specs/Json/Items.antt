@@ -12,8 +12,8 @@ list_of no_items = []
 list_of (item d ds) = d ∷ list_of ds
 
 -- the items of a list
-unfoldable pub items_at : Spot → Read (List Data)
-items_at here = of_kind here.place (option_map list_of (as_array here.value))
+unfoldable pub read_items : Spot → Read (List Data)
+read_items here = of_kind here.place (option_map list_of (as_array here.value))
 
 -- each item is read by itself and by what was read of the list before it
 abbrev pub each : {A : Type 0} → (List A → Spot → Read A) → Spot → List A → List Data → Read (List A)

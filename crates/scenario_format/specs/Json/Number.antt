@@ -42,17 +42,17 @@ number_in (array ds) = None
 number_in (object ms) = None
 
 -- a number
-unfoldable pub number_at : Spot → Read ℕ
-number_at here = of_kind here.place (number_in here.value)
+unfoldable pub read_number : Spot → Read ℕ
+read_number here = of_kind here.place (number_in here.value)
 
 -- a number at a key, which has to be there
 unfoldable pub number_field : List ℕ → Spot → Read ℕ
-number_field name here = required name here >>= number_at
+number_field name here = required name here >>= read_number
 
 -- a number, or its default where there is none
 abbrev pub or_default : ℕ → Option Spot → Read ℕ
 or_default n None = Ok n
-or_default n (Some spot) = number_at spot
+or_default n (Some spot) = read_number spot
 
 -- a number at a key, or its default
 unfoldable pub number_or : List ℕ → ℕ → Spot → Read ℕ

@@ -9,8 +9,8 @@ use Rattle.scenario_format.specs.Json.Field.{Spot}
 use Rattle.scenario_format.specs.Json.Number.{of_kind, hex_digit}
 
 -- a text
-unfoldable pub text_at : Spot → Read (List ℕ)
-text_at here = of_kind here.place (as_str here.value)
+unfoldable pub read_text : Spot → Read (List ℕ)
+read_text here = of_kind here.place (as_str here.value)
 
 -- a text that is a name
 abbrev pub name_in : Data → Option (List ℕ)

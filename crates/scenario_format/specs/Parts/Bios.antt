@@ -8,13 +8,13 @@ use Rattle.busdma_base.specs.Scenarios.PageRuns.{has_frame}
 use Rattle.scenario_format.specs.Json.Place.{DocumentPlace, key}
 use Rattle.scenario_format.specs.Json.Read.{Read, ◌>>=◌, refuse}
 use Rattle.scenario_format.specs.Json.Field.{Spot, members_of, required, only_keys, one_of}
-use Rattle.scenario_format.specs.Json.Number.{number_at, number_field}
-use Rattle.scenario_format.specs.Json.Text.{text_at}
+use Rattle.scenario_format.specs.Json.Number.{read_number, number_field}
+use Rattle.scenario_format.specs.Json.Text.{read_text}
 use Rattle.scenario_format.specs.Json.Items.{each}
 use Rattle.scenario_format.specs.declared.refusal.RefusalKind.TheVariants.{BadField, FrameAbsent}
 use Rattle.scenario_format.specs.declared.bio_kind.BioKind.{BioKind}
 use Rattle.scenario_format.specs.declared.bio_kind.BioKind.TheVariants as kind
-use Rattle.scenario_format.specs.Parts.Spans.{entries_at, entries_field, span_fields_at}
+use Rattle.scenario_format.specs.Parts.Spans.{read_entries, entries_field, read_span_fields}
 
 -- a frame that is not of the driver's pages is refused
 abbrev pub own_or : List PageRun → DocumentPlace → ℕ → Read ℕ
@@ -22,11 +22,11 @@ own_or pages place frame = if has_frame pages frame then Ok frame else refuse Fr
 
 -- a frame of the driver's pages
 unfoldable pub read_bio_frame : List PageRun → Spot → Read ℕ
-read_bio_frame pages here = number_at here >>= own_or pages here.place
+read_bio_frame pages here = read_number here >>= own_or pages here.place
 
 -- the list of frames
 unfoldable pub read_bio_frames : List PageRun → Spot → Read (List ℕ)
-read_bio_frames pages here = entries_at here >>= each (λ _. read_bio_frame pages) here []
+read_bio_frames pages here = read_entries here >>= each (λ _. read_bio_frame pages) here []
 
 -- the list in `frames`, which has to be there
 unfoldable pub read_bio_frames_field : List PageRun → Spot → Read (List ℕ)
@@ -37,8 +37,8 @@ abbrev pub off_or : DocumentPlace → ℕ → Read ℕ
 off_or place n = if nat_lt n 4096 then Ok n else refuse BadField place
 
 -- where in its first frame a bio begins
-unfoldable pub off_at : Spot → Read ℕ
-off_at here = number_field (codes "off") here >>= off_or (key here.place (codes "off"))
+unfoldable pub read_off : Spot → Read ℕ
+read_off here = number_field (codes "off") here >>= off_or (key here.place (codes "off"))
 
 -- the kind that a word stands for
 abbrev pub kind_of : List ℕ → Option BioKind
@@ -54,42 +54,42 @@ known_kind place None = refuse BadField place
 known_kind place (Some k) = Ok k
 
 -- the kind of a bio
-unfoldable pub kind_at : Spot → Read BioKind
-kind_at here =
-    required (codes "kind") here >>= text_at >>= (λ word. known_kind (key here.place (codes "kind")) (kind_of word))
+unfoldable pub read_bio_kind : Spot → Read BioKind
+read_bio_kind here =
+    required (codes "kind") here >>= read_text >>= (λ word. known_kind (key here.place (codes "kind")) (kind_of word))
 
 -- a bio of one run of virtual bytes
-unfoldable pub mapped_at : Spot → Read Bio
-mapped_at here =
+unfoldable pub read_mapped : Spot → Read Bio
+read_mapped here =
     only_keys (one_of (codes "kind" ∷ codes "va" ∷ codes "len" ∷ [])) here >>= (λ _.
-    span_fields_at here >>= (λ span.
+    read_span_fields here >>= (λ span.
     Ok (bio.Mapped span)))
 
 -- a bio of spans
-unfoldable pub vector_at : Spot → Read Bio
-vector_at here =
+unfoldable pub read_vector : Spot → Read Bio
+read_vector here =
     only_keys (one_of (codes "kind" ∷ codes "entries" ∷ [])) here >>= (λ _.
     entries_field here >>= (λ spans.
     Ok (bio.Vector spans)))
 
 -- a bio of frames
-unfoldable pub unmapped_at : List PageRun → Spot → Read Bio
-unmapped_at pages here =
+unfoldable pub read_unmapped : List PageRun → Spot → Read Bio
+read_unmapped pages here =
     only_keys (one_of (codes "kind" ∷ codes "frames" ∷ codes "off" ∷ codes "len" ∷ [])) here >>= (λ _.
     read_bio_frames_field pages here >>= (λ frames.
-    off_at here >>= (λ off.
+    read_off here >>= (λ off.
     number_field (codes "len") here >>= (λ n.
     Ok (bio.Unmapped frames off n)))))
 
 -- the bio of a kind
 abbrev pub bio_by : BioKind → List PageRun → Spot → Read Bio
-bio_by kind.Mapped pages here = mapped_at here
-bio_by kind.Vector pages here = vector_at here
-bio_by kind.Unmapped pages here = unmapped_at pages here
+bio_by kind.Mapped pages here = read_mapped here
+bio_by kind.Vector pages here = read_vector here
+bio_by kind.Unmapped pages here = read_unmapped pages here
 
 -- a bio is an object, and its kind is read before its keys are tested
 unfoldable pub read_bio : List PageRun → Spot → Read Bio
-read_bio pages here = members_of here >>= (λ _. kind_at here >>= (λ k. bio_by k pages here))
+read_bio pages here = members_of here >>= (λ _. read_bio_kind here >>= (λ k. bio_by k pages here))
 
 -- the bio in `bio`, which has to be there
 unfoldable pub bio_field : List PageRun → Spot → Read Bio

@@ -10,20 +10,20 @@ use Rattle.scenario_format.specs.declared.refusal.RefusalKind.TheVariants.{BadFi
 use Rattle.scenario_format.specs.Parts.Numbers.{byte_field}
 
 -- bytes by `hex`
-unfoldable pub listed_at : Spot → Read Bytes
-listed_at spot = read_bytes spot >>= (λ bytes. Ok (Listed bytes))
+unfoldable pub read_listed : Spot → Read Bytes
+read_listed spot = read_bytes spot >>= (λ bytes. Ok (Listed bytes))
 
 -- one byte, `len` times
-unfoldable pub filled_at : Spot → Read Bytes
-filled_at here =
+unfoldable pub read_filled : Spot → Read Bytes
+read_filled here =
     byte_field (codes "fill") here >>= (λ byte.
     number_field (codes "len") here >>= (λ n.
     Ok (Filled byte n)))
 
 -- `hex`, or `fill` with `len`: an operation with both or neither is refused as a whole
 abbrev pub bytes_by : Option Spot → Bool → Bool → Spot → Read Bytes
-bytes_by (Some hex) false false here = listed_at hex
-bytes_by None true _ here = filled_at here
+bytes_by (Some hex) false false here = read_listed hex
+bytes_by None true _ here = read_filled here
 bytes_by _ _ _ here = refuse BadField here.place
 
 -- what an operation writes

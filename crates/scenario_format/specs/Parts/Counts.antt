@@ -14,8 +14,8 @@ use Rattle.scenario_format.specs.declared.refusal.LimitName.TheVariants as limit
 use Rattle.scenario_format.specs.declared.counts.Counts.{Counts}
 
 -- before the script of the next driver
-abbrev pub counts_of : List Driver → Counts
-counts_of earlier = record { steps = 0; read = read_of earlier; loaded = loaded_of earlier }
+abbrev pub counts_after_drivers : List Driver → Counts
+counts_after_drivers earlier = record { steps = 0; read = read_of earlier; loaded = loaded_of earlier }
 
 -- behind operations
 abbrev pub with_ops : Counts → List Op → Counts

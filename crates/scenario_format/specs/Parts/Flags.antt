@@ -10,8 +10,8 @@ use Rattle.busdma_rules.specs.Tags.SyncOps.{sync_table}
 use Rattle.scenario_format.specs.Json.Place.{DocumentPlace}
 use Rattle.scenario_format.specs.Json.Read.{Read, ◌>>=◌, refuse}
 use Rattle.scenario_format.specs.Json.Field.{Spot, field, required, item_of}
-use Rattle.scenario_format.specs.Json.Text.{text_at}
-use Rattle.scenario_format.specs.Json.Items.{items_at}
+use Rattle.scenario_format.specs.Json.Text.{read_text}
+use Rattle.scenario_format.specs.Json.Items.{read_items}
 use Rattle.scenario_format.specs.declared.refusal.RefusalKind.TheVariants.{BadFlag}
 use Rattle.scenario_format.specs.declared.flag_set.FlagSet.{FlagSet}
 use Rattle.scenario_format.specs.declared.flag_set.FlagSet.TheVariants as set
@@ -33,23 +33,23 @@ bits_or place None = refuse BadFlag place
 bits_or place (Some bits) = Ok bits
 
 -- the bits of the word that stands here
-unfoldable pub flag_at : FlagSet → Spot → Read ℕ
-flag_at kind here = text_at here >>= (λ word. bits_or here.place (word_bits kind word))
+unfoldable pub read_flag : FlagSet → Spot → Read ℕ
+read_flag kind here = read_text here >>= (λ word. bits_or here.place (word_bits kind word))
 
 -- the words from the n-th on add their bits, in any order and as often as they like
 abbrev pub flags_from : FlagSet → Spot → ℕ → ℕ → List Data → Read ℕ
 flags_from kind here n bits [] = Ok bits
 flags_from kind here n bits (d ∷ ds) =
-    flag_at kind (item_of here n d) >>= (λ more. flags_from kind here (n + 1) (bit_or bits more) ds)
+    read_flag kind (item_of here n d) >>= (λ more. flags_from kind here (n + 1) (bit_or bits more) ds)
 
 -- the bits of all words of a list
-unfoldable pub flags_at : FlagSet → Spot → Read ℕ
-flags_at kind here = items_at here >>= flags_from kind here 0 0
+unfoldable pub read_flags : FlagSet → Spot → Read ℕ
+read_flags kind here = read_items here >>= flags_from kind here 0 0
 
 -- no bits where there is no list
 abbrev pub flags_or_none : FlagSet → Option Spot → Read ℕ
 flags_or_none kind None = Ok 0
-flags_or_none kind (Some spot) = flags_at kind spot
+flags_or_none kind (Some spot) = read_flags kind spot
 
 -- the flags of a tag, a load or a memory
 unfoldable pub flags_field : FlagSet → Spot → Read ℕ
@@ -57,4 +57,4 @@ flags_field kind here = flags_or_none kind (field (codes "flags") here)
 
 -- the operations of a sync
 unfoldable pub ops_field : Spot → Read ℕ
-ops_field here = required (codes "ops") here >>= flags_at set.Sync
+ops_field here = required (codes "ops") here >>= read_flags set.Sync

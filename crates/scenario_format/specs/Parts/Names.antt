@@ -30,14 +30,14 @@ known_or place None = refuse UnknownName place
 known_or place (Some n) = Ok n
 
 -- the operation before that made the name that stands here, as a thing that can be used so
-unfoldable pub used_at : NameUse → List Op → Spot → Read ℕ
-used_at u before here = read_name here >>= (λ name. known_or here.place (first_operation_place (makes_for u name) 0 before))
+unfoldable pub read_use : NameUse → List Op → Spot → Read ℕ
+read_use u before here = read_name here >>= (λ name. known_or here.place (first_operation_place (makes_for u name) 0 before))
 
 -- the same of the name at a key
 unfoldable pub used_name : NameUse → List ℕ → List Op → Spot → Read ℕ
-used_name u field before here = required field here >>= used_at u before
+used_name u field before here = required field here >>= read_use u before
 
 -- the same of a tag that may be absent
 abbrev pub parent_or_none : List Op → Option Spot → Read (Option ℕ)
 parent_or_none before None = Ok None
-parent_or_none before (Some spot) = used_at use_as.Tag before spot >>= (λ n. Ok (Some n))
+parent_or_none before (Some spot) = read_use use_as.Tag before spot >>= (λ n. Ok (Some n))

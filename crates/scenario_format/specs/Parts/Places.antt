@@ -6,40 +6,40 @@ use Rattle.busdma_base.specs.declared.scenarios.script.Place.{Place}
 use Rattle.busdma_base.specs.declared.scenarios.script.Place.TheVariants.{At, In}
 use Rattle.scenario_format.specs.Json.Read.{Read, ◌>>=◌, refuse}
 use Rattle.scenario_format.specs.Json.Field.{Spot, field}
-use Rattle.scenario_format.specs.Json.Number.{number_at, number_or}
+use Rattle.scenario_format.specs.Json.Number.{read_number, number_or}
 use Rattle.scenario_format.specs.declared.refusal.RefusalKind.TheVariants.{BadField}
-use Rattle.scenario_format.specs.Parts.Names.{used_at}
+use Rattle.scenario_format.specs.Parts.Names.{read_use}
 
 -- the virtual address that stands here
-unfoldable pub address_at : Spot → Read Place
-address_at va = number_at va >>= (λ n. Ok (At (record { 0 = n })))
+unfoldable pub read_address : Spot → Read Place
+read_address va = read_number va >>= (λ n. Ok (At (record { 0 = n })))
 
 -- the first byte of the memory that is named here
-unfoldable pub begin_at : List Op → Spot → Read Place
-begin_at before mem = used_at use_as.Memory before mem >>= (λ m. Ok (In m 0))
+unfoldable pub read_begin : List Op → Spot → Read Place
+read_begin before mem = read_use use_as.Memory before mem >>= (λ m. Ok (In m 0))
 
 -- `off` bytes behind it
-unfoldable pub behind_begin_at : List Op → Spot → Spot → Read Place
-behind_begin_at before mem here =
-    used_at use_as.Memory before mem >>= (λ m.
+unfoldable pub read_behind_begin : List Op → Spot → Spot → Read Place
+read_behind_begin before mem here =
+    read_use use_as.Memory before mem >>= (λ m.
     number_or (codes "off") 0 here >>= (λ off.
     Ok (In m off)))
 
 -- `va`, or `mem` with `off`: an operation with both or neither, or with `off` beside `va`, is refused as a whole
 abbrev pub access_by : Option Spot → Option Spot → Bool → List Op → Spot → Read Place
-access_by (Some va) None false before here = address_at va
-access_by None (Some mem) _ before here = behind_begin_at before mem here
+access_by (Some va) None false before here = read_address va
+access_by None (Some mem) _ before here = read_behind_begin before mem here
 access_by _ _ _ before here = refuse BadField here.place
 
 -- where an access of the driver begins
-unfoldable pub access_at : List Op → Spot → Read Place
-access_at before here =
+unfoldable pub read_access : List Op → Spot → Read Place
+read_access before here =
     access_by (field (codes "va") here) (field (codes "mem") here) (is_some (field (codes "off") here)) before here
 
 -- `va` or `mem`: a load with both or neither is refused as a whole
 abbrev pub load_by : Option Spot → Option Spot → List Op → Spot → Read Place
-load_by (Some va) None before here = address_at va
-load_by None (Some mem) before here = begin_at before mem
+load_by (Some va) None before here = read_address va
+load_by None (Some mem) before here = read_begin before mem
 load_by _ _ before here = refuse BadField here.place
 
 -- where a load begins: at a virtual address, or at the first byte of a memory

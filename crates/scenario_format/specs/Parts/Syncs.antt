@@ -11,16 +11,16 @@ use Rattle.scenario_format.specs.Parts.Flags.{ops_field}
 use Rattle.scenario_format.specs.Parts.Names.{used_name}
 
 -- a sync of the whole load
-unfoldable pub sync_fields_at : List Op → Spot → Read SyncFields
-sync_fields_at before here =
+unfoldable pub read_sync_fields : List Op → Spot → Read SyncFields
+read_sync_fields before here =
     only_keys (one_of (codes "op" ∷ codes "map" ∷ codes "ops" ∷ [])) here >>= (λ _.
     used_name use_as.Map (codes "map") before here >>= (λ map.
     ops_field here >>= (λ ops.
     Ok (record { map = map; ops = ops }))))
 
 -- a sync of a range of the load
-unfoldable pub range_fields_at : List Op → Spot → Read RangeFields
-range_fields_at before here =
+unfoldable pub read_range_fields : List Op → Spot → Read RangeFields
+read_range_fields before here =
     only_keys (one_of (codes "op" ∷ codes "map" ∷ codes "off" ∷ codes "len" ∷ codes "ops" ∷ [])) here >>= (λ _.
     used_name use_as.Map (codes "map") before here >>= (λ map.
     number_field (codes "off") here >>= (λ off.

@@ -7,15 +7,15 @@ use Rattle.busdma_base.specs.Scenarios.FrameRuns.{frame_count, overlap}
 use Rattle.scenario_format.specs.Json.Place.{DocumentPlace}
 use Rattle.scenario_format.specs.Json.Read.{Read, ◌>>=◌, refuse}
 use Rattle.scenario_format.specs.Json.Field.{Spot}
-use Rattle.scenario_format.specs.Json.Number.{number_at}
-use Rattle.scenario_format.specs.Json.Items.{items_at, each}
+use Rattle.scenario_format.specs.Json.Number.{read_number}
+use Rattle.scenario_format.specs.Json.Items.{read_items, each}
 use Rattle.scenario_format.specs.declared.refusal.RefusalKind.TheVariants.{BadField, Limit, FrameTwice}
 use Rattle.scenario_format.specs.declared.refusal.LimitName.TheVariants.{Frames, FrameNumber}
 use Rattle.busdma_base.specs.Scenarios.Limits.{frames_limit, frame_numbers}
 
 -- a number in a list of numbers is refused with the list's place
 abbrev pub number_within : DocumentPlace → Data → Read ℕ
-number_within place d = number_at (record { place = place; value = d })
+number_within place d = read_number (record { place = place; value = d })
 
 -- a run has at least one frame
 abbrev pub frame_run_of : DocumentPlace → ℕ → ℕ → Read FrameRun
@@ -39,13 +39,13 @@ run_judged before place run =
     else Ok run))
 
 -- a run of frames by itself
-unfoldable pub run_at : Spot → Read FrameRun
-run_at here = items_at here >>= run_in here.place
+unfoldable pub read_run : Spot → Read FrameRun
+read_run here = read_items here >>= run_in here.place
 
 -- a run of frames behind those before it
-unfoldable pub frame_run_at : List FrameRun → Spot → Read FrameRun
-frame_run_at before here = run_at here >>= run_judged before here.place
+unfoldable pub read_frame_run : List FrameRun → Spot → Read FrameRun
+read_frame_run before here = read_run here >>= run_judged before here.place
 
 -- the list of runs
 unfoldable pub read_frame_runs : Spot → Read (List FrameRun)
-read_frame_runs here = items_at here >>= each frame_run_at here []
+read_frame_runs here = read_items here >>= each read_frame_run here []

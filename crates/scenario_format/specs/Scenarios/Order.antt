@@ -9,8 +9,8 @@ use Rattle.scenario_format.specs.Json.Place.{DocumentPlace}
 use Rattle.scenario_format.specs.Json.Read.{Read, ◌>>=◌, refuse}
 use Rattle.scenario_format.specs.Json.Field.{Spot, field}
 use Rattle.scenario_format.specs.Json.Number.{of_kind}
-use Rattle.scenario_format.specs.Json.Text.{text_at}
-use Rattle.scenario_format.specs.Json.Items.{items_at, each}
+use Rattle.scenario_format.specs.Json.Text.{read_text}
+use Rattle.scenario_format.specs.Json.Items.{read_items, each}
 use Rattle.scenario_format.specs.declared.refusal.RefusalKind.TheVariants.{Limit}
 use Rattle.scenario_format.specs.declared.refusal.LimitName.TheVariants as limit
 use Rattle.busdma_base.specs.Scenarios.Limits.{order_limit}
@@ -39,33 +39,33 @@ decimal_number s =
     then number_after 0 s else None
 
 -- a driver by its number, of so many drivers
-abbrev pub lane_of : ℕ → List ℕ → Option ℕ
-lane_of drivers s = option_and_then (λ n. if nat_lt n drivers then Some n else None) (decimal_number s)
+abbrev pub lane_in_text : ℕ → List ℕ → Option ℕ
+lane_in_text drivers s = option_and_then (λ n. if nat_lt n drivers then Some n else None) (decimal_number s)
 
 -- a side and the number of a driver
 abbrev pub actor_of : ℕ → List ℕ → Option Actor
 actor_of drivers [] = None
 actor_of drivers (b ∷ bs) =
     option_and_then
-    (λ s. option_and_then (λ n. Some (record { lane = record { 0 = n }; side = s })) (lane_of drivers bs))
+    (λ s. option_and_then (λ n. Some (record { lane = record { 0 = n }; side = s })) (lane_in_text drivers bs))
     (side_of b)
 
 -- an actor of the order
-unfoldable pub actor_at : ℕ → Spot → Read Actor
-actor_at drivers here = text_at here >>= (λ s. of_kind here.place (actor_of drivers s))
+unfoldable pub read_actor : ℕ → Spot → Read Actor
+read_actor drivers here = read_text here >>= (λ s. of_kind here.place (actor_of drivers s))
 
 -- the actors are counted before the first of them is read
 abbrev pub order_judged : DocumentPlace → List Data → Read (List Data)
 order_judged place ds = if nat_lt order_limit (length ds) then refuse (Limit limit.Order) place else Ok ds
 
 -- the list of actors
-unfoldable pub order_at : ℕ → Spot → Read (List Actor)
-order_at drivers here = items_at here >>= (λ ds. order_judged here.place ds >>= each (λ _. actor_at drivers) here [])
+unfoldable pub read_order : ℕ → Spot → Read (List Actor)
+read_order drivers here = read_items here >>= (λ ds. order_judged here.place ds >>= each (λ _. read_actor drivers) here [])
 
 -- no actors where there is no list
 abbrev pub order_or_none : ℕ → Option Spot → Read (List Actor)
 order_or_none drivers None = Ok []
-order_or_none drivers (Some spot) = order_at drivers spot
+order_or_none drivers (Some spot) = read_order drivers spot
 
 -- the order of the scenario, empty where there is none
 unfoldable pub order_field : ℕ → Spot → Read (List Actor)

@@ -10,7 +10,7 @@ use Rattle.busdma_base.specs.Scenarios.PageRuns.{all_in, share_frame, share_page
 use Rattle.scenario_format.specs.Json.Place.{DocumentPlace}
 use Rattle.scenario_format.specs.Json.Read.{Read, ◌>>=◌, refuse}
 use Rattle.scenario_format.specs.Json.Field.{Spot}
-use Rattle.scenario_format.specs.Json.Items.{items_at, each}
+use Rattle.scenario_format.specs.Json.Items.{read_items, each}
 use Rattle.scenario_format.specs.declared.refusal.RefusalKind.TheVariants.{BadField, FrameTwice, FrameAbsent}
 use Rattle.scenario_format.specs.Scenarios.Frames.{number_within}
 
@@ -41,13 +41,13 @@ page_run_judged frames earlier before place run =
     else Ok run))
 
 -- a run of pages by itself
-unfoldable pub page_values_at : Spot → Read PageRun
-page_values_at here = items_at here >>= page_run_in here.place
+unfoldable pub read_page_values : Spot → Read PageRun
+read_page_values here = read_items here >>= page_run_in here.place
 
 -- a run of pages behind those before it
-unfoldable pub page_run_at : List FrameRun → List Driver → List PageRun → Spot → Read PageRun
-page_run_at frames earlier before here = page_values_at here >>= page_run_judged frames earlier before here.place
+unfoldable pub read_page_run : List FrameRun → List Driver → List PageRun → Spot → Read PageRun
+read_page_run frames earlier before here = read_page_values here >>= page_run_judged frames earlier before here.place
 
 -- the list of runs
-unfoldable pub pages_at : List FrameRun → List Driver → Spot → Read (List PageRun)
-pages_at frames earlier here = items_at here >>= each (page_run_at frames earlier) here []
+unfoldable pub read_pages : List FrameRun → List Driver → Spot → Read (List PageRun)
+read_pages frames earlier here = read_items here >>= each (read_page_run frames earlier) here []

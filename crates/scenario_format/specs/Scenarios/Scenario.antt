@@ -14,7 +14,7 @@ use Rattle.scenario_format.specs.declared.refusal.RefusalKind.TheVariants.{NotJs
 use Rattle.scenario_format.specs.declared.refusal.LimitName.TheVariants.{MaxBpages}
 use Rattle.scenario_format.specs.declared.reading.Reading.{Reading}
 use Rattle.scenario_format.specs.declared.reading.Reading.TheVariants.{Good, Bad}
-use Rattle.scenario_format.specs.Scenarios.Driver.{drivers_at}
+use Rattle.scenario_format.specs.Scenarios.Driver.{read_drivers}
 use Rattle.scenario_format.specs.Scenarios.Frames.{read_frame_runs}
 use Rattle.busdma_base.specs.Scenarios.Limits.{bpages_limit}
 use Rattle.scenario_format.specs.Scenarios.Order.{order_field}
@@ -33,11 +33,11 @@ read_frames_field here = required (codes "frames") here >>= read_frame_runs
 
 -- the drivers, which have to be there
 unfoldable pub drivers_field : List FrameRun → Spot → Read (List Driver)
-drivers_field frames here = required (codes "drivers") here >>= drivers_at frames
+drivers_field frames here = required (codes "drivers") here >>= read_drivers frames
 
 -- the top object
-unfoldable pub scenario_at : Spot → Read Scenario
-scenario_at here =
+unfoldable pub read_scenario : Spot → Read Scenario
+read_scenario here =
     only_keys (one_of (codes "frames" ∷ codes "max_bpages" ∷ codes "drivers" ∷ codes "order" ∷ [])) here >>= (λ _.
     read_frames_field here >>= (λ frames.
     bpages_field here >>= (λ bpages.
@@ -52,7 +52,7 @@ document bytes = if is_utf8 bytes then read bytes else None
 -- bytes that are no value are refused as a whole
 abbrev pub read_document : Option Data → Read Scenario
 read_document None = refuse NotJson top
-read_document (Some d) = scenario_at (record { place = top; value = d })
+read_document (Some d) = read_scenario (record { place = top; value = d })
 
 -- a scenario is good, and a refusal is bad
 abbrev pub reading : Read Scenario → Reading

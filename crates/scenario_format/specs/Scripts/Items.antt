@@ -9,7 +9,7 @@ use Rattle.scenario_format.specs.Json.Read.{Read, ◌>>=◌, refuse}
 use Rattle.scenario_format.specs.declared.refusal.RefusalKind.TheVariants.{BadOp}
 use Rattle.scenario_format.specs.Json.Field.{Spot, field, members_of, only_keys, one_of}
 use Rattle.scenario_format.specs.Json.Number.{number_field}
-use Rattle.scenario_format.specs.Json.Items.{items_at, each}
+use Rattle.scenario_format.specs.Json.Items.{read_items, each}
 use Rattle.scenario_format.specs.declared.counts.Counts.{Counts}
 use Rattle.busdma_base.specs.declared.scenarios.operations.NameUse.TheVariants as use_as
 use Rattle.busdma_base.specs.declared.scenarios.words.ItemWord.{ItemWord}
@@ -17,16 +17,16 @@ use Rattle.busdma_base.specs.declared.scenarios.words.ItemWord.TheVariants as wo
 use Rattle.scenario_format.specs.Parts.Bytes.{read_written}
 use Rattle.scenario_format.specs.Parts.Counts.{with_items, one_step_counted, steps_judged, access_judged, read_judged}
 use Rattle.scenario_format.specs.Parts.Names.{used_name}
-use Rattle.scenario_format.specs.Parts.Syncs.{sync_fields_at, range_fields_at}
-use Rattle.scenario_format.specs.Parts.Words.{item_word_at}
+use Rattle.scenario_format.specs.Parts.Syncs.{read_sync_fields, read_range_fields}
+use Rattle.scenario_format.specs.Parts.Words.{read_item_word}
 
 -- a sync of the whole load
-unfoldable pub sync_item_at : List Op → Spot → Read Item
-sync_item_at before here = sync_fields_at before here >>= (λ s. Ok (item.Sync s.map s.ops))
+unfoldable pub read_sync_item : List Op → Spot → Read Item
+read_sync_item before here = read_sync_fields before here >>= (λ s. Ok (item.Sync s.map s.ops))
 
 -- a sync of a range of the load
-unfoldable pub sync_range_item_at : List Op → Spot → Read Item
-sync_range_item_at before here = range_fields_at before here >>= (λ s. Ok (item.SyncRange s.map s.off s.len s.ops))
+unfoldable pub read_sync_range_item : List Op → Spot → Read Item
+read_sync_range_item before here = read_range_fields before here >>= (λ s. Ok (item.SyncRange s.map s.off s.len s.ops))
 
 -- a read of the device
 unfoldable pub read_dev_read : List Op → Counts → Spot → Read Item
@@ -50,8 +50,8 @@ read_dev_write before here =
     Ok (item.DevWrite map off bytes))))))
 
 -- a read of the device of an IOMMU tag, from a device address on
-unfoldable pub raw_read_at : List Op → Counts → Spot → Read Item
-raw_read_at before c here =
+unfoldable pub read_raw_read : List Op → Counts → Spot → Read Item
+read_raw_read before c here =
     only_keys (one_of (codes "op" ∷ codes "tag" ∷ codes "addr" ∷ codes "len" ∷ [])) here >>= (λ _.
     used_name use_as.IommuTag (codes "tag") before here >>= (λ tag.
     number_field (codes "addr") here >>= (λ addr.
@@ -60,8 +60,8 @@ raw_read_at before c here =
     Ok (item.DevReadAt tag addr n))))))
 
 -- a write of the device of an IOMMU tag, from a device address on
-unfoldable pub raw_write_at : List Op → Spot → Read Item
-raw_write_at before here =
+unfoldable pub read_raw_write : List Op → Spot → Read Item
+read_raw_write before here =
     only_keys (one_of (codes "op" ∷ codes "tag" ∷ codes "addr" ∷ codes "hex" ∷ codes "fill" ∷ codes "len" ∷ [])) here
     >>= (λ _.
     used_name use_as.IommuTag (codes "tag") before here >>= (λ tag.
@@ -72,12 +72,12 @@ raw_write_at before here =
 
 -- the item of a word; the steps of a ring are told by a kick alone, so that their word is refused as no word
 abbrev pub item_by : ItemWord → List Op → Counts → Spot → Read Item
-item_by word.Sync before c here = sync_item_at before here
-item_by word.SyncRange before c here = sync_range_item_at before here
+item_by word.Sync before c here = read_sync_item before here
+item_by word.SyncRange before c here = read_sync_range_item before here
 item_by word.DevRead before c here = read_dev_read before c here
 item_by word.DevWrite before c here = read_dev_write before here
-item_by word.DevReadAt before c here = raw_read_at before c here
-item_by word.DevWriteAt before c here = raw_write_at before here
+item_by word.DevReadAt before c here = read_raw_read before c here
+item_by word.DevWriteAt before c here = read_raw_write before here
 item_by word.RingStep before c here = refuse BadOp (key here.place (codes "op"))
 
 -- an item is an object, is counted as a step, and is then read by its word
@@ -85,17 +85,17 @@ unfoldable pub read_item : List Op → Counts → Spot → Read Item
 read_item before c here =
     members_of here >>= (λ _.
     steps_judged c 1 here.place >>= (λ _.
-    item_word_at here >>= (λ w.
+    read_item_word here >>= (λ w.
     item_by w before (one_step_counted c) here)))
 
 -- the items of a list, each counted behind those before it
-unfoldable pub then_at : List Op → Counts → Spot → Read (List Item)
-then_at before c here = items_at here >>= each (λ done. read_item before (with_items c done)) here []
+unfoldable pub read_then : List Op → Counts → Spot → Read (List Item)
+read_then before c here = read_items here >>= each (λ done. read_item before (with_items c done)) here []
 
 -- no items where there is no list
 abbrev pub then_or_none : List Op → Counts → Option Spot → Read (List Item)
 then_or_none before c None = Ok []
-then_or_none before c (Some spot) = then_at before c spot
+then_or_none before c (Some spot) = read_then before c spot
 
 -- the items of a load, none where there is no list
 unfoldable pub then_field : List Op → Counts → Spot → Read (List Item)

@@ -22,15 +22,15 @@ use Rattle.scenario_format.specs.Parts.Places.{loaded_from}
 use Rattle.scenario_format.specs.Parts.Spans.{entries_field}
 
 -- `len` bytes from a place on
-unfoldable pub flat_at : List Op → Spot → Read Buffer
-flat_at before here =
+unfoldable pub read_flat : List Op → Spot → Read Buffer
+read_flat before here =
     loaded_from before here >>= (λ place.
     number_field (codes "len") here >>= (λ n.
     Ok (buffer.Flat place n)))
 
 -- the map that a load names
-unfoldable pub loaded_map_at : List Op → Spot → Read ℕ
-loaded_map_at before here = used_name use_as.Map (codes "map") before here
+unfoldable pub read_loaded_map : List Op → Spot → Read ℕ
+read_loaded_map before here = used_name use_as.Map (codes "map") before here
 
 -- the load of a map with a buffer: its flags; then its bytes are judged, behind all its other fields; then its items
 unfoldable pub load_of : List Op → Counts → Spot → ℕ → Buffer → Read Op
@@ -41,35 +41,35 @@ load_of before c here map buffer =
     Ok (op.Load map buffer flags items))))
 
 -- a load of bytes from a place on
-unfoldable pub load_at : List Op → Counts → Spot → Read Op
-load_at before c here =
+unfoldable pub read_load : List Op → Counts → Spot → Read Op
+read_load before c here =
     only_keys (one_of (codes "op" ∷ codes "map" ∷ codes "va" ∷ codes "mem" ∷ codes "len" ∷ codes "flags" ∷ codes "then"
     ∷ []))
     here >>= (λ _.
-    loaded_map_at before here >>= (λ map.
-    flat_at before here >>= (λ buffer.
+    read_loaded_map before here >>= (λ map.
+    read_flat before here >>= (λ buffer.
     load_of before c here map buffer)))
 
 -- a load of a vector
-unfoldable pub load_vector_at : List Op → Counts → Spot → Read Op
-load_vector_at before c here =
+unfoldable pub read_load_vector : List Op → Counts → Spot → Read Op
+read_load_vector before c here =
     only_keys (one_of (codes "op" ∷ codes "map" ∷ codes "entries" ∷ codes "flags" ∷ codes "then" ∷ [])) here >>= (λ _.
-    loaded_map_at before here >>= (λ map.
+    read_loaded_map before here >>= (λ map.
     entries_field here >>= (λ spans.
     load_of before c here map (buffer.Vector spans))))
 
 -- a load of an mbuf chain, which may not have the key `flags`, and so has no flags
-unfoldable pub load_mbuf_at : List Op → Counts → Spot → Read Op
-load_mbuf_at before c here =
+unfoldable pub read_load_mbuf : List Op → Counts → Spot → Read Op
+read_load_mbuf before c here =
     only_keys (one_of (codes "op" ∷ codes "map" ∷ codes "entries" ∷ codes "then" ∷ [])) here >>= (λ _.
-    loaded_map_at before here >>= (λ map.
+    read_loaded_map before here >>= (λ map.
     entries_field here >>= (λ chain.
     load_of before c here map (buffer.Mbuf chain))))
 
 -- a load of a bio of the driver's pages
-unfoldable pub load_bio_at : List PageRun → List Op → Counts → Spot → Read Op
-load_bio_at pages before c here =
+unfoldable pub read_load_bio : List PageRun → List Op → Counts → Spot → Read Op
+read_load_bio pages before c here =
     only_keys (one_of (codes "op" ∷ codes "map" ∷ codes "bio" ∷ codes "flags" ∷ codes "then" ∷ [])) here >>= (λ _.
-    loaded_map_at before here >>= (λ map.
+    read_loaded_map before here >>= (λ map.
     bio_field pages here >>= (λ b.
     load_of before c here map (buffer.Bio b))))

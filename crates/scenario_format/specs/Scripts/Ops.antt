@@ -17,12 +17,12 @@ use Rattle.scenario_format.specs.Parts.Counts.{access_judged, read_judged}
 use Rattle.scenario_format.specs.Parts.Flags.{flags_field}
 use Rattle.scenario_format.specs.Parts.Names.{new_name, used_name, parent_or_none}
 use Rattle.scenario_format.specs.Parts.Numbers.{short_or}
-use Rattle.scenario_format.specs.Parts.Places.{access_at}
-use Rattle.scenario_format.specs.Parts.Syncs.{sync_fields_at, range_fields_at}
+use Rattle.scenario_format.specs.Parts.Places.{read_access}
+use Rattle.scenario_format.specs.Parts.Syncs.{read_sync_fields, read_range_fields}
 
 -- the limits of a tag, each with its default where it is not given
-unfoldable pub limits_at : Spot → Read TagLimits
-limits_at here =
+unfoldable pub read_limits : Spot → Read TagLimits
+read_limits here =
     number_or (codes "alignment") 1 here >>= (λ alignment.
     number_or (codes "boundary") 0 here >>= (λ boundary.
     number_or (codes "lowaddr") (2 ^ 64 - 1) here >>= (λ lowaddr.
@@ -51,12 +51,12 @@ read_tag before here =
     here >>= (λ _.
     new_name (codes "name") before here >>= (λ name.
     parent_or_none before (field (codes "parent") here) >>= (λ parent.
-    limits_at here >>= (λ limits.
+    read_limits here >>= (λ limits.
     Ok (op.Tag name parent limits)))))
 
 -- the limits of an IOMMU tag, each with its default where it is not given
-unfoldable pub space_limits_at : Spot → Read SpaceLimits
-space_limits_at here =
+unfoldable pub read_space_limits : Spot → Read SpaceLimits
+read_space_limits here =
     number_or (codes "lowaddr") (2 ^ 32 - 1) here >>= (λ lowaddr.
     number_or (codes "boundary") 0 here >>= (λ boundary.
     number_or (codes "maxsize") (2 ^ 32 - 1) here >>= (λ maxsize.
@@ -77,12 +77,12 @@ read_iommu_tag before here =
     ∷ codes "nsegments" ∷ codes "maxsegsz" ∷ []))
     here >>= (λ _.
     new_name (codes "name") before here >>= (λ name.
-    space_limits_at here >>= (λ limits.
+    read_space_limits here >>= (λ limits.
     Ok (op.IommuTag name limits))))
 
 -- the end of a tag of either kind
-unfoldable pub tag_destroy_at : List Op → Spot → Read Op
-tag_destroy_at before here =
+unfoldable pub read_tag_destroy : List Op → Spot → Read Op
+read_tag_destroy before here =
     only_keys (one_of (codes "op" ∷ codes "tag" ∷ [])) here >>= (λ _.
     used_name use_as.AnyTag (codes "tag") before here >>= (λ tag.
     Ok (op.TagDestroy tag)))
@@ -96,18 +96,18 @@ read_map before here =
     Ok (op.Map name tag))))
 
 -- the map of an operation that says nothing else
-unfoldable pub only_map_at : NameUse → List Op → Spot → Read ℕ
-only_map_at u before here =
+unfoldable pub read_only_map : NameUse → List Op → Spot → Read ℕ
+read_only_map u before here =
     only_keys (one_of (codes "op" ∷ codes "map" ∷ [])) here >>= (λ _.
     used_name u (codes "map") before here)
 
 -- the end of a map, which is no memory's
-unfoldable pub map_destroy_at : List Op → Spot → Read Op
-map_destroy_at before here = only_map_at use_as.MapAlone before here >>= (λ map. Ok (op.MapDestroy map))
+unfoldable pub read_map_destroy : List Op → Spot → Read Op
+read_map_destroy before here = read_only_map use_as.MapAlone before here >>= (λ map. Ok (op.MapDestroy map))
 
 -- the making of a memory
-unfoldable pub dmamem_at : List Op → Spot → Read Op
-dmamem_at before here =
+unfoldable pub read_dmamem : List Op → Spot → Read Op
+read_dmamem before here =
     only_keys (one_of (codes "op" ∷ codes "name" ∷ codes "tag" ∷ codes "flags" ∷ [])) here >>= (λ _.
     new_name (codes "name") before here >>= (λ name.
     used_name use_as.Tag (codes "tag") before here >>= (λ tag.
@@ -115,44 +115,44 @@ dmamem_at before here =
     Ok (op.Dmamem name tag flags)))))
 
 -- the end of a memory
-unfoldable pub dmamem_free_at : List Op → Spot → Read Op
-dmamem_free_at before here =
+unfoldable pub read_dmamem_free : List Op → Spot → Read Op
+read_dmamem_free before here =
     only_keys (one_of (codes "op" ∷ codes "mem" ∷ [])) here >>= (λ _.
     used_name use_as.Memory (codes "mem") before here >>= (λ mem.
     Ok (op.DmamemFree mem)))
 
 -- an unload
-unfoldable pub unload_at : List Op → Spot → Read Op
-unload_at before here = only_map_at use_as.Map before here >>= (λ map. Ok (op.Unload map))
+unfoldable pub read_unload : List Op → Spot → Read Op
+read_unload before here = read_only_map use_as.Map before here >>= (λ map. Ok (op.Unload map))
 
 -- a sync of the whole load
-unfoldable pub sync_at : List Op → Spot → Read Op
-sync_at before here = sync_fields_at before here >>= (λ s. Ok (op.Sync s.map s.ops))
+unfoldable pub read_sync : List Op → Spot → Read Op
+read_sync before here = read_sync_fields before here >>= (λ s. Ok (op.Sync s.map s.ops))
 
 -- a sync of a range of the load
-unfoldable pub sync_range_at : List Op → Spot → Read Op
-sync_range_at before here = range_fields_at before here >>= (λ s. Ok (op.SyncRange s.map s.off s.len s.ops))
+unfoldable pub read_sync_range : List Op → Spot → Read Op
+read_sync_range before here = read_range_fields before here >>= (λ s. Ok (op.SyncRange s.map s.off s.len s.ops))
 
 -- a read of the driver
-unfoldable pub cpu_read_at : List Op → Counts → Spot → Read Op
-cpu_read_at before c here =
+unfoldable pub read_cpu_read : List Op → Counts → Spot → Read Op
+read_cpu_read before c here =
     only_keys (one_of (codes "op" ∷ codes "va" ∷ codes "mem" ∷ codes "off" ∷ codes "len" ∷ [])) here >>= (λ _.
-    access_at before here >>= (λ place.
+    read_access before here >>= (λ place.
     number_field (codes "len") here >>= (λ n.
     read_judged c n here.place >>= (λ _.
     Ok (op.CpuRead place n)))))
 
 -- a write of the driver
-unfoldable pub cpu_write_at : List Op → Spot → Read Op
-cpu_write_at before here =
+unfoldable pub read_cpu_write : List Op → Spot → Read Op
+read_cpu_write before here =
     only_keys (one_of (codes "op" ∷ codes "va" ∷ codes "mem" ∷ codes "off" ∷ codes "hex" ∷ codes "fill" ∷ codes "len"
     ∷ []))
     here >>= (λ _.
-    access_at before here >>= (λ place.
+    read_access before here >>= (λ place.
     read_written here >>= (λ bytes.
     access_judged (length (bytes_of bytes)) here.place >>= (λ _.
     Ok (op.CpuWrite place bytes)))))
 
 -- a wait for a map
-unfoldable pub await_at : List Op → Spot → Read Op
-await_at before here = only_map_at use_as.Map before here >>= (λ map. Ok (op.Await map))
+unfoldable pub read_await : List Op → Spot → Read Op
+read_await before here = read_only_map use_as.Map before here >>= (λ map. Ok (op.Await map))

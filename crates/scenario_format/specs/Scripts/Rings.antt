@@ -26,8 +26,8 @@ read_ring before here =
     Ok (op.Ring name mem slots)))))
 
 -- the posting of a range of a map's load to a slot of a ring
-unfoldable pub ring_post_at : List Op → Spot → Read Op
-ring_post_at before here =
+unfoldable pub read_ring_post : List Op → Spot → Read Op
+read_ring_post before here =
     only_keys (one_of (codes "op" ∷ codes "ring" ∷ codes "slot" ∷ codes "map" ∷ codes "off" ∷ codes "len"
     ∷ codes "kind" ∷ codes "fill" ∷ []))
     here >>= (λ _.
@@ -45,14 +45,14 @@ abbrev pub count_or : DocumentPlace → ℕ → Read ℕ
 count_or place n = if nat_le 1 n && nat_le n steps_limit then Ok n else refuse BadField place
 
 -- how many steps a kick asks for
-unfoldable pub count_at : Spot → Read ℕ
-count_at here = number_field (codes "count") here >>= count_or (key here.place (codes "count"))
+unfoldable pub read_count : Spot → Read ℕ
+read_count here = number_field (codes "count") here >>= count_or (key here.place (codes "count"))
 
 -- a kick of a ring's device: so many steps of the ring, which are steps of the script
-unfoldable pub kick_at : List Op → Counts → Spot → Read Op
-kick_at before c here =
+unfoldable pub read_kick : List Op → Counts → Spot → Read Op
+read_kick before c here =
     only_keys (one_of (codes "op" ∷ codes "ring" ∷ codes "count" ∷ [])) here >>= (λ _.
     used_name use_as.Ring (codes "ring") before here >>= (λ ring.
-    count_at here >>= (λ n.
+    read_count here >>= (λ n.
     steps_judged c n here.place >>= (λ _.
     Ok (op.Kick ring (replicate n (item.RingStep ring)))))))

@@ -9,13 +9,13 @@ use Rattle.busdma_base.specs.declared.scenarios.script.Op.{Op}
 use Rattle.scenario_format.specs.declared.refusal.RefusalKind.TheVariants.{BadField}
 use Rattle.scenario_format.specs.Json.Field.{Spot, only_keys, one_of, required}
 use Rattle.scenario_format.specs.Json.Items.{each}
-use Rattle.scenario_format.specs.Json.Number.{number_at}
+use Rattle.scenario_format.specs.Json.Number.{read_number}
 use Rattle.scenario_format.specs.Json.Place.{DocumentPlace}
 use Rattle.scenario_format.specs.Json.Read.{Read, ◌>>=◌, refuse}
 use Rattle.scenario_format.specs.Scripts.Plan.{plan}
 use Rattle.scenario_format.specs.declared.counts.Counts.{Counts}
-use Rattle.scenario_format.specs.Scripts.Loads.{load_of, loaded_map_at}
-use Rattle.scenario_format.specs.Parts.Spans.{entries_at, entries_field}
+use Rattle.scenario_format.specs.Scripts.Loads.{load_of, read_loaded_map}
+use Rattle.scenario_format.specs.Parts.Spans.{read_entries, entries_field}
 
 -- a cluster at this address and a span have a byte in common; a span without bytes has none
 abbrev pub shares : ℕ → Span → Bool
@@ -32,23 +32,23 @@ cluster_or chain before place va =
     else Ok (record { 0 = va })
 
 -- a cluster
-unfoldable pub cluster_at : List Span → List Va → Spot → Read Va
-cluster_at chain before here = number_at here >>= cluster_or chain before here.place
+unfoldable pub read_cluster : List Span → List Va → Spot → Read Va
+read_cluster chain before here = read_number here >>= cluster_or chain before here.place
 
 -- the list of clusters
-unfoldable pub clusters_at : List Span → Spot → Read (List Va)
-clusters_at chain here = entries_at here >>= each (cluster_at chain) here []
+unfoldable pub read_clusters : List Span → Spot → Read (List Va)
+read_clusters chain here = read_entries here >>= each (read_cluster chain) here []
 
 -- the list in `clusters`, which has to be there
 unfoldable pub clusters_field : List Span → Spot → Read (List Va)
-clusters_field chain here = required (codes "clusters") here >>= clusters_at chain
+clusters_field chain here = required (codes "clusters") here >>= read_clusters chain
 
 -- a send, which may not have the key `flags`, and so has no flags
 unfoldable pub read_send : List Op → Counts → Spot → Read Op
 read_send before c here =
     only_keys (one_of (codes "op" ∷ codes "map" ∷ codes "entries" ∷ codes "clusters" ∷ codes "then" ∷ [])) here
     >>= (λ _.
-    loaded_map_at before here >>= (λ map.
+    read_loaded_map before here >>= (λ map.
     entries_field here >>= (λ chain.
     clusters_field chain here >>= (λ clusters.
     load_of before c here map (buffer.Send chain (plan chain clusters))))))

@@ -1,7 +1,7 @@
 use Rattle.std.proofs.Common.{◌≡◌, sym, Some, subst, map, string_bytes}
 use Rattle.program_rules.specs.declared.command.Command.TheVariants.{Replay, Storm, Check}
 use Rattle.program_rules.specs.Commands.Words.{command}
-use Rattle.program_rules.specs.Commands.Edges.{Edges, edges}
+use Rattle.program_rules.specs.Commands.Edges.{StreamEdges as Edges, edges}
 use Rattle.program_rules.specs.Commands.Keeps.{Keeps}
 use Rattle.busdma_cmd.proofs.Checking.{check_keeps}
 use Rattle.busdma_cmd.proofs.Endings.{reader_keeps, storm_keeps}

@@ -1,5 +1,5 @@
 use Rattle.std.proofs.Common.{rules, refl}
-use Rattle.program_rules.specs.Commands.Edges.{Edges, edges}
+use Rattle.program_rules.specs.Commands.Edges.{StreamEdges as Edges, edges}
 use Rattle.program_rules.specs.declared.command.Command.TheVariants.{Replay}
 use Rattle.busdma_cmd.proofs.Taking.{ran_out, ran_out_after, runs_input, sink_failed}
 use Rattle.busdma_cmd.proofs.command.replay_input.Goals as goal

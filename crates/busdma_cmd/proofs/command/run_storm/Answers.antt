@@ -1,7 +1,7 @@
 use Rattle.std.proofs.Common.{ℕ, List, Option, refl, sym, subst, ◌∙◌}
 use Rattle.busdma_base.specs.Scenarios.Valid.{IsValid}
 use Rattle.program_rules.specs.declared.command.Command.TheVariants.{Storm}
-use Rattle.program_rules.specs.Commands.Edges.{Edges, edges}
+use Rattle.program_rules.specs.Commands.Edges.{StreamEdges as Edges, edges}
 use Rattle.busdma_cmd.proofs.Taking.{sink_failed}
 use Rattle.busdma_cmd.proofs.command.run_storm.Goals as goal
 

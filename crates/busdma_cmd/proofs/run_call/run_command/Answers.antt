@@ -1,7 +1,7 @@
 use Rattle.std.proofs.Common.{refl, sym, subst}
 use Rattle.command_words.specs.Command.{run_words}
 use Rattle.program_rules.specs.declared.command.Command.TheVariants.{Run}
-use Rattle.program_rules.specs.Commands.Edges.{Edges, edges}
+use Rattle.program_rules.specs.Commands.Edges.{StreamEdges as Edges, edges}
 use Rattle.program_rules.specs.Commands.Keeps.{Keeps}
 use Rattle.busdma_cmd.proofs.Endings.{reader_keeps}
 use Rattle.busdma_cmd.proofs.run_call.run_command.Goals as goal

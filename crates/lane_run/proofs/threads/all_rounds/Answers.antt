@@ -3,7 +3,7 @@ use mir.Syntax.{static}
 use denote.Param.{param}
 use Rattle.lane_run.proofs.Seats.{Rounded, rounded-next}
 use Rattle.lane_run.proofs.Sending.{door_send}
-use Rattle.lane_run.proofs.threads.all_rounds.Goals.{in-None, in-Some+else-any+then-not-any}
+use Rattle.lane_run.proofs.threads.all_rounds.Goals.{in-None, in-Some+then-not-wants_round}
 use Rattle.lane_run.proofs.threads.all_rounds.Goals as goal
 
 pub round_on_threads-requires-send-D : goal.round_on_threads-requires-send-D
@@ -15,7 +15,7 @@ round_on_threads-requires-send-D g c κs within = record {
 pub returns-clause-each : goal.returns-clause-each
 returns-clause-each g c = elim c.match-next.branch [
   | in-None w ↦ subst (Rounded c.args.workers.now) (sym w.workers-is) c.loop.invariant.1
-  | in-Some+else-any+then-not-any w ↦ subst (Rounded c.args.workers.now) (sym w.workers-is)
+  | in-Some+then-not-wants_round w ↦ subst (Rounded c.args.workers.now) (sym w.workers-is)
       (rounded-next c.args.workers.now c.loop.workers w.round_on_threads.new.workers c.loop.invariant.0
       c.loop.invariant.1 w.round_on_threads.ensures.each)
 ]

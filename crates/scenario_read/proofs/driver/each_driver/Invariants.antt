@@ -5,7 +5,7 @@ use Rattle.busdma_base.specs.Scenarios.Valid.{IsDriver, read_of, loaded_of}
 use Rattle.json_fields.specs.Field.{spot_of}
 use Rattle.scenario_format.specs.Json.Items.{each}
 use Rattle.script_fields.specs.Counts.{IsWithin}
-use Rattle.scenario_format.specs.Scenarios.Driver.{driver_at}
+use Rattle.scenario_format.specs.Scenarios.Driver.{read_driver as driver_at}
 use Rattle.scenario_read.proofs.driver.each_driver.Given as goal
 
 abbrev pub invariant-loop-value : goal.invariant-loop-value

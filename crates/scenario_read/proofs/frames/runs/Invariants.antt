@@ -5,7 +5,7 @@ use Rattle.busdma_machine.specs.Each.{EachAfter}
 use Rattle.busdma_base.specs.Scenarios.FrameRuns.{IsFrameRun, IsNumbered, frame_count}
 use Rattle.json_fields.specs.Field.{spot_of}
 use Rattle.scenario_format.specs.Json.Items.{each}
-use Rattle.scenario_format.specs.Scenarios.Frames.{frame_run_at}
+use Rattle.scenario_format.specs.Scenarios.Frames.{read_frame_run as frame_run_at}
 use Rattle.scenario_read.proofs.frames.runs.Given as goal
 
 abbrev pub invariant-loop-value : goal.invariant-loop-value

@@ -3,7 +3,7 @@ use Rattle.std.specs.List.{AllByRecursion}
 use Rattle.serde_json.specs.View.{view}
 use Rattle.json_fields.specs.Field.{spot_of}
 use Rattle.scenario_format.specs.Json.Items.{each}
-use Rattle.scenario_format.specs.Scenarios.Order.{actor_at}
+use Rattle.scenario_format.specs.Scenarios.Order.{read_actor as actor_at}
 use Rattle.scenario_read.proofs.order.actors.Given as goal
 
 abbrev pub invariant-loop-value : goal.invariant-loop-value

@@ -4,7 +4,7 @@ use Rattle.busdma_machine.specs.Each.{EachAfter}
 use Rattle.busdma_base.specs.Scenarios.PageRuns.{IsPageRun}
 use Rattle.json_fields.specs.Field.{spot_of}
 use Rattle.scenario_format.specs.Json.Items.{each}
-use Rattle.scenario_format.specs.Scenarios.Pages.{page_run_at}
+use Rattle.scenario_format.specs.Scenarios.Pages.{read_page_run as page_run_at}
 use Rattle.scenario_read.proofs.pages.runs.Given as goal
 
 abbrev pub invariant-loop-value : goal.invariant-loop-value

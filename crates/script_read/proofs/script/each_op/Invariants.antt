@@ -8,7 +8,7 @@ use Rattle.json_fields.specs.Field.{spot_of}
 use Rattle.scenario_format.specs.Json.Items.{each}
 use Rattle.script_fields.specs.Counts.{IsWithin}
 use Rattle.scenario_format.specs.Parts.Counts.{with_ops}
-use Rattle.scenario_format.specs.Scripts.Script.{op_at}
+use Rattle.scenario_format.specs.Scripts.Script.{read_op as op_at}
 use Rattle.script_read.proofs.script.each_op.Given as goal
 
 abbrev pub invariant-loop-value : goal.invariant-loop-value

@@ -5,7 +5,7 @@ use Rattle.busdma_machine.specs.Each.{EachAfter}
 use Rattle.json_fields.specs.Field.{spot_of}
 use Rattle.scenario_format.specs.Json.Items.{each}
 use Rattle.script_read.specs.Sends.{IsClusterOf, IsUpTo}
-use Rattle.scenario_format.specs.Scripts.Sends.{cluster_at}
+use Rattle.scenario_format.specs.Scripts.Sends.{read_cluster as cluster_at}
 use Rattle.script_read.proofs.sends.each_cluster.Given as goal
 
 abbrev pub invariant-loop-value : goal.invariant-loop-value

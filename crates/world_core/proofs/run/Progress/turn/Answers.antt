@@ -1,6 +1,7 @@
+use Rattle.std.proofs.Common.{sym, ◌∙◌}
 use Rattle.lane_turns.specs.Turning.{answered}
 use Rattle.world_core.specs.Ideal.{ideal_run, ideal_world}
-use Rattle.world_core.proofs.Resting.{passed-over}
+use Rattle.world_core.proofs.Resting.{idle-none, passed-over}
 use Rattle.world_core.proofs.Taking.{skips, no_entry}
 use Rattle.world_core.proofs.run.Progress.turn.Goals as goal
 
@@ -11,4 +12,5 @@ returns-in_default c =
 
 pub returns-then-is_idle : goal.returns-then-is_idle
 returns-then-is_idle c =
-    passed-over (ideal_run c.args.self.now) c.args.actor (c.is_idle.ensures c.if-is_idle.true)
+    passed-over (ideal_run c.args.self.now) c.args.actor
+    (idle-none _ (sym c.if-is_idle.true ∙ c.is_idle.ensures))
