@@ -1,0 +1,1 @@
+"""What `tools/picture` and `tools/orders` are made of."""
