@@ -1,1 +1,2 @@
+pub mod AllMemory
 pub mod Entries

@@ -3,6 +3,7 @@
 mod clusters;
 mod edges;
 mod lists;
+mod loans;
 mod maps;
 mod memory;
 mod rings;
