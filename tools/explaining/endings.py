@@ -120,7 +120,8 @@ def left_over(history: History) -> list[str]:
                                     f"{'; it ' + listed(lent) if lent else ''}"))
         for memory in driver.memories.values():
             made = history.named[driver.number, memory.name][0]
-            facts.append(("memory", f"memory {memory.name} of driver {driver.number}, made by {history.since(made)}, was not freed"))
+            facts.append(("memory", f"memory {memory.name} of driver {driver.number}, made by {history.since(made)}, was not freed: "
+                                    f"`dmamem_free` with `mem` {memory.name} frees it"))
     lines = [line for label, fact in facts[:MOST_LEFT] for line in labelled(label, fact)]
     return lines + (labelled("", f"and {len(facts) - MOST_LEFT} more") if len(facts) > MOST_LEFT else [])
 

@@ -296,7 +296,13 @@ def cpu_lent(history: History, driver: Driver, entry: Entry, report: Report) -> 
         extents = access_extents(history, driver, entry)[0]
     address = address_of(extents, report.offset)
     ways = ("to write",) if report.name == "CpuReadLent" else ("to read", "to write")
-    return lent_by(history, driver, address, ways) if address is not None else []
+    if address is None:
+        return []
+    facts = lent_by(history, driver, address, ways)
+    if isinstance(asked, CpuAccess) and report.name == "CpuWriteLent" and lent_by(history, driver, address, ("to read",)):
+        facts.append("this transfer sends what was in the buffer before its PREWRITE: if it is to send these bytes, move this write "
+                     "before that sync; if they are for a later transfer, move the POSTWRITE, or the `await` for it, before this write")
+    return facts
 
 
 def unlent(history: History, driver: Driver, entry: Entry, report: Report) -> Facts:

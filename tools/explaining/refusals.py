@@ -195,8 +195,18 @@ def other_kind_advice(before: dict[str, tuple[Kind, str]], kind: Kind, wanted: l
         return ["a map is ended by `map_destroy`"]
     if operation == "dmamem" and kind is Kind.IOMMU_TAG:
         return ["no memory is made with an IOMMU tag: make another tag by `tag`"]
-    fitting = [name for name, (its, _) in before.items() if its in wanted]
-    return [f"it could be {listed([f'`{name}`' for name in fitting[:6]], 'or')}"] if fitting else []
+    if operation == "map" and kind is Kind.MEMORY and found.node is not None:
+        name = found.node.text
+        return [f"a memory has a map of its own with its name: to load the memory, remove this `map`, name the map {name} where the one "
+                f"removed was named, and load it by \"map\": \"{name}\", \"mem\": \"{name}\" and the same `len`, without `va`",
+                f"to load other bytes, make the map with {listed([f'`{each}`' for each in fitting_names(before, wanted)], 'or')}"]
+    fitting = fitting_names(before, wanted)
+    return [f"it could be {listed([f'`{name}`' for name in fitting], 'or')}"] if fitting else []
+
+
+def fitting_names(before: dict[str, tuple[Kind, str]], wanted: list[Kind]) -> list[str]:
+    """Returns the first names made before that are of a kind that is wanted."""
+    return [name for name, (its, _) in before.items() if its in wanted][:6]
 
 
 def wanted_kinds(source: Source, found: Found) -> list[Kind]:
