@@ -1,4 +1,4 @@
--- The account of a valid scenario's opening may begin a history.
+-- The account with which a valid scenario opens can begin a history.
 use Rattle.std.proofs.Common.{◌≡◌, ℕ, zero, suc, ◌+◌, ◌-◌, ◌*◌, ◌%◌, ◌^◌, ◌<◌, ◌≤◌, Bool, true, false, cond, not, ◌&&◌}
 use Rattle.std.proofs.Common.{◌||◌, List, [], ◌∷◌, ◌++◌, map, length, refl, subst, arith, All, nat_le}
 use Rattle.std.specs.List.{filter, list_any}
@@ -30,7 +30,7 @@ weight-and true true = omega arith
 weight-and true false = omega arith
 weight-and false b = omega arith
 
--- how many of the first n frames lie in a run, and in runs
+-- how many of the first n frames are in a run, and in a list of runs
 abbrev inside : FrameRun → ℕ → ℕ
 inside run zero = 0
 inside run (suc n) = inside run n + weight (is_in n run)
@@ -70,7 +70,7 @@ within-le (run ∷ runs) n =
       sum_by-cons (λ (r : FrameRun). r.count) run runs,
     )
 
--- the free frames are no more than all frames
+-- there are no more free frames than frames
 one-le : (p : ℕ → Bool) (n : ℕ) → length (filter p (n ∷ [])) ≡ weight (p n)
 one-le p n = elim (p n) as (λ v. length (cond v (n ∷ []) []) ≡ weight v) [ true ↦ refl | false ↦ refl ]
 
@@ -86,7 +86,7 @@ free-le s (suc n) =
       weight-and (list_any (is_in n) s.frames) (not (is_owned s.drivers n)),
     )
 
--- valid frames are few, and their numbers low
+-- the number of frames and the frame numbers of a valid scenario keep their limits
 frames-few : (before runs : List FrameRun) → frame_count before ≤ 8192 → EachAfter IsFrameRun before runs →
     frame_count before + frame_count runs ≤ 8192
 frames-few before [] few each = omega (arith, few)
@@ -106,7 +106,7 @@ maxmem-low : (before runs : List FrameRun) → EachAfter IsFrameRun before runs 
 maxmem-low before [] each = omega arith
 maxmem-low before (run ∷ runs) each = grind (arith, each.0.numbered, maxmem-low (before ++ run ∷ []) runs each.1)
 
--- the free frames rise, and lie below
+-- the free frames below n rise, and each is below n
 pub free-below : (s : Scenario) (n : ℕ) → All (λ f. f < n) (free_below s n)
 free-below s zero = All-nil (λ f. f < 0)
 free-below s (suc n) =

@@ -1,4 +1,4 @@
-//! The plain types of scenarios and of journals, the definitions of both that more than one crate cites,
+//! The plain types of scenarios and journals, the definitions of both that more than one crate cites,
 //! and the types of the machine below them.
 #![tactic(auto)]
 

@@ -1,10 +1,10 @@
-//! Texts that are given and shown.
+//! Texts that scenarios have and reports show.
 
 ghost use Rattle.std.specs.Prelude.{◌≡◌, string_bytes};
 
 use std::marker::Model;
 
-/// A text, seen by contracts as its bytes.
+/// A text that contracts see as its bytes.
 #[derive(Debug, Drop)]
 pub struct Text {
     text: String,
@@ -19,14 +19,14 @@ impl Model for Text {
 }
 
 impl Text {
-    /// The text of these bytes.
+    /// Returns the text of this string.
     pub fn new(text: String) -> Text
         ensures { result ≡ string_bytes text }
     {
         Text { text }
     }
 
-    /// The text, to be read.
+    /// Returns the text as a string slice.
     pub fn as_str(&self) -> &str
         ensures { result.now ≡ self.now }
     {

@@ -1,4 +1,4 @@
--- An entry of the bounce lock's history may go to another thread.
+-- An entry of the bounce lock's history can be sent to another thread.
 use denote.Param.Send.{IsSend, sendable}
 use Rattle.std.proofs.Crossing.{crosses}
 use Rattle.busdma_machine.specs.contracts.bounce.hold.HoldEntry as Entry

@@ -1,5 +1,5 @@
-//! The machine below the scenarios: addresses, runs of bytes and pages, the limits of tags, what bus_dma(9)
-//! refuses, and the account of the bounce lock with its calls, its laws and its door.
+//! The machine below the scenarios: addresses, runs of bytes and pages, the limits of tags, the errors of
+//! bus_dma(9), and the account of the bounce lock with its calls, its laws and its door.
 #![tactic(auto)]
 
 mod bounce;

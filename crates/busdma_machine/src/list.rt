@@ -1,11 +1,11 @@
-//! A list, seen by contracts as its items.
+//! A list that contracts see as its items.
 
 ghost use Rattle.std.specs.Prelude.{◌≡◌, ◌↔◌, length, IsTrue, []};
 
 use std::alloc::AllocError;
 use std::marker::Model;
 
-/// A list that is made of a `Vec` and gives it back, both without taking memory.
+/// A list that is made from a `Vec` and turns back into one, both without taking memory.
 #[derive(Debug, Drop)]
 pub struct ListOf<T> {
     items: Vec<T>,
@@ -23,35 +23,35 @@ impl<T> Model for ListOf<T> {
 }
 
 impl<T> ListOf<T> {
-    /// The list of these items.
+    /// Returns the list of these items.
     pub fn new(items: Vec<T>) -> ListOf<T>
         ensures { result ≡ items.items }
     {
         ListOf { items }
     }
 
-    /// The items, in order.
+    /// Returns the items, in order.
     pub fn as_slice(&self) -> &[T]
         ensures { result.now ≡ self.now }
     {
         self.items.as_slice()
     }
 
-    /// The number of items.
+    /// Returns the number of items.
     pub fn len(&self) -> usize
         ensures { result ≡ length self.now }
     {
         self.items.len()
     }
 
-    /// Whether the list has no item.
+    /// Returns whether the list has no item.
     pub fn is_empty(&self) -> bool
         ensures { IsTrue result ↔ (self.now ≡ []) }
     {
         self.items.is_empty()
     }
 
-    /// The items, in order.
+    /// Returns the items as a vector, in order.
     pub fn into_vec(self) -> Vec<T>
         ensures { result.items ≡ self }
     {

@@ -13,7 +13,12 @@ pub struct LaneId(pub u32);
 pub struct ZoneId(pub u32);
 
 impl ZoneId {
-    /// The zone at a place. A name has 32 bits, and a list that is longer does not fit into memory.
+    /// Returns the name of the zone at a place in the order of making.
+    ///
+    /// # Errors
+    ///
+    /// `AllocError` if the place does not fit into the 32 bits of a name. A list of so many zones does not
+    /// fit into memory.
     pub fn at(place: usize) -> Result<ZoneId, AllocError>
         ensures { IfOk result (λ zone. zone ≡ record { 0 = place }) }
     {

@@ -1,6 +1,6 @@
-//! Refusals of the machine.
+//! The errors of bus_dma(9), and the reports of broken rules.
 
-/// An error of bus_dma(9), as its calls return it and its callbacks are given it.
+/// An error of bus_dma(9), as its calls return it and its callbacks receive it.
 #[derive(Clone, Copy, Debug, PartialEq, Eq)]
 #[allow(clippy::upper_case_acronyms)]
 pub enum Errno {
@@ -11,14 +11,14 @@ pub enum Errno {
     EBUSY,
 }
 
-/// What a driver or a device did that it may not do.
+/// The mistake of a driver or a device, by name.
 #[derive(Clone, Copy, Debug, PartialEq, Eq)]
 pub enum ReportName {
     /// The tag, map or memory does not exist now.
     Absent,
-    /// The driver cannot reach the byte, or it lies behind the last frame of an unmapped bio.
+    /// The driver cannot reach the byte, or the byte lies past the last frame of an unmapped bio.
     Unmapped,
-    /// The map is loaded, waits for pages or gives them back.
+    /// The map is loaded, waits for pages, or is giving them back.
     MapBusy,
     /// The map is not loaded.
     NotLoaded,
@@ -32,32 +32,31 @@ pub enum ReportName {
     CpuReadLent,
     /// The driver writes a byte that a map lends.
     CpuWriteLent,
-    /// The byte that is read is Unknown.
+    /// The byte that is read is unknown.
     StaleByte,
-    /// A sync that does not fit the ones before it.
+    /// The sync does not fit the syncs before it.
     SyncOrder,
-    /// A sync that has a PRE and a POST.
+    /// The sync has a PRE and a POST operation.
     MixedSync,
-    /// A byte that the device may write would be lent by two maps, or by one in whose buffer it stands more than once.
+    /// A byte that a device may write would be lent by two maps, or occurs more than once in its map's buffer.
     Overlap,
     /// No load of the map has called or stored a callback.
     NotDeferred,
-    /// The byte is a memory's, and the map is no memory's; or the map is a memory's own, and the byte is not that
-    /// memory's at this place of the load.
+    /// The byte is a memory's, but the map is not a memory's own. Or the map is a memory's own, but the byte is not
+    /// that memory's byte at this place of the load.
     ForeignMemory,
-    /// No load of the IOMMU tag stands in the device page that the device addresses.
+    /// No load of the IOMMU tag is in the device page that the device addresses.
     Untranslated,
 }
 
-/// A refusal, and where it comes: an offset in bytes, which each operation counts as its own rule
-/// says.
+/// A named mistake and its place: an offset in bytes, which each operation counts by its own rule.
 #[derive(Clone, Copy, Debug, PartialEq, Eq)]
 pub struct Report {
     pub name: ReportName,
     pub at: u64,
 }
 
-/// Whether an access or a sync may be done; a refusal says what stands in the way, and where first.
+/// Whether an access or a sync may be done. A refusal has the first mistake and its offset.
 #[derive(Clone, Copy, Debug, PartialEq, Eq)]
 pub enum Judged {
     Fine,

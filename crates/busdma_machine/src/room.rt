@@ -8,7 +8,8 @@ use crate::list::ListOf;
 use std::alloc::{AllocError, Global};
 use std::marker::Model;
 
-/// A list that tells for how many more items it has room, which it takes in without memory.
+/// A list whose contracts say for how many more items it has room. Adding an item within the room
+/// takes no memory.
 #[derive(Debug, Drop)]
 pub struct RoomyList<T> {
     items: Vec<T>,
@@ -27,7 +28,7 @@ impl<T> Model for RoomyList<T> {
 }
 
 impl<T> RoomyList<T> {
-    /// An empty list, of which no clause says that it has room.
+    /// Returns an empty list. No clause says that it has room.
     pub fn new(alloc: Global) -> RoomyList<T>
         ensures empty { result.items ≡ [] }
     {
@@ -36,7 +37,11 @@ impl<T> RoomyList<T> {
         }
     }
 
-    /// An empty list with room for so many items.
+    /// Returns an empty list with room for at least `items` items.
+    ///
+    /// # Errors
+    ///
+    /// `AllocError` if memory runs out.
     pub fn with_room(alloc: Global, items: usize) -> Result<RoomyList<T>, AllocError>
         ensures empty { IfOk result (λ l. l.items ≡ []) }
         ensures room { IfOk result (λ l. items ≤ l.spare) }
@@ -46,28 +51,28 @@ impl<T> RoomyList<T> {
         })
     }
 
-    /// The items, in order.
+    /// Returns the items, in order.
     pub fn as_slice(&self) -> &[T]
         ensures { result.now ≡ self.now.items }
     {
         self.items.as_slice()
     }
 
-    /// The number of items.
+    /// Returns the number of items.
     pub fn len(&self) -> usize
         ensures { result ≡ length self.now.items }
     {
         self.items.len()
     }
 
-    /// Whether the list has no item.
+    /// Returns whether the list has no item.
     pub fn is_empty(&self) -> bool
         ensures { IsTrue result ↔ (self.now.items ≡ []) }
     {
         self.items.is_empty()
     }
 
-    /// The last item.
+    /// Returns the last item, or `None` if the list is empty.
     pub fn last(&self) -> Option<&T>
         ensures { option_copied result ≡ slice_get self.now.items (length self.now.items - 1) }
     {
@@ -75,6 +80,10 @@ impl<T> RoomyList<T> {
     }
 
     /// Adds an item at the end. Within the room this takes no memory.
+    ///
+    /// # Errors
+    ///
+    /// `AllocError` if there was no room and memory runs out. The items are then unchanged.
     pub fn push(&mut self, item: T) -> Result<(), AllocError>
     where
         T: Drop,
@@ -86,7 +95,7 @@ impl<T> RoomyList<T> {
         Ok(())
     }
 
-    /// Puts an item in the place of the last one.
+    /// Replaces the last item. The list must not be empty.
     pub fn set_last(&mut self, item: T)
     where
         T: Drop,
@@ -98,7 +107,7 @@ impl<T> RoomyList<T> {
         self.items[last] = item;
     }
 
-    /// Takes all items out, and keeps the room.
+    /// Removes all items and keeps the room.
     pub fn clear(&mut self)
     where
         T: Drop,
@@ -108,7 +117,7 @@ impl<T> RoomyList<T> {
         self.items.clear();
     }
 
-    /// The items as a list, which keeps the room and does not tell it.
+    /// Returns the items as a list. The list keeps the room, but its contracts do not mention it.
     pub fn into_list(self) -> ListOf<T>
         ensures { result ≡ self.items }
     {

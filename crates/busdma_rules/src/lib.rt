@@ -1,5 +1,5 @@
 //! The rules of `bus_dma(9)` as definitions: flags, translation, chunks and segments, lending and syncs, device
-//! pages, rings. It has the types of which they speak and their laws, and no code that runs.
+//! pages, rings. The crate has the types that these rules are about, and no code that runs.
 #![tactic(auto)]
 
 mod descriptor;

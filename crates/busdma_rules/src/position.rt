@@ -1,7 +1,7 @@
-//! A position of a loaded map's buffer.
+//! Positions of buffers.
 
-/// A position of a loaded map's buffer: its byte, by its physical address, and whether the map
-/// lends that byte to the device to read, and to write.
+/// A position of a loaded map's buffer: the physical address of its byte, and whether the map lends
+/// that byte to the device to read, and to write.
 #[derive(Clone, Copy, Debug, PartialEq, Eq)]
 pub struct Position {
     pub pa: u64,

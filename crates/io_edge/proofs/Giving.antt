@@ -1,4 +1,4 @@
--- Texts that are given one after the other.
+-- Texts that are added one after the other.
 use Rattle.std.proofs.Common.{◌≡◌, ℕ, ◌+◌, ◌<◌, ◌≤◌, List, [], ◌++◌, length, take, Bool, true, false, Option, Some, None}
 use Rattle.std.proofs.Common.{Result, Ok, Err, OnOk, OnErr, inl, inr, refl, sym, ap, subst, ◌∙◌, arith}
 use Rattle.std.proofs.Common.{append_assoc, append-nil, length-append}
@@ -12,14 +12,14 @@ use Rattle.io_edge.specs.Faults.{Rose}
 use Rattle.io_edge.specs.Writing.{WritesPart}
 use Rattle.io_edge.specs.Pieces.{Standing, GoesOn, Fails, HadFailed, StandsAfter, Begins, Gives, Ends, standing, ended}
 
--- bytes that were appended one after the other were appended as one
+-- bytes that were appended one after the other were appended as one text
 pub appends_both : (h i j : Option (List ℕ)) (x y : List ℕ) → Appends h i x → Appends i j y → Appends h j (x ++ y)
 appends_both None i j x y was more = tt
 appends_both (Some h) None j x y was more = absurd was
 appends_both (Some h) (Some i) None x y was more = absurd more
 appends_both (Some h) (Some i) (Some j) x y was more = more ∙ ap (λ k. k ++ y) was ∙ append_assoc h x y
 
--- a text that goes on twice goes on with both
+-- adding two texts without a fault is adding both as one
 goes_on_both : (a b c : Standing) (s t : List ℕ) → GoesOn a s b → GoesOn b t c → GoesOn a (s ++ t) c
 goes_on_both a b c s t first second = record {
   well = first.well;
@@ -31,7 +31,7 @@ goes_on_both a b c s t first second = record {
   faults = second.faults ∙ first.faults;
 }
 
--- what was written before a fault and at it is a front of both texts
+-- what was written before a fault and during it is a front of both texts
 fails_later : (a b c : Standing) (s t : List ℕ) → GoesOn a s b → Fails b t c → Fails a (s ++ t) c
 fails_later a b c s t first second =
     let x = first.written in
@@ -90,12 +90,12 @@ stands_then a b c s t (inr (inr first)) (inr (inr second)) = inr (inr (record {
   faults = second.faults ∙ first.faults;
 }))
 
--- bytes of none
+-- no bytes were appended
 appends_none : (h : Option (List ℕ)) → Appends h h []
 appends_none None = tt
 appends_none (Some h) = sym (append-nil h)
 
--- a text stands after nothing as it stood
+-- adding no bytes keeps the state of a text
 still_by : (failed : Bool) (a : Standing) → a.failed ≡ failed → StandsAfter a [] a
 still_by true a is = inr (inr (record { failed = is; still = is; held = refl; faults = refl }))
 still_by false a is = inl (record {
@@ -110,12 +110,12 @@ still_by false a is = inl (record {
 stands_still : (a : Standing) → StandsAfter a [] a
 stands_still a = still_by a.failed a refl
 
--- the end of a text gives nothing more
+-- adding a text and then ending it is adding the text
 stands_on : (a b c : Standing) (s : List ℕ) → StandsAfter a s b → StandsAfter b [] c → StandsAfter a s c
 stands_on a b c s first second =
     subst (λ r. StandsAfter a r c) (append-nil s) (stands_then a b c s [] first second)
 
--- a text that ended well was written
+-- a text that ended without a fault was written completely
 ended_well : (a : Standing) (text : List ℕ) (z : Standing) → z.waiting ≡ [] → a.waiting ≡ [] → a.failed ≡ false
     → z.failed ≡ false → StandsAfter a text z
     → Appends a.held z.held text × (z.faults ≡ a.faults) × (a.faults ≤ z.faults)
@@ -126,7 +126,7 @@ ended_well a text z none empty well still (inl on) =
 ended_well a text z none empty well still (inr (inl fails)) = absurd (cc (still, fails.failed))
 ended_well a text z none empty well still (inr (inr had)) = absurd (cc (well, had.failed))
 
--- of a text that ended otherwise a front was written
+-- of a text that ended with a fault, a front was written
 ended_ill : (a : Standing) (text : List ℕ) (z : Standing) → a.waiting ≡ [] → a.failed ≡ false → z.failed ≡ true
     → StandsAfter a text z → WritesPart text a.held z.held × Rose a.faults z.faults × (a.faults ≤ z.faults)
 ended_ill a text z empty well ill (inl on) = absurd (cc (ill, on.still))
@@ -134,7 +134,7 @@ ended_ill a text z empty well ill (inr (inl fails)) =
     (subst (λ r. WritesPart (r ++ text) a.held z.held) empty fails.part, fails.rose, fails.count)
 ended_ill a text z empty well ill (inr (inr had)) = absurd (cc (well, had.failed))
 
--- what came of a whole text
+-- what writing a text did to its sink, by the result
 pub record Wrote {K : Type 0} (held : K → Option (List ℕ)) (faults : K → ℕ)
     (text : List ℕ) (before : K) (result : Result (Unit {0}) Unwritten) (after : K) : Type 0 where
   pub written : OnOk result (Appends (held before) (held after) text)
@@ -144,7 +144,7 @@ pub record Wrote {K : Type 0} (held : K → Option (List ℕ)) (faults : K → �
   pub count : faults before ≤ faults after
 
 module _ {K : Type 0} {held : K → Option (List ℕ)} {faults : K → ℕ} where
-  -- two texts that are given one after the other are given as one
+  -- two texts that are added one after the other are added as one
   pub gives_then : {a b c : Pieces K} {s t : List ℕ}
       → Gives held faults a s b → Gives held faults b t c → Gives held faults a (s ++ t) c
   gives_then {a} {b} {c} {s} {t} first second = record {
@@ -152,15 +152,15 @@ module _ {K : Type 0} {held : K → Option (List ℕ)} {faults : K → ℕ} wher
     stands = stands_then _ _ _ s t first.stands second.stands;
   }
 
-  -- nothing was given
+  -- nothing was added
   pub gives_nothing : (a : Pieces K) → Gives held faults a [] a
   gives_nothing a = record { same_sink = refl; stands = stands_still (standing held faults a) }
 
-  -- a text that is another one, equal to it
+  -- a text can be replaced by an equal one
   pub gives_as : {a b : Pieces K} {s t : List ℕ} → s ≡ t → Gives held faults a s b → Gives held faults a t b
   gives_as {a} {b} {s} {t} same given = subst (λ r. Gives held faults a r b) same given
 
-  -- a text that was begun, given and ended
+  -- a text that was begun, got these bytes and was ended
   pub wrote : (sink : MutBor K) (begun given : Pieces K) (text : List ℕ) (result : Result (Unit {0}) Unwritten) (after : K)
       → Begins sink begun → Gives held faults begun text given → Ends held faults given result after
       → Wrote held faults text sink.now result after

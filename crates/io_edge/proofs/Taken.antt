@@ -6,7 +6,7 @@ use Rattle.std.proofs.lemmas.List.{drop_at}
 use Rattle.std.specs.Io.KnownBytes.{Consumes, Appends}
 use Rattle.io_edge.specs.Reading.{Takes}
 
--- two pieces that were taken one after the other are one
+-- two pieces that were taken one after the other are one piece
 pub takes_more : (first second : List ℕ) (before between after : Option (List ℕ))
     → Consumes before between first → Consumes between after second
     → Consumes before after (first ++ second)

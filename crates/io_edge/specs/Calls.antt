@@ -2,17 +2,18 @@
 use Rattle.std.specs.Prelude.{ℕ, ◌+◌, ◌-◌, ◌^◌, ◌==◌, min, Bool, List}
 use Rattle.std.specs.List.{list_any}
 
--- the numbers of the calls that fail, counted from 0, how many calls were made, and how many failed
+-- the calls of a source or a sink: the numbers of those that fail, counted from 0, how many were made, and how many
+-- failed
 pub record Calls : Type 0 where
   pub failing : List ℕ
   pub made : ℕ
   pub faults : ℕ
 
--- one more, up to the end of a `u64`
+-- a count plus one, but never more than a `u64` can hold
 abbrev pub count_up : ℕ → ℕ
 count_up count = min (count + 1) (2 ^ 64 - 1)
 
--- before the first call
+-- the calls before the first one is made
 abbrev pub no_calls : List ℕ → Calls
 no_calls failing = record { failing = failing; made = 0; faults = 0 }
 
@@ -20,10 +21,10 @@ no_calls failing = record { failing = failing; made = 0; faults = 0 }
 abbrev pub next_fails : Calls → Bool
 next_fails calls = list_any (λ number. number == calls.made) calls.failing
 
--- after a call
+-- the calls after one more was made
 abbrev pub one_more : Calls → Calls
 one_more calls = record calls { made = count_up calls.made }
 
--- after a fault in the latest call
+-- the calls after the latest one failed
 abbrev pub one_fault : Calls → Calls
 one_fault calls = record calls { faults = count_up calls.faults }

@@ -4,13 +4,13 @@ use Rattle.io_edge.specs.Calls.{Calls, next_fails, one_more, one_fault}
 use Rattle.io_edge.specs.declared.sink.Put.{Put}
 use Rattle.io_edge.specs.declared.sink.Put.TheVariants.{Took, Failed}
 
--- the bytes that it holds, the most that one call takes, and the calls
+-- a sink in memory: the bytes that it holds, the most bytes that one call takes, and its calls
 pub record SinkState : Type 0 where
   pub held : List ℕ
   pub piece : ℕ
   pub calls : Calls
 
--- what the next call answers to a piece of this length, where memory suffices
+-- the answer of the sink's next call to a piece of this length, if memory suffices
 abbrev pub write_answer : SinkState → ℕ → Put
 write_answer sink size = if next_fails sink.calls then Failed else Took (min sink.piece size)
 

@@ -4,13 +4,13 @@ use Rattle.io_edge.specs.Calls.{Calls, next_fails, one_more, one_fault}
 use Rattle.io_edge.specs.declared.source.Got.{Got}
 use Rattle.io_edge.specs.declared.source.Got.TheVariants.{Bytes, End, Failed}
 
--- the bytes that are left, the most that one call gives, and the calls
+-- a source in memory: the bytes that are left, the most bytes that one call gives, and its calls
 pub record SourceState : Type 0 where
   pub left : List ℕ
   pub piece : ℕ
   pub calls : Calls
 
--- what the next call answers to a caller with so much room
+-- the answer of the source's next call to a caller with this much room
 abbrev pub read_answer : SourceState → ℕ → Got
 read_answer source room =
     if next_fails source.calls then Failed

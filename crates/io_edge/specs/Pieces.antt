@@ -1,4 +1,5 @@
--- A text that is written in pieces while it is made. Nothing is said of bytes where the sink does not tell what it holds.
+-- A text that is written in pieces while it is made. If the contract of a sink does not say what the sink holds,
+-- nothing is said of the bytes.
 use Rattle.std.specs.Prelude.{◌≡◌, ℕ, ◌≤◌, ◌⊎◌, List, [], ◌++◌, Bool, true, false, Option, Result, Ok, Err}
 use Rattle.std.specs.Borrow.{MutBor}
 use Rattle.std.specs.Io.KnownBytes.{Appends}
@@ -7,14 +8,16 @@ use Rattle.io_edge.specs.declared.sink.Unwritten.{Unwritten}
 use Rattle.io_edge.specs.Faults.{Rose}
 use Rattle.io_edge.specs.Writing.{WritesPart}
 
--- how a text stands: what its sink holds, how often that failed, which bytes wait, and whether it failed at this text
+-- the state of a text: what its sink holds, how often the sink has failed, which bytes wait, and whether the sink
+-- failed at this text
 pub record Standing : Type 0 where
   pub held : Option (List ℕ)
   pub faults : ℕ
   pub waiting : List ℕ
   pub failed : Bool
 
--- some bytes were written, and they and those that wait are the bytes that waited and then the text
+-- bytes were added and the sink did not fail: what was written and what waits now are what waited before and the bytes
+-- that were added, in order
 pub record GoesOn (before : Standing) (text : List ℕ) (after : Standing) : Type 0 where
   pub well : before.failed ≡ false
   pub still : after.failed ≡ false
@@ -23,7 +26,8 @@ pub record GoesOn (before : Standing) (text : List ℕ) (after : Standing) : Typ
   pub all : written ++ after.waiting ≡ before.waiting ++ text
   pub faults : after.faults ≡ before.faults
 
--- the sink failed: a front of the bytes that waited and the text was written, and not the whole
+-- bytes were added and the sink failed: a front of the bytes that waited and of those that were added was written, but
+-- not all
 pub record Fails (before : Standing) (text : List ℕ) (after : Standing) : Type 0 where
   pub well : before.failed ≡ false
   pub failed : after.failed ≡ true
@@ -31,26 +35,26 @@ pub record Fails (before : Standing) (text : List ℕ) (after : Standing) : Type
   pub rose : Rose before.faults after.faults
   pub count : before.faults ≤ after.faults
 
--- it had failed before, and nothing more was written
+-- the sink had failed at this text before, and nothing more was written
 pub record HadFailed (before after : Standing) : Type 0 where
   pub failed : before.failed ≡ true
   pub still : after.failed ≡ true
   pub held : after.held ≡ before.held
   pub faults : after.faults ≡ before.faults
 
--- how a text may stand after it went on with these bytes
+-- the states that a text can have after these bytes were added
 abbrev pub StandsAfter : Standing → List ℕ → Standing → Type 0
 StandsAfter before text after = GoesOn before text after ⊎ (Fails before text after ⊎ HadFailed before after)
 
 module _ {K : Type 0} where
-  -- a text that is empty yet
+  -- a text to this sink that is still empty
   pub record Begins (sink : MutBor K) (text : Pieces K) : Type 0 where
     pub same_sink : text.sink.ghost_name ≡ sink.ghost_name
     pub untouched : text.sink.now ≡ sink.now
     pub empty : text.piece.items ≡ []
     pub well : text.failed ≡ false
 
-  -- how a text stands, by what its sink means
+  -- the state of a text, given what its sink holds and how often it failed
   abbrev pub standing : (K → Option (List ℕ)) → (K → ℕ) → Pieces K → Standing
   standing held faults text = record {
     held = held text.sink.now;
@@ -59,19 +63,19 @@ module _ {K : Type 0} where
     failed = text.failed;
   }
 
-  -- the text went on with these bytes
+  -- these bytes were added to the text, whose sink stays the same
   pub record Gives (held : K → Option (List ℕ)) (faults : K → ℕ)
       (before : Pieces K) (text : List ℕ) (after : Pieces K) : Type 0 where
     pub same_sink : after.sink.ghost_name ≡ before.sink.ghost_name
     pub stands : StandsAfter (standing held faults before) text (standing held faults after)
 
-  -- how a text stands that has ended so
+  -- the state of a text that ended with this result
   abbrev pub ended : (K → Option (List ℕ)) → (K → ℕ) → Result (Unit {0}) Unwritten → K → Standing
   ended held faults (Ok done) sink =
       record { held = held sink; faults = faults sink; waiting = []; failed = false }
   ended held faults (Err why) sink =
       record { held = held sink; faults = faults sink; waiting = []; failed = true }
 
-  -- the bytes that waited were written, or the sink failed then or before
+  -- a text ended: the bytes that waited were written, or the sink failed then or before
   abbrev pub Ends : (K → Option (List ℕ)) → (K → ℕ) → Pieces K → Result (Unit {0}) Unwritten → K → Type 0
   Ends held faults text result sink = StandsAfter (standing held faults text) [] (ended held faults result sink)

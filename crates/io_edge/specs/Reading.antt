@@ -1,4 +1,5 @@
--- What reading takes from a source. Nothing is said of bytes where the source does not tell what is left.
+-- What reading takes from a source. If the contract of a source does not say what is left, nothing is said of the
+-- bytes.
 use Rattle.std.specs.Prelude.{◌≡◌, ℕ, ◌≤◌, ◌<◌, ⊤, List, [], length, drop, Option, Some, IfSome, Result, Ok, Err}
 use Rattle.std.specs.declared.alloc.AllocError.{AllocError}
 use Rattle.io_edge.specs.declared.source.Got.{Got}
@@ -12,18 +13,18 @@ given_count (Bytes n) = n
 given_count End = 0
 given_count Failed = 0
 
--- the answer says, to a caller with room for so many bytes, that nothing is left
+-- the answer says that nothing is left, to a caller with room for `room` bytes
 abbrev pub SaysEnd : Got → ℕ → Type 0
 SaysEnd (Bytes n) room = (n ≡ 0) × (0 < room)
 SaysEnd End room = ⊤
 SaysEnd Failed room = ⊥
 
--- the first so many bytes of what was left were taken
+-- the first `count` bytes of what was left were taken
 abbrev pub Takes : ℕ → Option (List ℕ) → Option (List ℕ) → Type 0
 Takes count before after =
     IfSome before (λ left. (count ≤ length left) × (after ≡ Some (drop count left)))
 
--- the same of so many bytes or fewer
+-- the first bytes of what was left were taken, at most `limit` of them
 abbrev pub TakesAtMost : ℕ → Option (List ℕ) → Option (List ℕ) → Type 0
 TakesAtMost limit before after = (count : ℕ) × (count ≤ limit) × Takes count before after
 
@@ -31,7 +32,7 @@ TakesAtMost limit before after = (count : ℕ) × (count ≤ limit) × Takes cou
 abbrev pub TakesAll : List ℕ → Option (List ℕ) → Option (List ℕ) → Type 0
 TakesAll bytes before after = IfSome before (λ left. (left ≡ bytes) × (after ≡ Some []))
 
--- if reading gave the whole input, P holds of its bytes
+-- if reading gave the complete input, P holds of its bytes
 abbrev pub IfWhole : Result Input AllocError → (List ℕ → Type 0) → Type 0
 IfWhole (Ok (Whole bytes)) P = P bytes.items
 IfWhole (Ok TooLong) P = ⊤

@@ -1,4 +1,4 @@
-//! Calls that are counted, some of which are to fail.
+//! Counted calls, some of which are to fail.
 
 ghost use Rattle.std.specs.Prelude.{◌≡◌, ◌≤◌};
 ghost use Rattle.io_edge.specs.Faults.{Rose};
@@ -22,7 +22,7 @@ impl Model for FailingCalls {
 }
 
 impl FailingCalls {
-    /// `failing` has the numbers of the calls that fail, counted from 0.
+    /// Returns a count of no calls. `failing` has the numbers of the calls that fail, counted from 0.
     pub fn new(failing: Vec<u64>) -> FailingCalls
         ensures { result ≡ no_calls failing.items }
     {
@@ -33,7 +33,7 @@ impl FailingCalls {
         }
     }
 
-    /// Counts a call, and says whether it is one that fails.
+    /// Counts a call, and returns whether it is one that fails.
     pub fn next(&mut self) -> bool
         ensures fails { result ≡ next_fails self.old }
         ensures counted { self.new ≡ one_more self.old }
@@ -43,7 +43,7 @@ impl FailingCalls {
         fails
     }
 
-    /// Counts a fault.
+    /// Counts a fault. The count stops at the end of a `u64`.
     pub fn fault(&mut self)
         ensures counted { self.new ≡ one_fault self.old }
         ensures rose { Rose self.old.faults self.new.faults }

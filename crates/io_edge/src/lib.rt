@@ -1,5 +1,5 @@
-//! Where bytes come from and where they go: sources and sinks, a loop that reads a source to its
-//! end, a loop that writes a whole text to a sink, and a text that is written while it is made.
+//! Sources and sinks of bytes: a loop that reads a source to its end, a loop that writes a text to a
+//! sink completely, and a text that is written in pieces while it is made.
 #![tactic(auto)]
 
 mod failing_calls;

@@ -11,8 +11,8 @@ use crate::sink::{Put, Sink};
 use std::alloc::Global;
 use std::marker::Model;
 
-/// Keeps the bytes that it takes, a piece at a time, and fails where it was told to and where
-/// memory runs out.
+/// A sink that keeps its bytes in memory. A call takes a limited number of bytes. It fails if it is
+/// one of the calls that are to fail, or if memory runs out.
 #[derive(Debug, Drop)]
 pub struct MemSink {
     held: Vec<u8>,
@@ -29,8 +29,8 @@ impl Model for MemSink {
 }
 
 impl MemSink {
-    /// A call takes `piece` bytes at most. `failing` has the numbers of the calls that fail,
-    /// counted from 0.
+    /// Returns a sink with no bytes. A call takes at most `piece` bytes. `failing` has the numbers of the
+    /// calls that fail, counted from 0.
     pub fn new(alloc: Global, piece: usize, failing: Vec<u64>) -> MemSink
         requires { 1 ≤ piece }
         ensures held { result.held ≡ [] }
@@ -44,14 +44,14 @@ impl MemSink {
         }
     }
 
-    /// The bytes that it took, in the order in which they came.
+    /// Returns the bytes that the sink took, in the order in which they came.
     pub fn held(&self) -> &[u8]
         ensures { result.now ≡ self.now.held }
     {
         &self.held
     }
 
-    /// The same, taken out of it.
+    /// Ends the sink, and returns the bytes that it took, in the order in which they came.
     pub fn into_held(self) -> Vec<u8>
         ensures { result.items ≡ self.held }
     {
@@ -73,7 +73,7 @@ impl Sink for MemSink {
         ensures unfailed { result ≢ Put.Failed → self.new.calls.faults ≡ self.old.calls.faults }
         ensures count { self.old.calls.faults ≤ self.new.calls.faults }
 
-        // What this one does. A call that is not to fail may still find no memory.
+        // What this sink does. A call that is not to fail can still run out of memory.
         ensures answer { (result ≡ write_answer self.old (length piece.now))
             ⊎ (result ≡ Put.Failed) }
         ensures after { self.new ≡ after_write self.old piece.now result }

@@ -10,7 +10,8 @@ use crate::failing_calls::FailingCalls;
 use crate::source::{Got, Source};
 use std::marker::Model;
 
-/// Gives the bytes of a list, a piece at a time, and fails where it was told to.
+/// A source that gives the bytes of a list. A call gives a limited number of bytes, and fails if it is
+/// one of the calls that are to fail.
 #[derive(Debug, Drop)]
 pub struct MemSource {
     bytes: Vec<u8>,
@@ -32,8 +33,8 @@ impl Model for MemSource {
 }
 
 impl MemSource {
-    /// A call gives `piece` bytes at most. `failing` has the numbers of the calls that fail,
-    /// counted from 0.
+    /// Returns a source of these bytes. A call gives at most `piece` bytes. `failing` has the numbers of
+    /// the calls that fail, counted from 0.
     pub fn new(bytes: Vec<u8>, piece: usize, failing: Vec<u64>) -> MemSource
         requires { 1 ≤ piece }
         ensures left { result.left ≡ bytes.items }
@@ -63,7 +64,7 @@ impl Source for MemSource {
         ensures unfailed { result ≢ Got.Failed → self.new.calls.faults ≡ self.old.calls.faults }
         ensures count { self.old.calls.faults ≤ self.new.calls.faults }
 
-        // What this one does.
+        // What this source does.
         ensures answer { result ≡ read_answer self.old (length buffer.old) }
         ensures after { self.new ≡ after_read self.old result }
     {

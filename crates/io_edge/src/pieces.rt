@@ -1,4 +1,4 @@
-//! Writing a text to a sink while it is made.
+//! Writing a text to a sink in pieces, while it is made.
 
 ghost use Rattle.std.specs.Prelude.{◌≡◌, [], false};
 ghost use Rattle.io_edge.specs.Pieces.{Begins, Gives, Ends};
@@ -6,15 +6,15 @@ ghost use Rattle.io_edge.specs.Pieces.{Begins, Gives, Ends};
 use crate::sink::{Sink, Unwritten, write_all};
 use arrayvec::ArrayVec;
 
-/// How many bytes a piece has at the most.
+/// The most bytes that a piece can have.
 const PIECE: usize = 8192;
 
-/// A text on its way to a sink. What it is given waits in one piece, and is written where the next
-/// text finds no room in it. One that is longer than a piece does not wait, and is written by itself.
-/// So a text of any length takes no memory but that of the piece.
+/// A text that is written to a sink in pieces, while it is made. Pushed bytes wait in one piece. The
+/// piece is written once the next bytes do not fit into it. Bytes that are longer than a piece do not
+/// wait, and are written by themselves. So a text of any length takes only the memory of one piece.
 ///
-/// After a fault of the sink it takes no more, and writes no more. Where it is dropped and not
-/// finished, the bytes that wait are not written.
+/// After a fault of the sink, nothing more is taken or written. If the text is dropped without
+/// `finish`, the bytes that wait are not written.
 #[derive(Drop)]
 pub struct Pieces<'s, K: Sink> {
     sink: &'s mut K,
@@ -23,7 +23,7 @@ pub struct Pieces<'s, K: Sink> {
 }
 
 impl<'s, K: Sink> Pieces<'s, K> {
-    /// An empty text.
+    /// Returns an empty text for this sink.
     pub fn new(sink: &'s mut K) -> Pieces<'s, K>
         ensures { Begins sink.entry result }
     {
@@ -44,7 +44,7 @@ impl<'s, K: Sink> Pieces<'s, K> {
         self.piece.clear();
     }
 
-    /// Goes on with these bytes where none wait.
+    /// Adds these bytes to a text in which no bytes wait.
     fn begin_piece(&mut self, bytes: &[u8])
         requires { self.old.piece.items ≡ [] }
         ensures { Gives K.held K.faults self.old bytes.now self.new }
@@ -55,7 +55,7 @@ impl<'s, K: Sink> Pieces<'s, K> {
         self.failed = write_all(self.sink, bytes).is_err();
     }
 
-    /// Goes on with these bytes.
+    /// Adds these bytes to the text. If the sink fails, `finish` returns the error.
     pub fn push(&mut self, bytes: &[u8])
         ensures { Gives K.held K.faults self.old bytes.now self.new }
     {
@@ -66,14 +66,19 @@ impl<'s, K: Sink> Pieces<'s, K> {
         self.begin_piece(bytes);
     }
 
-    /// Goes on with this text.
+    /// Adds this string to the text. If the sink fails, `finish` returns the error.
     pub fn push_str(&mut self, text: &str)
         ensures { Gives K.held K.faults self.old text.now self.new }
     {
         self.push(text.as_bytes());
     }
 
-    /// Writes the rest. After `Unwritten` the sink holds a front of the text.
+    /// Writes the bytes that still wait, and ends the text.
+    ///
+    /// # Errors
+    ///
+    /// `Unwritten` if the sink failed at this text, now or before. The sink has then taken a front of the
+    /// text, but not all of it.
     pub fn finish(self) -> Result<(), Unwritten>
         ensures { Ends K.held K.faults self.entry result self.exit.0.now }
     {

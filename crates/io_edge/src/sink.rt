@@ -1,4 +1,4 @@
-//! Writing a whole text to a sink.
+//! Writing a text to a sink completely.
 
 ghost use Rattle.std.specs.Prelude.{◌≡◌, ◌≢◌, ℕ, ◌<◌, ◌≤◌, List, [], length, take, Option, OnOk, OnErr};
 ghost use Rattle.std.specs.Io.KnownBytes.{Appends};
@@ -8,21 +8,22 @@ ghost use Rattle.io_edge.specs.Writing.{taken_count, WritesPart};
 /// What one call of [`Sink::write`] did.
 #[derive(Clone, Copy, Debug, PartialEq, Eq)]
 pub enum Put {
-    /// It took so many bytes, from the front of the piece.
+    /// It took this many bytes, from the front of the piece.
     Took(usize),
-    /// It took nothing, because of a fault.
+    /// It took no bytes, because of a fault.
     Failed,
 }
 
 /// Takes bytes in order, a piece at a time, as `std::io::Write` does.
 pub trait Sink {
-    /// The bytes that it holds, in the order in which they came, where the sink tells them.
+    /// The bytes that the sink holds, in the order in which they came, or `None` if its contract does not
+    /// say.
     ghost held: { Self → Option (List ℕ) };
 
-    /// How often it has failed. A count at the end of a `u64` stays there.
+    /// How often the sink has failed. The count stops at the end of a `u64`.
     ghost faults: { Self → ℕ };
 
-    /// Takes a front of the piece. Where the piece has any byte, it takes some of it or fails.
+    /// Takes a front of the piece. If the piece has any bytes, the sink takes at least one or fails.
     fn write(&mut self, piece: &[u8]) -> Put
         ensures fits { taken_count result ≤ length piece.now }
         ensures some { result ≡ Put.Took 0 → piece.now ≡ [] }
@@ -33,12 +34,16 @@ pub trait Sink {
         ensures count { faults self.old ≤ faults self.new };
 }
 
-/// The sink failed before it had taken the last byte.
+/// The error of a text whose sink failed before it had taken the last byte.
 #[derive(Clone, Copy, Debug, PartialEq, Eq)]
 pub struct Unwritten;
 
-/// Writes all of the text, in as many calls as the sink wants. After `Unwritten` the sink holds a
-/// front of it. An empty text is written without a call.
+/// Writes all of the text, in as many calls as the sink needs. An empty text is written without a
+/// call.
+///
+/// # Errors
+///
+/// `Unwritten` if the sink fails. The sink has then taken a front of the text, but not all of it.
 pub fn write_all<K: Sink>(sink: &mut K, text: &[u8]) -> Result<(), Unwritten>
     ensures written { OnOk result (Appends (K.held sink.old) (K.held sink.new) text.now) }
     ensures unwritten { OnErr result (WritesPart text.now (K.held sink.old) (K.held sink.new)) }

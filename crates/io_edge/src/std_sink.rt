@@ -8,9 +8,9 @@ use crate::sink::{Put, Sink};
 use std::io::Write;
 use std::marker::Model;
 
-/// Standard output, or another writer of std, as a sink. It holds what its writer has flushed, of which a contract knows as
-/// much as the writer's own contract says: nothing at standard output. If the writer took bytes and could not flush them,
-/// the call fails, and nothing is written after it.
+/// A sink that writes to standard output, or to another writer of std. It holds the bytes that its writer has
+/// flushed. A contract knows of these bytes what the writer's own contract says, which is nothing for standard
+/// output. If the writer took bytes and could not flush them, the call fails, and nothing is written after it.
 #[derive(Drop)]
 pub struct StdSink<W: Write> {
     writer: W,
@@ -31,7 +31,7 @@ impl<W: Write> Model for StdSink<W> {
 }
 
 impl<W: Write> StdSink<W> {
-    /// At standard output the writer is `io::writer(&rt)`.
+    /// Returns a sink for this writer. For standard output the writer is `io::writer(&rt)`.
     pub fn new(writer: W) -> StdSink<W>
         ensures taken { result.taken ≡ W.contents writer }
         ensures unflushed { result.unflushed ≡ 0 }
@@ -73,8 +73,8 @@ impl<W: Write> StdSink<W> {
         true
     }
 
-    /// Writes a front of the piece and flushes it. Returns how many bytes that were, which is 0 only for an empty piece,
-    /// or `None` if the writer failed; then the sink holds no more bytes than before.
+    /// Writes a front of the piece and flushes it. Returns its length in bytes, which is 0 only for an empty piece, or
+    /// `None` if the writer failed. The sink then holds the same bytes as before.
     fn write_through(&mut self, piece: &[u8]) -> Option<usize>
         ensures fits { IfSome result (λ n. n ≤ length piece.now) }
         ensures some { IfSome result (λ n. n ≡ 0 → piece.now ≡ []) }

@@ -7,8 +7,8 @@ use crate::source::{Got, Source};
 use std::io::Read;
 use std::marker::Model;
 
-/// Standard input, or another reader of std, as a source. It tells of what is left what its reader
-/// tells, which is nothing at standard input.
+/// A source that reads standard input, or another reader of std. A contract knows of the bytes that are
+/// left what the reader's own contract says, which is nothing for standard input.
 #[derive(Drop)]
 pub struct StdSource<R: Read> {
     reader: R,
@@ -22,7 +22,7 @@ impl<R: Read> Model for StdSource<R> {
 }
 
 impl<R: Read> StdSource<R> {
-    /// At standard input the reader is `rt.reader()`.
+    /// Returns a source for this reader. For standard input the reader is `rt.reader()`.
     pub fn new(reader: R) -> StdSource<R>
         ensures bytes { result.bytes ≡ R.remaining reader }
         ensures faults { result.faults ≡ 0 }

@@ -1,4 +1,4 @@
--- What a load loads.
+-- The buffers of loads.
 use Rattle.std.specs.Prelude.{◌≡◌, ℕ, ◌*◌, ◌%◌, ◌<◌, ◌≤◌, ◌==◌, true, false, List, [], length, IfSome}
 use Rattle.std.specs.List.{AllByRecursion, list_any}
 use Rattle.busdma_machine.specs.declared.machine.bio.Bio.{Bio}
@@ -32,7 +32,7 @@ buffer_bytes (buffer.Mbuf chain) = span_bytes chain
 buffer_bytes (buffer.Bio b) = span_bytes (bio_spans b)
 buffer_bytes (buffer.Send chain clusters) = span_bytes chain
 
--- how many bytes it counts for the limit on all loads: those of a send may be loaded twice
+-- how many bytes a buffer counts for the limit on all loads; a send counts twice, because it can be loaded twice
 abbrev pub counted_bytes : Buffer → ℕ
 counted_bytes (buffer.Flat at len) = len
 counted_bytes (buffer.Vector spans) = span_bytes spans
@@ -40,13 +40,13 @@ counted_bytes (buffer.Mbuf chain) = span_bytes chain
 counted_bytes (buffer.Bio b) = span_bytes (bio_spans b)
 counted_bytes (buffer.Send chain clusters) = 2 * span_bytes chain
 
--- how long the list of a bio is, of its spans or of its frames
+-- how many spans or frames a bio lists
 abbrev pub bio_entries : Bio → ℕ
 bio_entries (bio.Mapped span) = 1
 bio_entries (bio.Vector spans) = length spans
 bio_entries (bio.Unmapped frames off len) = length frames
 
--- how long the list of a buffer is
+-- how many spans or frames a buffer lists
 abbrev pub buffer_entries : Buffer → ℕ
 buffer_entries (buffer.Flat at len) = 1
 buffer_entries (buffer.Vector spans) = length spans
@@ -54,12 +54,12 @@ buffer_entries (buffer.Mbuf chain) = length chain
 buffer_entries (buffer.Bio b) = bio_entries b
 buffer_entries (buffer.Send chain clusters) = length chain
 
--- a place that is told by a memory is that of its first byte
+-- a place in a memory is the memory's first byte; a place at a virtual address can be any
 abbrev pub IsBegin : Place → Type 0
 IsBegin (place.At va) = Unit {0}
 IsBegin (place.In mem off) = off ≡ 0
 
--- a buffer that is told by a memory begins at its first byte
+-- a buffer in a memory begins at the memory's first byte
 abbrev pub IsFromBegin : Buffer → Type 0
 IsFromBegin (buffer.Flat at len) = IsBegin at
 IsFromBegin (buffer.Vector spans) = Unit {0}
@@ -67,14 +67,14 @@ IsFromBegin (buffer.Mbuf chain) = Unit {0}
 IsFromBegin (buffer.Bio b) = Unit {0}
 IsFromBegin (buffer.Send chain clusters) = Unit {0}
 
--- a bio that is not mapped is of frames of these pages, and begins in the first of them
+-- a bio that is not mapped has only frames of these pages, and begins in its first frame
 abbrev pub IsBioOf : List PageRun → Bio → Type 0
 IsBioOf pages (bio.Mapped span) = Unit {0}
 IsBioOf pages (bio.Vector spans) = Unit {0}
 IsBioOf pages (bio.Unmapped frames off len) =
     (off < 4096) × AllByRecursion (λ frame. has_frame pages frame ≡ true) frames
 
--- so is that of a buffer
+-- a buffer that is a bio, if it is not mapped, has only frames of these pages and begins in its first frame
 abbrev pub IsBufferOf : List PageRun → Buffer → Type 0
 IsBufferOf pages (buffer.Flat at len) = Unit {0}
 IsBufferOf pages (buffer.Vector spans) = Unit {0}
@@ -82,17 +82,17 @@ IsBufferOf pages (buffer.Mbuf chain) = Unit {0}
 IsBufferOf pages (buffer.Bio b) = IsBioOf pages b
 IsBufferOf pages (buffer.Send chain clusters) = Unit {0}
 
--- an address is none of these
+-- an address is none of the addresses of a list
 abbrev pub IsNoneOf : List ℕ → ℕ → Type 0
 IsNoneOf others a = list_any (λ b. a == b) others ≡ false
 
--- a span of clusters is one of them, or of the last as many bytes as are left
+-- a span of clusters begins at a page boundary, and has at most 4096 bytes
 pub record IsCluster (span : Span) : Type 0 where
   pub whole : span.va.0 % 4096 ≡ 0
   pub short : span.len ≤ 4096
 
--- the clusters of a send have as many bytes as its chain, and no virtual byte is of two of them, or of one and of the
--- chain
+-- the clusters of a send have as many bytes as its chain, in at most `entries_limit` spans, and no virtual address is
+-- in two clusters, or in a cluster and in the chain
 pub record AreClustersFor (chain spans : List Span) : Type 0 where
   pub each : AllByRecursion IsCluster spans
   pub alike : span_bytes spans ≡ span_bytes chain
@@ -100,7 +100,7 @@ pub record AreClustersFor (chain spans : List Span) : Type 0 where
   pub unlike : EachAfter IsNoneOf [] (span_addresses spans)
   pub apart : AllByRecursion (IsNoneOf (span_addresses spans)) (span_addresses chain)
 
--- what is loaded has its clusters, where it is a send that has any
+-- if a buffer is a send that has clusters, they are clusters for its chain
 abbrev pub HasClusters : Buffer → Type 0
 HasClusters (buffer.Flat at len) = Unit {0}
 HasClusters (buffer.Vector spans) = Unit {0}

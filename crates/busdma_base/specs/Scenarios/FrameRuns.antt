@@ -5,23 +5,24 @@ use Rattle.busdma_base.specs.declared.scenarios.scenario.FrameRun.{FrameRun}
 use Rattle.busdma_machine.specs.Runs.{meet}
 use Rattle.busdma_base.specs.Scenarios.Limits.{frames_limit, frame_numbers}
 
--- the frame lies in the run
+-- a frame is in a run of frames
 abbrev pub is_in : ℕ → FrameRun → Bool
 is_in frame run = nat_le run.first frame && nat_lt frame (run.first + run.count)
 
--- two runs share a frame
+-- two runs of frames share a frame
 abbrev pub overlap : FrameRun → FrameRun → Bool
 overlap a b = meet a.first a.count b.first b.count
 
--- how many frames runs have
+-- how many frames these runs have together
 abbrev pub frame_count : List FrameRun → ℕ
 frame_count runs = sum_by (λ run. run.count) runs
 
--- the run's frames have numbers below the limit
+-- the frames of a run have numbers below the limit
 abbrev pub IsNumbered : FrameRun → Type 0
 IsNumbered run = run.first + run.count ≤ frame_numbers
 
--- a run has a frame, keeps the limits on frame numbers and on all frames, and has no frame of a run before it
+-- a valid run of frames: it has a frame, keeps the limits on frame numbers and on the number of frames, and shares no
+-- frame with a run before it
 pub record IsFrameRun (before : List FrameRun) (run : FrameRun) : Type 0 where
   pub some : 1 ≤ run.count
   pub numbered : IsNumbered run

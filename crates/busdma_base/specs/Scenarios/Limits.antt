@@ -1,11 +1,11 @@
 -- The limits of a scenario.
 use Rattle.std.specs.Prelude.{ℕ, ◌^◌}
 
--- frames of the machine
+-- the greatest number of frames of a machine
 abbrev pub frames_limit : ℕ
 frames_limit = 8192
 
--- the numbers of frames are below this
+-- the end of frame numbers: each is below this
 abbrev pub frame_numbers : ℕ
 frame_numbers = 2 ^ 30
 
@@ -13,34 +13,34 @@ frame_numbers = 2 ^ 30
 abbrev pub bpages_limit : ℕ
 bpages_limit = 8192
 
--- drivers
+-- the greatest number of drivers
 abbrev pub drivers_limit : ℕ
 drivers_limit = 16
 
--- actors of the order
+-- the greatest number of actors in the order of a scenario
 abbrev pub order_limit : ℕ
 order_limit = 65536
 
--- operations and items of a driver
+-- the greatest number of operations and items of a driver's script, taken together
 abbrev pub steps_limit : ℕ
 steps_limit = 4096
 
--- spans or frames of one load
+-- the greatest number of spans or frames of one load
 abbrev pub entries_limit : ℕ
 entries_limit = 4096
 
--- bytes of one access
+-- the greatest number of bytes of one access
 abbrev pub access_limit : ℕ
 access_limit = 4096
 
--- bytes that all drivers and devices read
+-- the greatest number of bytes that all drivers and devices of a scenario read, taken together
 abbrev pub reads_limit : ℕ
 reads_limit = 1048576
 
--- bytes of one load
+-- the greatest number of bytes of one load
 abbrev pub buffer_limit : ℕ
 buffer_limit = 1048576
 
--- bytes of all loads
+-- the greatest number of bytes of all loads of a scenario, taken together
 abbrev pub loaded_limit : ℕ
 loaded_limit = 16777216

@@ -8,23 +8,23 @@ use Rattle.busdma_base.specs.declared.scenarios.scenario.Scenario.{Scenario}
 use Rattle.busdma_base.specs.Scenarios.FrameRuns.{is_in}
 use Rattle.busdma_machine.specs.Bounce.Account.{Account, fresh_account}
 
--- the highest frame plus one, or 0 without frames
+-- the highest frame number plus one, or 0 if there is no frame
 abbrev pub maxmem_of : List FrameRun → ℕ
 maxmem_of [] = 0
 maxmem_of (run ∷ runs) = max (run.first + run.count) (maxmem_of runs)
 
--- a frame that a driver's pages name
+-- a frame is one of a driver's pages
 abbrev pub is_owned : List Driver → ℕ → Bool
 is_owned drivers frame =
     list_any (λ d. list_any (λ p. nat_le p.frame frame && nat_lt frame (p.frame + p.count)) d.pages) drivers
 
--- the first n frame numbers that lie in the machine and belong to no driver, rising
+-- the frame numbers below n that are in the machine and belong to no driver, rising
 abbrev pub free_below : Scenario → ℕ → List ℕ
 free_below s zero = []
 free_below s (suc n) =
     free_below s n ++ filter (λ f. list_any (is_in f) s.frames && not (is_owned s.drivers f)) (n ∷ [])
 
--- every frame that no driver has is free, and nothing else is there
+-- the account with which a scenario opens: every frame that no driver has is free, and there is nothing else
 abbrev pub opening : Scenario → Account
 opening s =
     let maxmem : ℕ = maxmem_of s.frames in

@@ -1,4 +1,4 @@
--- What an operation and an item are about, each told once.
+-- What each operation and each item is about: its word, its names, and the bytes that it works on.
 use Rattle.std.specs.Prelude.{ℕ, List, [], ◌∷◌, Option, Some, None, length, replicate, sum_by, ◌+◌, slice_get}
 use Rattle.std.specs.Option.{option_map, option_map_or}
 use Rattle.busdma_base.specs.declared.scenarios.buffer.Buffer.{Buffer}
@@ -24,13 +24,13 @@ use Rattle.busdma_base.specs.declared.scenarios.words.ItemWord.{ItemWord}
 use Rattle.busdma_base.specs.declared.scenarios.words.ItemWord.TheVariants as item_word
 use Rattle.busdma_base.specs.Scenarios.Buffers.{buffer_word, counted_bytes}
 
--- a name that an operation makes, and what it stands for
+-- a name that an operation makes, and the kind of thing that it names
 pub record Made : Type 0 where
   pub kind : NameKind
   pub name : List ℕ
 
--- what an operation is about: its word, the name that it makes, the names that it uses, the memories in which the
--- bytes lie that it works on, its items, what it loads, and how many bytes it reads and writes
+-- what an operation is about: its word, the name that it makes, the names that it uses, the memory in which its bytes
+-- lie, its items, the buffer that it loads, and how many bytes it reads and writes
 pub record About : Type 0 where
   pub word : OpWord
   pub makes : Option Made
@@ -48,56 +48,65 @@ pub record AboutItem : Type 0 where
   pub reads : ℕ
   pub writes : ℕ
 
--- the bytes that a write has
+-- the bytes of a write, in order
 abbrev pub bytes_of : Bytes → List ℕ
 bytes_of (bytes.Listed bs) = bs
 bytes_of (bytes.Filled b n) = replicate n b
 
--- a tag that is made, an IOMMU tag, a map, a memory, and a ring that is made
+-- the name of a tag that is made
 abbrev pub new_tag : List ℕ → Option Made
 new_tag name = Some (record { kind = kind.Tag; name = name })
 
+-- the name of an IOMMU tag that is made
 abbrev pub new_iommu_tag : List ℕ → Option Made
 new_iommu_tag name = Some (record { kind = kind.IommuTag; name = name })
 
+-- the name of a map that is made
 abbrev pub new_map : List ℕ → Option Made
 new_map name = Some (record { kind = kind.Map; name = name })
 
+-- the name of a memory that is made
 abbrev pub new_memory : List ℕ → Option Made
 new_memory name = Some (record { kind = kind.Memory; name = name })
 
+-- the name of a ring that is made
 abbrev pub new_ring : List ℕ → Option Made
 new_ring name = Some (record { kind = kind.Ring; name = name })
 
--- the tag that is no IOMMU tag, the IOMMU tag, the tag of either kind, the map or memory's map, the map alone, the
--- memory, and the ring, that was made at a place
+-- a use of the tag, not an IOMMU tag, that was made at a place of the script
 abbrev pub tag_at : ℕ → UsedName
 tag_at made_at = record { used_as = use_as.Tag; made_at = made_at }
 
+-- a use of the IOMMU tag that was made at a place of the script
 abbrev pub iommu_tag_at : ℕ → UsedName
 iommu_tag_at made_at = record { used_as = use_as.IommuTag; made_at = made_at }
 
+-- a use of the tag, of either kind, that was made at a place of the script
 abbrev pub any_tag_at : ℕ → UsedName
 any_tag_at made_at = record { used_as = use_as.AnyTag; made_at = made_at }
 
+-- a use of the map, which can be a memory's own, that was made at a place of the script
 abbrev pub map_at : ℕ → UsedName
 map_at made_at = record { used_as = use_as.Map; made_at = made_at }
 
+-- a use of the map, not a memory's own, that was made at a place of the script
 abbrev pub map_alone_at : ℕ → UsedName
 map_alone_at made_at = record { used_as = use_as.MapAlone; made_at = made_at }
 
+-- a use of the memory that was made at a place of the script
 abbrev pub memory_at : ℕ → UsedName
 memory_at made_at = record { used_as = use_as.Memory; made_at = made_at }
 
+-- a use of the ring that was made at a place of the script
 abbrev pub ring_at : ℕ → UsedName
 ring_at made_at = record { used_as = use_as.Ring; made_at = made_at }
 
--- the memory in which a place lies that is told by one
+-- the memory of a place, if the place is in a memory
 abbrev pub place_within : Place → List UsedName
 place_within (place.At va) = []
 place_within (place.In mem off) = memory_at mem ∷ []
 
--- the same of the place of a buffer
+-- the memory in which a buffer begins, if it begins in a memory
 abbrev pub buffer_within : Buffer → List UsedName
 buffer_within (buffer.Flat at len) = place_within at
 buffer_within (buffer.Vector spans) = []
@@ -105,12 +114,12 @@ buffer_within (buffer.Mbuf chain) = []
 buffer_within (buffer.Bio b) = []
 buffer_within (buffer.Send chain clusters) = []
 
--- a parent, where there is one
+-- the parent of a tag, if it has one
 abbrev pub parents : Option ℕ → List UsedName
 parents None = []
 parents (Some place) = tag_at place ∷ []
 
--- an operation that makes and uses names and does nothing else
+-- an operation that makes and uses these names, and has no bytes, items or buffer
 abbrev pub with_names : OpWord → Option Made → List UsedName → About
 with_names word makes uses =
     record { word = word; makes = makes; uses = uses; within = []; items = []; loads = None; reads = 0; writes = 0 }
@@ -142,7 +151,7 @@ about (op.RingPost ring slot map off len kind fill) =
     with_names op_word.RingPost None (ring_at ring ∷ map_at map ∷ [])
 about (op.Kick ring steps) = record (with_names op_word.Kick None (ring_at ring ∷ [])) { items = steps }
 
--- what each item is about; the bytes that a descriptor names are counted by nobody
+-- what each item is about; the bytes that a descriptor names are not counted
 abbrev pub about_item : Item → AboutItem
 about_item (item.Sync map ops) = record { word = item_word.Sync; uses = map_at map; reads = 0; writes = 0 }
 about_item (item.SyncRange map off len ops) =
@@ -172,16 +181,17 @@ read_by_item i = (about_item i).reads
 abbrev pub read_by : Op → ℕ
 read_by o = (about o).reads + sum_by read_by_item (about o).items
 
--- what a line of a journal names
+-- the name that a line of a journal shows
 pub data Object : Type 0 where
   Makes : Made → Object
   Uses : UsedName → Object
 
--- the first name that is used, if there is one
+-- the first of the names that an operation uses, if it uses one
 abbrev pub first_used : List UsedName → Option Object
 first_used uses = option_map Uses (slice_get uses 0)
 
--- the name that is made; else the first that is used; an access of the driver to its memory names nothing
+-- the name that a line of a journal shows for an operation: the name that it makes, or else the first that it uses, or
+-- none for an access of the driver to its memory
 abbrev pub object_of : About → Option Object
 object_of a = option_map_or (λ made. Some (Makes made)) a.makes (first_used a.uses)
 
@@ -189,10 +199,11 @@ object_of a = option_map_or (λ made. Some (Makes made)) a.makes (first_used a.u
 abbrev pub name_made_by : Op → Option (List ℕ)
 name_made_by o = option_map (λ made. made.name) (about o).makes
 
--- what borrowed names say
+-- the name that an operation makes, from the form in which code borrows it
 abbrev pub made : MadeName → Made
 made m = record { kind = m.kind; name = m.name.now }
 
+-- the name that a line of a journal shows, from the form in which code borrows it
 abbrev pub object : SeenObject → Object
 object (seen.Makes m) = Makes (made m)
 object (seen.Uses u) = Uses u

@@ -15,20 +15,21 @@ abbrev pub all_in : List FrameRun → ℕ → ℕ → Bool
 all_in runs first zero = true
 all_in runs first (suc n) = list_any (is_in first) runs && all_in runs (first + 1) n
 
--- two runs share a frame
+-- two runs of pages share a frame
 abbrev pub share_frame : PageRun → PageRun → Bool
 share_frame a b = meet a.frame a.count b.frame b.count
 
--- two runs share a virtual page
+-- two runs of pages share a virtual page
 abbrev pub share_page : PageRun → PageRun → Bool
 share_page a b = meet (a.va.0 / 4096) a.count (b.va.0 / 4096) b.count
 
--- the run has a frame of one of these drivers
+-- a run of pages shares a frame with one of these drivers
 abbrev pub is_taken : PageRun → List Driver → Bool
 is_taken run drivers = list_any (λ d. list_any (share_frame run) d.pages) drivers
 
--- a run has a page, lies on page boundaries below the end of pages, has frames of the machine alone, and shares no
--- frame with earlier drivers, and no frame and no virtual page with the driver's runs before it
+-- a valid run of pages: it has a page, lies on page boundaries below the end of the addresses for pages, has only
+-- frames of the machine, shares no frame with earlier drivers, and shares neither a frame nor a virtual page with the
+-- driver's runs before it
 pub record IsPageRun (frames : List FrameRun) (earlier : List Driver)
     (before : List PageRun) (run : PageRun) : Type 0 where
   pub some : 1 ≤ run.count
@@ -43,17 +44,17 @@ pub record IsPageRun (frames : List FrameRun) (earlier : List Driver)
 abbrev pub is_in_run : ℕ → PageRun → Bool
 is_in_run va run = nat_le run.va.0 va && nat_lt va (run.va.0 + 4096 * run.count)
 
--- where the byte at a virtual address lies, by the driver's pages
+-- the physical address of the byte at a virtual address, if it is in one of the driver's pages
 abbrev pub physical_in : List PageRun → ℕ → Option ℕ
 physical_in [] va = None
 physical_in (run ∷ runs) va =
     if is_in_run va run then Some (4096 * run.frame + (va - run.va.0)) else physical_in runs va
 
--- the physical address is a byte of the driver's pages
+-- a physical address lies in one of the driver's pages
 abbrev pub is_own : List PageRun → ℕ → Bool
 is_own runs pa =
     list_any (λ run. nat_le (4096 * run.frame) pa && nat_lt pa (4096 * (run.frame + run.count))) runs
 
--- the frame is one of the driver's pages
+-- a frame is one of the driver's pages
 abbrev pub has_frame : List PageRun → ℕ → Bool
 has_frame runs frame = list_any (λ run. nat_le run.frame frame && nat_lt frame (run.frame + run.count)) runs

@@ -22,7 +22,8 @@ is_ring_step (item.DevReadAt tag addr len) = false
 is_ring_step (item.DevWriteAt tag addr bytes) = false
 is_ring_step (item.RingStep ring) = true
 
--- a kick has steps of its own ring, and at least one; the items of a load are no such steps
+-- an operation has the kind of items that it can have: a kick has at least one step of its own ring and no other items,
+-- and a load has no step of a ring
 abbrev pub HasOwnItems : Op → Type 0
 HasOwnItems (op.Kick ring steps) =
     (1 ≤ length steps) × AllByRecursion (λ i. i ≡ item.RingStep ring) steps
@@ -43,18 +44,18 @@ HasOwnItems (op.Await map) = Unit {0}
 HasOwnItems (op.Ring name mem slots) = Unit {0}
 HasOwnItems (op.RingPost ring slot map off len kind fill) = Unit {0}
 
--- how many operations and items a script has
+-- how many operations and items a script has together
 abbrev pub steps_of : List Op → ℕ
 steps_of script = length script + sum_by (λ o. length (items_of o)) script
 
--- an item uses a name that an operation before its load makes, and keeps the limit on an access
+-- a valid item: the name that it uses is made by an operation before its own, and it keeps the limits on an access
 pub record IsItem (before : List Op) (i : Item) : Type 0 where
   pub made : IsMade before (about_item i).uses
   pub read : (about_item i).reads ≤ access_limit
   pub written : (about_item i).writes ≤ access_limit
 
--- an operation makes a new name, uses those that operations before it make, loads a memory from its begin, and keeps
--- the limits on an access and on what it loads, and so do its items, which are those that it may have
+-- a valid operation: the name that it makes is new, the names that it uses are made before it, it loads a memory from
+-- the memory's first byte, it keeps the limits on an access and on a load, and its items are valid and of its kind
 pub record IsOp (before : List Op) (o : Op) : Type 0 where
   pub new : MakesNewName before (about o).makes
   pub made : AllByRecursion (IsMade before) (about o).uses
@@ -68,7 +69,7 @@ pub record IsOp (before : List Op) (o : Op) : Type 0 where
   pub loaded : option_map_or buffer_bytes (about o).loads 0 ≤ buffer_limit
   pub clusters : IfSome (about o).loads HasClusters
 
--- each operation is one that may stand behind those before it, and there are at most 4096 steps
+-- a valid script: each operation is valid after the ones before it, and there are at most `steps_limit` steps
 pub record IsScript (script : List Op) : Type 0 where
   pub each : EachAfter IsOp [] script
   pub short : steps_of script ≤ steps_limit

@@ -15,24 +15,26 @@ use Rattle.busdma_base.specs.Scenarios.Limits.{bpages_limit, drivers_limit, load
 use Rattle.busdma_base.specs.Scenarios.Operations.{about, loaded_by, read_by}
 use Rattle.busdma_base.specs.Scenarios.Script.{IsScript}
 
--- what an operation loads has frames of these pages alone
+-- the bio that an operation loads, if it is not mapped, has only frames of these pages
 abbrev pub LoadsFrom : List PageRun → Op → Type 0
 LoadsFrom pages o = IfSome (about o).loads (IsBufferOf pages)
 
--- a driver's pages are its own, its script is valid, and the frames that its bios name are of its pages
+-- a valid driver: its runs of pages are valid, its script is valid, and its bios name only frames of its pages
 pub record IsDriver (frames : List FrameRun) (earlier : List Driver) (driver : Driver) : Type 0 where
   pub pages : EachAfter (IsPageRun frames earlier) [] driver.pages
   pub script : IsScript driver.script
   pub bios : AllByRecursion (LoadsFrom driver.pages) driver.script
 
--- how many bytes the loads of drivers have, all together
+-- how many bytes the loads of all drivers count together
 abbrev pub loaded_of : List Driver → ℕ
 loaded_of drivers = sum_by (λ d. sum_by loaded_by d.script) drivers
 
--- how many bytes drivers and devices read, all together
+-- how many bytes all drivers and their devices read together
 abbrev pub read_of : List Driver → ℕ
 read_of drivers = sum_by (λ d. sum_by read_by d.script) drivers
 
+-- a valid scenario: its runs of frames and its drivers are valid, it keeps every limit, and its order names only its
+-- drivers
 pub record IsValid (s : Scenario) : Type 0 where
   pub frames : EachAfter IsFrameRun [] s.frames
   pub some_bpages : 1 ≤ s.max_bpages

@@ -31,14 +31,14 @@ op_word_text op.Ring = codes "ring"
 op_word_text op.RingPost = codes "ring_post"
 op_word_text op.Kick = codes "kick"
 
--- the words of a script
+-- the words of all operations
 abbrev pub op_words : List OpWord
 op_words =
     op.Tag ∷ op.IommuTag ∷ op.TagDestroy ∷ op.Map ∷ op.MapDestroy ∷ op.Dmamem ∷ op.DmamemFree ∷ op.Load ∷ op.LoadVector
     ∷ op.LoadMbuf ∷ op.LoadBio ∷ op.Send ∷ op.Unload ∷ op.Sync ∷ op.SyncRange ∷ op.CpuRead ∷ op.CpuWrite ∷ op.Await ∷ op.Ring
     ∷ op.RingPost ∷ op.Kick ∷ []
 
--- the word of a script that has this text
+-- the word of an operation that has this text, if there is one
 abbrev pub op_word_of : List ℕ → Option OpWord
 op_word_of text = find (λ w. bytes_eq (op_word_text w) text) op_words
 
@@ -52,11 +52,11 @@ item_word_text item.DevReadAt = codes "dev_read_at"
 item_word_text item.DevWriteAt = codes "dev_write_at"
 item_word_text item.RingStep = codes "ring_step"
 
--- the words of items
+-- the words of all items
 abbrev pub item_words : List ItemWord
 item_words =
     item.Sync ∷ item.SyncRange ∷ item.DevRead ∷ item.DevWrite ∷ item.DevReadAt ∷ item.DevWriteAt ∷ item.RingStep ∷ []
 
--- the word of an item that has this text
+-- the word of an item that has this text, if there is one
 abbrev pub item_word_of : List ℕ → Option ItemWord
 item_word_of text = find (λ w. bytes_eq (item_word_text w) text) item_words

@@ -1,4 +1,4 @@
-//! What a step answers.
+//! The answers of steps.
 
 ghost use Rattle.std.specs.Prelude.{◌≡◌};
 ghost use Rattle.busdma_base.specs.Journals.Reports.{is_report};
@@ -11,28 +11,28 @@ use std::alloc::AllocError;
 pub enum Answer {
     /// It was done.
     Done,
-    /// A tag or a map was made, or could not be, and this many pages came to its zone.
+    /// A tag or a map was made or refused, and its zone grew by this many pages.
     Grown(Grown),
     /// A dmamem memory was made, with its first byte at this physical address.
     Placed(Pa),
     /// The load has these segments.
     Segments(ListOf<Segment>),
-    /// The load waits: it has `have` of the `need` pages that it needs.
+    /// The load waits: `have` of the `need` pages that it needs are reserved for it.
     InProgress { have: u32, need: u32 },
-    /// A page was released, and so many maps moved to the callback list.
+    /// A page was released, and this many maps moved to the callback list.
     Served(u32),
     /// These bytes were read.
     Bytes(ListOf<u8>),
     /// The device found no descriptor of its own in the ring.
     Idle,
-    /// bus_dma(9) refuses it.
+    /// The call of bus_dma(9) returns this error, or its callback receives it.
     Refused(Errno),
-    /// It is outside the rules, and was not done.
+    /// The step broke a rule, and was not done.
     Report(Report),
 }
 
 impl Answer {
-    /// Whether the step was outside the rules.
+    /// Returns whether the step broke a rule.
     pub fn is_report(&self) -> bool
         ensures { result ≡ is_report self.now }
     {

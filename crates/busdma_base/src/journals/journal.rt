@@ -1,13 +1,13 @@
-//! What a run did, step by step.
+//! Journals: what a run did, step by step.
 
 use crate::journals::Answer;
 use busdma_machine::{LaneId, ListOf, MapId, Pa, ZoneCounts};
 use std::alloc::AllocError;
 
-/// One of the three that act for a driver.
+/// One of the three sides that act for a driver.
 #[derive(Clone, Copy, Debug, PartialEq, Eq)]
 pub enum Side {
-    /// The driver itself, along its script; pages that it gives back go first.
+    /// The driver itself, along its script. Pages that it gives back go first.
     Script,
     /// Its device, along the transfer queue.
     Transfer,
@@ -27,7 +27,7 @@ pub struct Actor {
 pub enum Did {
     /// The operation at this place of the script.
     Op(u32),
-    /// The resend of the send at this place of the script: its load from the clusters.
+    /// The resend of the send at this place of the script: it loads the clusters.
     Again(u32),
     /// It gave back the page at this physical address, which the map held.
     Release { map: MapId, page: Pa },
@@ -59,7 +59,7 @@ impl Clone for JournalEntry {
     }
 }
 
-/// How a run ends, where no actor can step.
+/// How a run ends, once no actor can step.
 #[derive(Clone, Copy, Debug, PartialEq, Eq)]
 pub enum End {
     /// Every script has ended.
@@ -68,7 +68,7 @@ pub enum End {
     Stuck,
 }
 
-/// A whole run: its steps in order, the counts of every zone after them, and its end.
+/// A complete run: its steps in order, the counts of every zone after them, and its end.
 #[derive(Debug, Drop)]
 pub struct Journal {
     pub entries: ListOf<JournalEntry>,

@@ -1,4 +1,4 @@
-//! What a load loads.
+//! The buffers of loads.
 
 ghost use Rattle.std.specs.Prelude.{◌≡◌};
 ghost use Rattle.busdma_base.specs.Scenarios.Buffers.{buffer_word};
@@ -6,9 +6,9 @@ ghost use Rattle.busdma_base.specs.Scenarios.Buffers.{buffer_word};
 use crate::scenarios::{OpWord, Place};
 use busdma_machine::{Bio, ListOf, Mbuf, Span};
 
-/// What a load loads, and so which of bus_dma(9)'s loads it is: `bus_dmamap_load`, a vector,
-/// `bus_dmamap_load_mbuf` or `bus_dmamap_load_bio`; or the send path of a network driver. Lengths are
-/// in bytes.
+/// The buffer of a load, which decides which load of bus_dma(9) it is: `bus_dmamap_load`, the load of
+/// a vector, `bus_dmamap_load_mbuf` or `bus_dmamap_load_bio`; or the send path of a network driver.
+/// Lengths are in bytes.
 #[derive(Debug, Drop)]
 pub enum Buffer {
     /// `len` bytes from a place on.
@@ -22,9 +22,9 @@ pub enum Buffer {
     Mbuf(ListOf<Mbuf>),
     /// The bytes of a bio.
     Bio(Bio),
-    /// The bytes of an mbuf chain, in order. Where they have too many segments they are copied to
-    /// `clusters` and loaded from there once more: as many bytes of clusters of 4096 bytes as the chain
-    /// has, or None where the clusters are too few.
+    /// The bytes of an mbuf chain, in order. If they have too many segments, they are copied to
+    /// `clusters` and loaded again from there. `clusters` has as many bytes as the chain, in clusters of
+    /// 4096 bytes. It is `None` if there are too few clusters.
     Send {
         chain: ListOf<Mbuf>,
         clusters: Option<ListOf<Span>>,
@@ -32,7 +32,7 @@ pub enum Buffer {
 }
 
 impl Buffer {
-    /// The word of the operation that loads it.
+    /// Returns the word of the operation that loads the buffer.
     pub fn word(&self) -> OpWord
         ensures { result ≡ buffer_word self.now }
     {

@@ -1,4 +1,4 @@
-//! What an operation and an item are about, each told once.
+//! What each operation and each item is about: its word, its names, and the bytes that it works on.
 
 ghost use Rattle.std.specs.Prelude.{◌≡◌, [], None, Some, option_map, slice_get};
 ghost use Rattle.busdma_base.specs.Scenarios.Names as names;
@@ -7,42 +7,42 @@ ghost use Rattle.busdma_base.specs.Scenarios.Operations as operations;
 use crate::Name;
 use crate::scenarios::{Buffer, Item, ItemWord, Op, OpWord};
 
-/// What a name of a script stands for.
+/// The kind of thing that a name of a script names.
 #[derive(Clone, Copy, Debug, PartialEq, Eq)]
 pub enum NameKind {
     Tag,
     IommuTag,
     Map,
-    /// A dmamem memory, and the map of its own.
+    /// A dmamem memory together with its own map.
     Memory,
     Ring,
 }
 
-/// As what an operation or an item uses a name.
+/// The kind of thing that an operation or an item expects of a name that it uses.
 #[derive(Clone, Copy, Debug, PartialEq, Eq)]
 pub enum NameUse {
-    /// A tag that is no IOMMU tag.
+    /// A tag that is not an IOMMU tag.
     Tag,
     IommuTag,
     /// A tag of either kind.
     AnyTag,
-    /// A map, or that of a memory.
+    /// A map, which can be a memory's own.
     Map,
-    /// A map that is no memory's.
+    /// A map that is not a memory's own.
     MapAlone,
     Memory,
     Ring,
 }
 
-/// A name that an operation makes, and what it stands for.
+/// A name that an operation makes, and the kind of thing that it names.
 #[derive(Clone, Copy, Debug)]
 pub struct MadeName<'s> {
     pub kind: NameKind,
     pub name: &'s str,
 }
 
-/// A name that an operation or an item uses: as what, and the place in the script of the operation
-/// that made it.
+/// A name that an operation or an item uses: the kind of thing that is expected, and the place in the
+/// script of the operation that made the name.
 #[derive(Clone, Copy, Debug, PartialEq, Eq)]
 pub struct UsedName {
     pub used_as: NameUse,
@@ -50,7 +50,7 @@ pub struct UsedName {
 }
 
 impl NameUse {
-    /// Whether a thing of that kind can be used so.
+    /// Returns whether a thing of this kind can be used in this way.
     pub fn accepts(self, kind: NameKind) -> bool
         ensures { result ≡ names.accepts self kind }
     {
@@ -84,7 +84,7 @@ pub struct ItemAbout {
     pub uses: UsedName,
 }
 
-/// What a line of a journal names.
+/// The name that a line of a journal shows.
 #[derive(Clone, Copy, Debug)]
 pub enum Object<'s> {
     /// The name that its operation makes.
@@ -118,7 +118,7 @@ fn parent_at(parent: Option<u32>) -> Option<UsedName>
 }
 
 impl<'s> OpAbout<'s> {
-    /// An operation that makes and uses names, and has no items.
+    /// Returns an operation that makes and uses these names, and has no items.
     fn with_names(word: OpWord, makes: Option<MadeName<'s>>, uses: Option<UsedName>) -> OpAbout<'s>
         ensures word { result.word ≡ word }
         ensures makes { option_map operations.made result.makes ≡ option_map operations.made makes.entry }
@@ -135,7 +135,7 @@ impl<'s> OpAbout<'s> {
         }
     }
 
-    /// An operation that uses the map that was made at a place, and has no items.
+    /// Returns an operation that uses the map that was made at a place, and has no items.
     fn of_map(word: OpWord, made_at: u32) -> OpAbout<'s>
         ensures word { result.word ≡ word }
         ensures makes { option_map operations.made result.makes ≡ None }
@@ -148,7 +148,7 @@ impl<'s> OpAbout<'s> {
 }
 
 impl ItemAbout {
-    /// An item that uses the map that was made at a place.
+    /// Returns an item that uses the map that was made at a place.
     fn of_map(word: ItemWord, made_at: u32) -> ItemAbout
         ensures word { result.word ≡ word }
         ensures uses { result.uses ≡ operations.map_at made_at }
@@ -162,7 +162,7 @@ impl ItemAbout {
         }
     }
 
-    /// An item that uses the IOMMU tag that was made at a place.
+    /// Returns an item that uses the IOMMU tag that was made at a place.
     fn of_tag(word: ItemWord, made_at: u32) -> ItemAbout
         ensures word { result.word ≡ word }
         ensures uses { result.uses ≡ operations.iommu_tag_at made_at }
@@ -178,7 +178,7 @@ impl ItemAbout {
 }
 
 impl Op {
-    /// What the operation is about.
+    /// Returns what the operation is about.
     pub fn about(&self) -> OpAbout<'_>
         ensures word { result.word ≡ (operations.about self.now).word }
         ensures makes { option_map operations.made result.makes ≡ (operations.about self.now).makes }
@@ -243,28 +243,28 @@ impl Op {
         }
     }
 
-    /// The operation's word.
+    /// Returns the operation's word.
     pub fn word(&self) -> OpWord
         ensures { result ≡ (operations.about self.now).word }
     {
         self.about().word
     }
 
-    /// The items of the operation, in the order of the device's work.
+    /// Returns the items of the operation, in the order of the device's work.
     pub fn items(&self) -> &[Item]
         ensures { result.now ≡ operations.items_of self.now }
     {
         self.about().items
     }
 
-    /// What the operation loads, or None where it does not load.
+    /// Returns the buffer that the operation loads, or `None` if it does not load.
     pub fn loads(&self) -> Option<&Buffer>
         ensures { option_map (λ buffer. buffer.now) result ≡ (operations.about self.now).loads }
     {
         self.about().loads
     }
 
-    /// The name that a line of a journal shows for the operation, or None for an access of the
+    /// Returns the name that a line of a journal shows for the operation, or `None` for an access of the
     /// driver to its memory.
     pub fn object(&self) -> Option<Object<'_>>
         ensures { option_map operations.object result ≡ operations.object_of (operations.about self.now) }
@@ -277,7 +277,7 @@ impl Op {
         }
     }
 
-    /// The name that the operation makes, or None where it makes none.
+    /// Returns the name that the operation makes, or `None` if it makes no name.
     pub fn made_name(&self) -> Option<&str>
         ensures { option_map (λ name. name.now) result ≡ operations.name_made_by self.now }
     {
@@ -287,7 +287,7 @@ impl Op {
         }
     }
 
-    /// Whether the operation makes the name, whatever it stands for.
+    /// Returns whether the operation makes the name, for a thing of any kind.
     pub fn makes(&self, name: &str) -> bool
         ensures { result ≡ names.makes name.now self.now }
     {
@@ -297,7 +297,7 @@ impl Op {
         }
     }
 
-    /// Whether the operation makes the name, as a thing that can be used so.
+    /// Returns whether the operation makes the name, for a thing that can be used in this way.
     pub fn makes_for(&self, used_as: NameUse, name: &str) -> bool
         ensures { result ≡ names.makes_for used_as name.now self.now }
     {
@@ -309,7 +309,7 @@ impl Op {
 }
 
 impl Item {
-    /// What the item is about.
+    /// Returns what the item is about.
     pub fn about(&self) -> ItemAbout
         ensures word { result.word ≡ (operations.about_item self.now).word }
         ensures uses { result.uses ≡ (operations.about_item self.now).uses }
@@ -331,14 +331,14 @@ impl Item {
         }
     }
 
-    /// The item's word.
+    /// Returns the item's word.
     pub fn word(&self) -> ItemWord
         ensures { result ≡ (operations.about_item self.now).word }
     {
         self.about().word
     }
 
-    /// The name that the item uses.
+    /// Returns the name that the item uses.
     pub fn uses(&self) -> UsedName
         ensures { result ≡ (operations.about_item self.now).uses }
     {

@@ -1,9 +1,9 @@
-//! What stands in a driver's transfer queue.
+//! The items of a driver's transfer queue.
 
 use super::script::Item;
 
-/// An item of the transfer queue: `load_at` is the place in the script of the load that brought it,
-/// `place` its place among that load's items.
+/// An item of the transfer queue. `load_at` is the place in the script of the load or the kick that
+/// queued it, and `place` is its place among the items of that operation.
 #[derive(Debug, Drop)]
 pub struct QueuedItem {
     pub load_at: u32,

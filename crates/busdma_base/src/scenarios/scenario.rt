@@ -1,4 +1,4 @@
-//! What a scenario is.
+//! A scenario: the frames of a machine, its drivers, and an order of their steps.
 
 use crate::journals::Actor;
 use crate::scenarios::Op;
@@ -19,7 +19,7 @@ pub struct PageRun {
     pub count: u64,
 }
 
-/// A driver: its memory and what it does.
+/// A driver: its pages and its script.
 #[derive(Debug, Drop)]
 pub struct Driver {
     pub pages: ListOf<PageRun>,
@@ -28,8 +28,8 @@ pub struct Driver {
 
 /// A machine, its drivers, and an order of their steps.
 ///
-/// A bounce zone that has a map grows no further at the making of maps once it has `max_bpages`
-/// pages. The first allocation of a tag may pass that number.
+/// Once a bounce zone has a map and `max_bpages` pages, making further maps adds no page to it. The
+/// first allocation of a tag can pass that number.
 #[derive(Debug, Drop)]
 pub struct Scenario {
     pub frames: ListOf<FrameRun>,

@@ -1,23 +1,23 @@
 //! Operations of drivers and items of devices.
 //!
-//! A name that an operation makes is kept as its text. A name that it uses is kept as the place in
-//! the script of the operation that made it.
+//! A name that an operation makes is kept as its text. A name that an operation uses is kept as the
+//! place in the script of the operation that made it.
 
 use crate::Name;
 use crate::scenarios::Buffer;
 use busdma_machine::{ListOf, SpaceLimits, TagLimits, Va};
 use std::alloc::{AllocError, Global};
 
-/// Where the driver's bytes begin that an operation works on.
+/// The place at which the bytes of an operation begin.
 #[derive(Clone, Copy, Debug, PartialEq, Eq)]
 pub enum Place {
     /// At a virtual address.
     At(Va),
-    /// `off` bytes behind the begin of the memory that was made at the place `mem` of the script.
+    /// `off` bytes after the first byte of the memory that was made at the place `mem` of the script.
     In { mem: u32, off: u64 },
 }
 
-/// What is written.
+/// The bytes of a write.
 #[derive(Debug, Drop)]
 pub enum Bytes {
     /// These bytes.
@@ -29,7 +29,7 @@ pub enum Bytes {
 /// An operation of a script. Lengths and offsets are in bytes; flags and ops are sets of bits.
 #[derive(Debug, Drop)]
 pub enum Op {
-    /// Makes a tag, perhaps under a parent.
+    /// Makes a tag, which can have a parent.
     Tag {
         name: Name,
         parent: Option<u32>,
@@ -63,7 +63,7 @@ pub enum Op {
     DmamemFree {
         mem: u32,
     },
-    /// Loads a map with a buffer; its callback appends the items of `then`.
+    /// Loads a map with a buffer. Its callback appends the items of `then` to the transfer queue.
     Load {
         map: u32,
         buffer: Buffer,
@@ -74,7 +74,7 @@ pub enum Op {
     Unload {
         map: u32,
     },
-    /// A sync of the whole load of a map.
+    /// A sync of the complete load of a map.
     Sync {
         map: u32,
         ops: u32,
@@ -107,7 +107,7 @@ pub enum Op {
         slots: u32,
     },
     /// Writes a descriptor of a range of a map's load into a slot of a ring, for the device. `kind` says
-    /// what the device shall do, and `fill` what it shall write.
+    /// what the device is to do, and `fill` is the byte that it is to write.
     RingPost {
         ring: u32,
         slot: u32,
@@ -117,23 +117,23 @@ pub enum Op {
         kind: u8,
         fill: u8,
     },
-    /// Has the device of a ring take these steps, each of which is one of that ring.
+    /// Has the device of a ring take these steps, each of which is a step of that ring.
     Kick {
         ring: u32,
         steps: ListOf<Item>,
     },
 }
 
-/// An item of the transfer queue: of a load, or of a kick. Lengths are in bytes; offsets are in bytes of the map's load, and
-/// an `addr` is a device address in the address space of an IOMMU tag; ops are a set of bits.
+/// An item of the transfer queue: of a load, or of a kick. Lengths are in bytes, and offsets are in bytes of
+/// the map's load. An `addr` is a device address in the address space of an IOMMU tag. Ops are a set of bits.
 #[derive(Debug, Drop)]
 pub enum Item {
-    /// A sync of the whole load.
+    /// A sync of the complete load of a map.
     Sync {
         map: u32,
         ops: u32,
     },
-    /// A sync of `len` bytes, from `off` on.
+    /// A sync of `len` bytes of a map's load, from `off` on.
     SyncRange {
         map: u32,
         off: u64,
@@ -174,7 +174,11 @@ impl Bytes {
     ghost use Rattle.std.specs.Prelude.{◌≡◌, IfOk};
     ghost use Rattle.busdma_base.specs.Scenarios.Operations.{bytes_of};
 
-    /// The bytes, in order.
+    /// Returns the bytes, in order.
+    ///
+    /// # Errors
+    ///
+    /// `AllocError` if memory runs out.
     pub fn to_vec(&self, alloc: Global) -> Result<Vec<u8>, AllocError>
         ensures { IfOk result (λ v. v.items ≡ bytes_of self.now) }
     {

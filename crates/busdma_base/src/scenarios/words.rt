@@ -76,7 +76,7 @@ const ITEM_WORDS: [ItemWord; 7] = [
 ];
 
 impl OpWord {
-    /// The word as scenarios and reports have it.
+    /// Returns the text of the word in scenarios and reports.
     pub fn text(self) -> &'static str
         ensures text { result.now ≡ words.op_word_text self }
         ensures read_again { words.op_word_of result.now ≡ Some self }
@@ -106,7 +106,7 @@ impl OpWord {
         }
     }
 
-    /// The word of an operation that has this text, or None where no operation has it.
+    /// Returns the word of an operation that has this text, or `None` if no operation has it.
     pub fn from_text(text: &str) -> Option<OpWord>
         ensures { result ≡ words.op_word_of text.now }
     {
@@ -118,7 +118,7 @@ impl OpWord {
 }
 
 impl ItemWord {
-    /// The word as scenarios and reports have it.
+    /// Returns the text of the word in scenarios and reports.
     pub fn text(self) -> &'static str
         ensures text { result.now ≡ words.item_word_text self }
         ensures read_again { words.item_word_of result.now ≡ Some self }
@@ -134,7 +134,7 @@ impl ItemWord {
         }
     }
 
-    /// The word of an item that has this text, or None where no item has it.
+    /// Returns the word of an item that has this text, or `None` if no item has it.
     pub fn from_text(text: &str) -> Option<ItemWord>
         ensures { result ≡ words.item_word_of text.now }
     {

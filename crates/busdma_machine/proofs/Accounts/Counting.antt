@@ -12,7 +12,7 @@ weight-false : (b : Bool) → b ≡ false → weight b ≡ 0
 weight-false b e = rw e refl
 
 module _ {X : Type 0} where
-  -- a look-up by g, where g of the new element is g of the old
+  -- a look-up by g, if g of the new element is g of the old one
   pub get_or-set_as : {Y : Type 0} (g : X → Y) (xs : List X) (i j : ℕ) (y d : X) → g y ≡ g (get_or xs i d) →
       g (get_or (set xs i y) j d) ≡ g (get_or xs j d)
   get_or-set_as g [] i j y d e = refl
@@ -21,7 +21,7 @@ module _ {X : Type 0} where
   get_or-set_as g (x ∷ xs) (suc i) zero y d e = refl
   get_or-set_as g (x ∷ xs) (suc i) (suc j) y d e = get_or-set_as g xs i j y d e
 
-  -- a look-up by g, where g of the new element is no less
+  -- a look-up by g, if g of the new element is no less
   pub get_or-set_more : (g : X → ℕ) (xs : List X) (i j : ℕ) (y d : X) → g (get_or xs i d) ≤ g y →
       g (get_or xs j d) ≤ g (get_or (set xs i y) j d)
   get_or-set_more g [] i j y d e = omega arith
@@ -30,7 +30,7 @@ module _ {X : Type 0} where
   get_or-set_more g (x ∷ xs) (suc i) zero y d e = omega arith
   get_or-set_more g (x ∷ xs) (suc i) (suc j) y d e = get_or-set_more g xs i j y d e
 
-  -- a sum, where one term falls by k
+  -- a sum, if one term falls by k
   pub sum_by-set_less : (f : X → ℕ) (xs : List X) (i k : ℕ) (y d : X) → f d ≡ 0 → f y + k ≡ f (get_or xs i d) →
       sum_by f (set xs i y) + k ≡ sum_by f xs
   sum_by-set_less f [] i k y d none e = omega arith
@@ -61,7 +61,7 @@ module _ {X : Type 0} where
         ]) refl
       ]) refl
 
-  -- nothing is counted among what a function made
+  -- nothing is counted among the results of a function
   pub count_by-map_none : {Y : Type 0} (p : X → Bool) (f : Y → X) (ys : List Y) →
       ((y : Y) → p (f y) ≡ false) → count_by p (map f ys) ≡ 0
   count_by-map_none p f [] h = refl

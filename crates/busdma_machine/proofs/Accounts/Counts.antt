@@ -1,4 +1,4 @@
--- What each change of an account makes of the counts of its zones, and that it leaves the account well.
+-- How each change of an account changes the counts of its zones, and that it leaves the account well-formed.
 use Rattle.std.proofs.Common.{◌≡◌, ◌≢◌, ℕ, zero, suc, ◌+◌, ◌-◌, ◌<◌, ◌≤◌, Bool, true, false, cond, not, ◌&&◌, List, []}
 use Rattle.std.proofs.Common.{◌∷◌, ◌++◌, map, take, drop, length, get_or, refl, sym, ap, ◌∙◌, subst, arith, eqb, leb}
 use Rattle.std.proofs.Common.{ne_eqb, if◌then◌else◌, ◌==◌, inl, inr, All}
@@ -32,7 +32,7 @@ promised-le pages (w ∷ ws) =
       | false ↦ λ t. omega arith
     ]) refl
 
--- the numbers of a zone that a change leaves
+-- the numbers of a zone that a change keeps
 pub record SameZone (a b : Account) (z : ℕ) : Type 0 where
   pub zone : zone_at b z ≡ zone_at a z
   pub reserved : reserved b z ≡ reserved a z
@@ -47,7 +47,7 @@ in_zones a m z idle = inside a.zones z idle.made
     inside (x ∷ xs) zero e = omega arith
     inside (x ∷ xs) (suc z) e = omega (arith, inside xs z e)
 
--- a count of what a function made, each of which passes or none
+-- a count of the results of a function, if all of them pass or none does
 count_by-map_all : {X Y : Type 0} (p : X → Bool) (f : Y → X) (ys : List Y) →
     ((y : Y) → p (f y) ≡ true) → count_by p (map f ys) ≡ length ys
 count_by-map_all p f [] h = refl
@@ -181,7 +181,7 @@ module _ (a : Account) (m : MapId) (z need : ℕ) (inside : z < length a.zones)
     ]);
   }
 
--- what serving makes of a list of waiters of one zone
+-- how serving changes a list of waiters of one zone
 pub completed-need : (pages z : ℕ) (ws : List Waiter) → All (Lacks z) ws
     → sum_by (λ w. w.have) (left_waiting pages ws) + sum_by (λ w. w.need) (completed pages ws)
     ≡ sum_by (λ w. w.have) ws + promised pages ws
@@ -243,7 +243,7 @@ left-lacks pages z (w ∷ ws) all =
           (record { zone = lacks.zone; lacks = omega (arith, leb-false k pages t, lacks.lacks) }) rest
     ]) refl
 
--- the ready maps of a zone, where all that are added are of one zone
+-- the ready maps of a zone, if all added ones are of one zone
 ready-same : (z : ℕ) (rs ds : List Waiter) → All (λ w. w.zone.0 ≡ z) ds →
     sum_by (λ w. w.need) (filter (λ w. w.zone.0 == z) (rs ++ ds))
     ≡ sum_by (λ w. w.need) (filter (λ w. w.zone.0 == z) rs) + sum_by (λ w. w.need) ds

@@ -1,4 +1,4 @@
--- What holds of each frame of an account holds of each after a sound history.
+-- What holds of each frame of an account still holds of each frame after a sound history.
 use Rattle.std.proofs.Common.{◌≡◌, ℕ, ◌*◌, ◌%◌, ◌^◌, ◌<◌, Bool, true, false, cond, not, ◌&&◌, List, [], ◌∷◌, refl, ◌∙◌}
 use Rattle.std.proofs.Common.{subst, sym, arith, eqb, nat_lt, All}
 use Rattle.std.specs.List.{count_by, sum_by}
@@ -19,7 +19,7 @@ use Rattle.busdma_machine.proofs.Accounts.WellFormed.{well-opening}
 abbrev weight : Bool → ℕ
 weight b = cond b 1 0
 
--- a sum is nothing just where each term is
+-- a sum is 0 exactly if each term is 0
 module _ {X : Type 0} (f : X → ℕ) where
   all_none : (xs : List X) → sum_by f xs ≡ 0 → All (λ x. f x ≡ 0) xs
   all_none [] e = All-nil (λ x. f x ≡ 0)
@@ -90,7 +90,7 @@ module _ (P : ℕ → Type 0) (test : ℕ → Bool) (passes : (f : ℕ) → P f 
   each-history a es well sound each =
       none_each (account_of a es) (where-history fails a es well sound ∙ each_none a each)
 
--- where nothing but free frames is there
+-- an account that has only free frames
 pub each-opening : (P : ℕ → Type 0) (a : Account) → IsOpening a → All P a.bank → EachFrame P a
 each-opening P a opens all = record {
   bank = all;

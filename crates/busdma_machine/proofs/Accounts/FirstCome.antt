@@ -31,7 +31,7 @@ use Rattle.busdma_machine.proofs.Accounts.Counts.{in_zones, completed-zone}
 use Rattle.busdma_machine.proofs.Accounts.Order.{nobody-attached, nobody-created}
 use Rattle.busdma_machine.proofs.Accounts.WellFormed.{well-step}
 
--- those that are completed stood before those that still wait
+-- the completed maps were before the maps that still wait
 left-order : (pages : ℕ) (ws : List Waiter) →
     maps_of ws ≡ maps_of (completed pages ws) ++ maps_of (left_waiting pages ws)
 left-order pages [] = refl
@@ -44,7 +44,7 @@ left-order pages (w ∷ ws) =
       | false ↦ refl
     ]
 
--- a look-up at the place of an edit, whether there is one
+-- a look-up at the place of an edit, whether the place is in the list or not
 get_or-set_there : {X Y : Type 0} (g : X → Y) (xs : List X) (i : ℕ) (y d : X) (v : Y) → g y ≡ v →
     (get_or xs i d ≡ d → g d ≡ v) → g (get_or (set xs i y) i d) ≡ v
 get_or-set_there g [] i y d v e h = h refl

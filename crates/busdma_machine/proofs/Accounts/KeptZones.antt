@@ -1,4 +1,4 @@
--- Each zone keeps its lowaddr and its alignment, and a tag's zone serves it from its making on.
+-- Each zone keeps its lowaddr and its alignment, so a tag's zone serves it from the start.
 use Rattle.std.proofs.Common.{◌≡◌, ℕ, zero, suc, ◌<◌, max, Bool, true, false, List, [], ◌∷◌, take, length, get_or}
 use Rattle.std.proofs.Common.{refl, ap, ◌∙◌, subst, arith, eqb, leb, if◌then◌else◌, Option, Some, None}
 use Rattle.std.proofs.lemmas.Bool.{le-leb}
@@ -39,7 +39,7 @@ keeps-trans a b c s t = record {
   alignment = λ z inside. t.alignment z (omega (arith, inside, s.count)) ∙ s.alignment z inside;
 }
 
--- a zone gets another one in its place, with the same bounds
+-- a zone is replaced by one with the same bounds
 pub keeps-with_zone : (a b : Account) (z : ℕ) (k : Zone) → b.zones ≡ (with_zone a z k).zones →
     k.lowaddr ≡ (zone_at a z).lowaddr → k.alignment ≡ (zone_at a z).alignment → KeepsZones a b
 keeps-with_zone a b z k is low aligned = record {
@@ -144,7 +144,7 @@ keeps-history a [] = keeps-all a a refl
 keeps-history a (e ∷ es) =
     keeps-trans a (after_entry e a) _ (keeps-step e.lane.0 e.call a) (keeps-history (after_entry e a) es)
 
--- the zone of a tag serves it where it is made
+-- the zone of a tag serves it once it is looked up or made
 serves-new : (t : TagLimits) → serves_tag t (new_zone t) ≡ true
 serves-new t =
     rw (le-leb t.alignment (max t.alignment 4096) (omega arith), le-leb t.lowaddr.0 t.lowaddr.0 (omega arith)) refl
@@ -159,7 +159,7 @@ serves-found t (z ∷ zs) =
       | false ↦ λ e. serves-found t zs
     ]) refl
 
--- and so long as its bounds stay
+-- the zone of a tag serves it as long as its bounds stay the same
 serves-kept : (t : TagLimits) (a b : Account) (z : ℕ) → z < length a.zones → KeepsZones a b →
     serves_tag t (zone_at a z) ≡ true → serves_tag t (zone_at b z) ≡ true
 serves-kept t a b z inside kept serves = rw (kept.lowaddr z inside, kept.alignment z inside) serves
@@ -170,7 +170,7 @@ serves-after t a b es kept =
     serves-kept t (with_zone_for t a) (account_of b es) (zone_of t a.zones) (zone_of-inside t a.zones)
     (keeps-trans (with_zone_for t a) b _ kept (keeps-history b es)) (serves-found t a.zones)
 
--- the zone that a reply tells
+-- the zone that a reply names
 abbrev told : HubReply → ℕ
 told (Grown g) = g.zone.0
 told _ = 0

@@ -1,4 +1,4 @@
--- What is one lane's in a history that goes on, and what a door adds to it.
+-- The entries of one lane in a history that grows, and what a door adds to it.
 use Rattle.std.proofs.Common.{◌≡◌, ◌≢◌, ℕ, Bool, true, false, IsTrue, ◌==◌, List, [], ◌∷◌, ◌++◌, All}
 use Rattle.std.proofs.Common.{refl, sym, ap, ◌∙◌, append-nil, eq-eqb, ne_eqb}
 use Rattle.std.proofs.lemmas.List.Elements.{All-nil, All-cons, All-head, All-tail, filter-append}
@@ -14,7 +14,7 @@ pub account_of-append : (a : Account) (es fs : List HoldEntry)
 account_of-append a [] fs = refl
 account_of-append a (e ∷ es) fs = account_of-append (after_entry e a) es fs
 
--- what comes after the beginning of a sound history is sound after it
+-- the rest of a sound history is sound after its first part
 pub sound-rest : (a : Account) (es fs : List HoldEntry) → IsSound a (es ++ fs) → IsSound (account_of a es) fs
 sound-rest a [] fs s = s
 sound-rest a (e ∷ es) fs s = sound-rest (after_entry e a) es fs s.1
@@ -45,7 +45,7 @@ others_away serves lane (h ∷ hs) served apart =
     (λ e. true≢false (sym served ∙ (ap serves (sym e) ∙ All-head IsUnserved h hs apart)))
     (others_away serves lane hs served (All-tail IsUnserved h hs apart))
 
--- where holds of others came next, a lane that the door serves has the entries that it had
+-- if holds of others came next, a lane that the door serves has the entries that it had
 pub own-passes : (lane : ℕ) (d e : Seen) (others : List HoldEntry) → IsTrue (d.serves lane) → Passes d others e
     → of_lane lane e.history ≡ of_lane lane d.history
 own-passes lane d e others served p =

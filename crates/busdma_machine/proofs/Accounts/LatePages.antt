@@ -1,4 +1,4 @@
--- Where maps wait, what is promised to none, or to a map behind the first, came late.
+-- If maps wait, the pages that are promised to no map, or to a map after the first, are no more than came late.
 use Rattle.std.proofs.Common.{◌≡◌, ℕ, zero, suc, ◌+◌, ◌-◌, ◌<◌, ◌≤◌, Bool, true, false, List, [], ◌∷◌, ◌++◌, take}
 use Rattle.std.proofs.Common.{drop, length, get_or, set, refl, sym, ap, subst, arith, eqb, leb, if◌then◌else◌}
 use Rattle.std.proofs.Common.{Option, Some, None, ◌==◌, inl, inr, All}
@@ -41,12 +41,12 @@ use Rattle.busdma_machine.proofs.Accounts.Names.{get_or-zones_for}
 use Rattle.busdma_machine.proofs.Accounts.Order.{nobody-attached, nobody-created}
 use Rattle.busdma_machine.proofs.Accounts.WellFormed.{account-well, held-inside, well-opening, well-step}
 
--- where maps wait, so many free pages, and what is promised behind the first of them, are no more than n
+-- if maps wait, the free pages and the pages that are promised after the first map are no more than n
 abbrev Spare : ℕ → ℕ → List Waiter → Type 0
 Spare n f [] = Unit {0}
 Spare n f (w ∷ ws) = f + sum_by (λ (x : Waiter). x.have) ws ≤ n
 
--- the same maps wait, and no more pages are free than the reply tells
+-- the same maps wait, and the free pages grew by no more than the reply says
 kept : (z n f g : ℕ) (r : HubReply) (ws vs : List Waiter) → vs ≡ ws → g ≤ f + grown_by z r → Spare n f ws →
     Spare (late_with z n r ws) g vs
 kept z n f g r ws vs same few h = subst (λ k. Spare (late_with z n r ws) g k) (sym same) (by ws h)
@@ -69,7 +69,7 @@ pushed z n f g r (w ∷ ws) x none all h =
       sum_by-cons (λ (y : Waiter). y.have) x [],
     )
 
--- what is promised behind the first
+-- how many pages are promised to the maps after the first
 abbrev behind : List Waiter → ℕ
 behind [] = 0
 behind (w ∷ ws) = sum_by (λ (x : Waiter). x.have) ws
@@ -78,7 +78,7 @@ behind-le : (ws : List Waiter) → behind ws ≤ sum_by (λ (x : Waiter). x.have
 behind-le [] = omega arith
 behind-le (w ∷ ws) = omega (arith, sum_by-cons (λ (x : Waiter). x.have) w ws)
 
--- serving leaves no free page where maps wait on, and promises none behind the first
+-- if maps still wait after serving, no page is free and none is promised after the first map
 left-spare : (n pages f : ℕ) (ws : List Waiter) → f + promised pages ws ≡ pages → behind ws ≤ n →
     Spare n f (left_waiting pages ws)
 left-spare n pages f [] all h = tt
@@ -105,14 +105,14 @@ take-short zero xs = omega arith
 take-short (suc n) [] = omega arith
 take-short (suc n) (x ∷ xs) = omega (arith, take-short n xs)
 
--- a look-up at the place of an edit, whether there is one
+-- a look-up at the place of an edit, whether the place is in the list or not
 set-there : {X : Type 0} (P : X → Type 0) (xs : List X) (i : ℕ) (y d : X) → P y → P (get_or xs i d) →
     P (get_or (set xs i y) i d)
 set-there P [] i y d new old = old
 set-there P (x ∷ xs) zero y d new old = new
 set-there P (x ∷ xs) (suc i) y d new old = set-there P xs i y d new old
 
--- that the account after a call with a reply keeps it
+-- the account after a call with a reply keeps the bound
 abbrev Keeps : ℕ → Account → HubReply → Account → Type 0
 Keeps z a r b = (n : ℕ) → Spare n (free a z) (zone_at a z).wait →
     Spare (late_with z n r (zone_at a z).wait) (free b z) (zone_at b z).wait
@@ -122,7 +122,7 @@ like : (z : ℕ) (a b : Account) (r : HubReply) → (zone_at b z).wait ≡ (zone
 like z a b r same few n h = kept z n (free a z) (free b z) r (zone_at a z).wait (zone_at b z).wait same few h
 
 module _ (z : ℕ) where
-  -- growth brings no more pages than it tells
+  -- growth brings no more pages than its reply says
   grown-room : (b : Account) (y n : ℕ) →
       length (zone_at (grown b y n) z).avail ≤ length (zone_at b z).avail + (if y == z then n else 0)
   grown-room b y n =

@@ -37,7 +37,7 @@ use Rattle.busdma_machine.proofs.Accounts.WellFormed.{well-step, well-opening}
 abbrev weight : Bool → ℕ
 weight b = cond b 1 0
 
--- no zone gets lower, and each has the same pages, as have the maps
+-- no zone gets a lower lowaddr, and zones and maps keep their pages
 low-like : (a b : Account) → ((z : ℕ) → (zone_at a z).lowaddr ≤ (zone_at b z).lowaddr) →
     ((z : ℕ) → (zone_at b z).avail ≡ (zone_at a z).avail) → b.held ≡ a.held → PagesLieLow a → PagesLieLow b
 low-like a b higher avail held low = record {
@@ -50,7 +50,7 @@ low-like a b higher avail held low = record {
       (λ h e. omega (arith, e, higher h.zone)) a.held low.held);
 }
 
--- what holds of the new element and of an old one holds of what stands in its place
+-- what holds of the new element and of the old one holds of the element at its place after the edit
 get_or-set_any : (Q : Zone → Type 0) (zs : List Zone) (i j : ℕ) (k : Zone) → Q k →
     Q (get_or zs j no_zone) → Q (get_or (set zs i k) j no_zone)
 get_or-set_any Q [] i j k new old = old
@@ -59,7 +59,7 @@ get_or-set_any Q (z ∷ zs) zero (suc j) k new old = old
 get_or-set_any Q (z ∷ zs) (suc i) zero k new old = old
 get_or-set_any Q (z ∷ zs) (suc i) (suc j) k new old = get_or-set_any Q zs i j k new old
 
--- a zone gets another one in its place, with the same lowaddr and low pages, and maps hold other pages that lie low
+-- a zone is replaced by one with the same lowaddr and low pages, and maps hold other pages that lie low
 low-with_zone : (a b : Account) (z : ℕ) (k : Zone) → b.zones ≡ (with_zone a z k).zones →
     k.lowaddr ≡ (zone_at a z).lowaddr → All (EndsWithin (zone_at a z).lowaddr) k.avail
     → All (λ h. EndsWithin (zone_at a h.zone).lowaddr h.page) b.held → PagesLieLow a → PagesLieLow b
@@ -134,7 +134,7 @@ low-either : (b c : Account) (v : Bool) → PagesLieLow b → PagesLieLow c → 
 low-either b c true s t = t
 low-either b c false s t = s
 
--- the zone gets other maps or waiters
+-- a zone gets other maps or waiters
 low-same : (a b : Account) (z : ℕ) (k : Zone) → b.zones ≡ (with_zone a z k).zones → k.lowaddr ≡ (zone_at a z).lowaddr →
     k.avail ≡ (zone_at a z).avail → b.held ≡ a.held → PagesLieLow a → PagesLieLow b
 low-same a b z k is lowaddr avail held low =
@@ -195,7 +195,7 @@ low-called (w ∷ ws) lane a low =
       | false ↦ low
     ]
 
--- a page that is held of a zone lies low
+-- a held page of a zone lies low
 held_low : (a : Account) (m : MapId) (z page : ℕ) (hs : List Held) → 1 ≤ count_by (is_holding m z page) hs →
     All (λ h. EndsWithin (zone_at a h.zone).lowaddr h.page) hs → EndsWithin (zone_at a z).lowaddr page
 held_low a m z page [] some all = absurd (omega (arith, some))

@@ -1,4 +1,4 @@
--- A call of one name leaves what bears on another name, of whatever lane.
+-- A call for one name changes nothing that the account has of another name, of any lane.
 use Rattle.std.proofs.Common.{◌≡◌, ◌≢◌, ℕ, zero, suc, ◌+◌, ◌-◌, Bool, true, false, cond, not, ◌&&◌, List, [], ◌∷◌}
 use Rattle.std.proofs.Common.{◌++◌, map, take, drop, length, get_or, refl, sym, ap, ◌∙◌, subst, arith, eqb, leb}
 use Rattle.std.proofs.Common.{ne_eqb, if◌then◌else◌, Option, Some, None}
@@ -91,7 +91,7 @@ waits-served p pages (w ∷ ws) h =
       )
     ]
 
--- zones that are added hold nothing
+-- added zones have no page, map or waiter
 module _ (t : TagLimits) where
   pub get_or-zones_for : {Y : Type 0} (g : Zone → Y) → g (new_zone t) ≡ g no_zone → (zs : List Zone) (z : ℕ) →
       g (get_or (zones_for t zs) z no_zone) ≡ g (get_or zs z no_zone)
@@ -114,7 +114,7 @@ module _ (t : TagLimits) where
             [ true ↦ refl | false ↦ sum_by-zones_for f e xs ]),
       )
 
--- names that are not apart are one
+-- names that are not different are the same
 pub same_map-same : (m n : MapId) → same_map m n ≡ true → m ≡ n
 same_map-same m n e =
     ap (λ k. record { lane = record { 0 = k }; made_at = m.made_at })
@@ -128,7 +128,7 @@ same_map-self m = rw (eq-eqb m.lane.0 m.lane.0 refl, eq-eqb m.made_at m.made_at 
 pub same_map-apart : (lane : ℕ) (m n : MapId) → m.lane.0 ≡ lane → n.lane.0 ≢ lane → same_map m n ≡ false
 same_map-apart lane m n own other = rw (ne_eqb m.lane.0 n.lane.0 (λ e. other (sym e ∙ own))) refl
 
--- what is the name's is not the other's
+-- what belongs to one name does not belong to another
 pub off_name : (m n k : MapId) → same_map m n ≡ false → same_map m k ≡ true → same_map n k ≡ false
 off_name m n k off here =
     (elim (same_map n k) as (λ v. same_map n k ≡ v → v ≡ false) [
@@ -136,7 +136,7 @@ off_name m n k off here =
       | false ↦ λ e. refl
     ]) refl
 
--- a test that no waiter of another name passes, and for which what a waiter has is nothing
+-- a test that no waiter of another name passes, and that ignores how many pages a waiter has
 pub record OnName (m : MapId) (test : Waiter → Bool) : Type 0 where
   pub apart : (w : Waiter) → same_map m w.map ≡ false → test w ≡ false
   pub have : (w : Waiter) (k : ℕ) → test (record w { have = k }) ≡ test w
@@ -148,7 +148,7 @@ pub one_waiter : (m : MapId) (z need : ℕ) → OnName m (is_waiting m z need)
 one_waiter m z need =
     record { apart = λ w e. and_none (eqb w.need need) _ (and_none (eqb w.zone.0 z) _ e); have = λ w k. refl }
 
--- another account with the same zones' maps, held pages and memories
+-- an account with the same maps of zones, held pages and memories
 pub other_zones : (m : MapId) (a b : Account) →
     ((z : ℕ) → count_by (same_map m) (zone_at b z).maps ≡ count_by (same_map m) (zone_at a z).maps) →
     sum_by (λ (z : Zone). count_by (same_map m) z.maps) b.zones
@@ -177,7 +177,7 @@ name-with_zone m a z zone maps waits =
     (λ test on. ap (λ k. k + count_by test a.ready)
     (sum_by-set_like (λ (s : Zone). count_by test s.wait) a.zones z zone no_zone refl (waits test on))) refl refl
 
--- other pages held
+-- an account with other held pages
 pub name-held : (m : MapId) (a : Account) (held : List Held) →
     count_by (λ (h : Held). same_map m h.map) held ≡ count_by (λ (h : Held). same_map m h.map) a.held
     → ((z p : ℕ) → count_by (is_holding m z p) held ≡ count_by (is_holding m z p) a.held) →
@@ -311,7 +311,7 @@ module _ (m n : MapId) (off : same_map m n ≡ false) where
         frames = frames-filter (λ x. not (same_map n x.mem)) a.mems keeps;
       }
 
--- what a call does to every name
+-- what a call changes for every name
 pub waiters-served : (m : MapId) (a : Account) (z : ℕ) (test : Waiter → Bool) → OnName m test →
     waiters test (served a z) ≡ waiters test a
 waiters-served m a z test on =

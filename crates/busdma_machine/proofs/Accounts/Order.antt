@@ -1,4 +1,4 @@
--- In which order maps that wait are served and called back.
+-- The order in which waiting maps are served and called back.
 use Rattle.std.proofs.Common.{◌≡◌, ℕ, suc, ◌+◌, ◌-◌, ◌<◌, Bool, true, false, List, [], ◌∷◌, ◌++◌, take, drop, length}
 use Rattle.std.proofs.Common.{refl, sym, ap, ◌∙◌, subst, arith, eqb, leb, if◌then◌else◌, Option, Some, None}
 use Rattle.std.proofs.lemmas.Bool.{leb-true, leb-false}
@@ -26,7 +26,7 @@ use Rattle.busdma_machine.specs.Bounce.ServingOrder.{ServesInOrder, maps_of, joi
 use Rattle.busdma_machine.proofs.Accounts.Counting.{get_or-set_as}
 use Rattle.busdma_machine.proofs.Accounts.Names.{get_or-zones_for}
 
--- a change that leaves the lists of maps and the held pages
+-- a change that keeps the lists of maps and the held pages
 nobody-like : (a b : Account) → b.held ≡ a.held → b.ready ≡ a.ready →
     ((z : ℕ) → (zone_at b z).wait ≡ (zone_at a z).wait) → ServesNobody a b
 nobody-like a b held ready waits =
@@ -73,7 +73,7 @@ nobody-created m t first_done a =
     let same : ServesNobody a c = nobody-trans a b c (nobody-with_zone_for t a) (nobody-grown b z _) in
     nobody-either a c (with_map c z m) _ same (nobody-trans a c _ same (nobody-with_map c z m))
 
--- serving goes by the front of the list
+-- serving begins at the front of the list
 pub serves_front : (pages : ℕ) (ws : List Waiter) → ServesFront pages ws (completed pages ws) (left_waiting pages ws)
 serves_front pages [] = record { count = 0; leave = refl; enough = omega arith; stay = refl; too_few = tt }
 serves_front pages (w ∷ ws) =

@@ -1,4 +1,4 @@
--- No call makes a frame or loses one.
+-- No call adds or loses a frame.
 use Rattle.std.proofs.Common.{◌≡◌, ℕ, zero, suc, ◌+◌, ◌*◌, ◌<◌, ◌≤◌, Bool, true, false, cond, not, List, [], ◌∷◌, ◌++◌}
 use Rattle.std.proofs.Common.{map, take, drop, length, get_or, refl, sym, ap, ◌∙◌, arith, eqb, leb, ne_eqb}
 use Rattle.std.proofs.Common.{if◌then◌else◌, ◌==◌, Option, Some, None, nat_lt, Contains}
@@ -37,7 +37,7 @@ use Rattle.busdma_machine.proofs.Accounts.WellFormed.{held-inside, well-step, we
 abbrev weight : Bool → ℕ
 weight b = cond b 1 0
 
--- a list of frames as what is taken and what is left
+-- a list of frames is what is taken from it and what is left
 count-split : (chosen : ℕ → Bool) (n : ℕ) (fs : List ℕ) →
     count_by chosen (take n fs) + count_by chosen (drop n fs) ≡ count_by chosen fs
 count-split chosen n fs = sum_by-take-drop (λ f. weight (chosen f)) fs n
@@ -147,7 +147,7 @@ where-zones_for : (chosen : ℕ → Bool) (t : TagLimits) (a : Account) →
     frames_where chosen (with_zone_for t a) ≡ frames_where chosen a
 where-zones_for chosen t a = omega (arith, sum_by-zones_for t (λ (k : Zone). count_by chosen k.avail) refl a.zones)
 
--- the zone of a tag is one of the zones that are made for it
+-- the zone of a tag is among the zones once a missing one is added
 pub zone_of-inside : (t : TagLimits) (zs : List Zone) → zone_of t zs < length (zones_for t zs)
 zone_of-inside t [] = omega arith
 zone_of-inside t (z ∷ zs) =

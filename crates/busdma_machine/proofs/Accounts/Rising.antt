@@ -34,7 +34,7 @@ tail_rises : (f : ℕ) (fs : List ℕ) → IsRising (f ∷ fs) → IsRising fs
 tail_rises f [] rising = tt
 tail_rises f (g ∷ gs) rising = rising.1
 
--- a list rises where its first frame is below all others, which rise
+-- a list rises if its first frame is below all others and the others rise
 cons_rises : (f : ℕ) (fs : List ℕ) → All (λ g. f < g) fs → IsRising fs → IsRising (f ∷ fs)
 cons_rises f [] above rising = tt
 cons_rises f (g ∷ gs) above rising = (All-head (λ x. f < x) g gs above, rising)
@@ -68,7 +68,7 @@ above_put low f (g ∷ gs) first above =
           (above_put low f gs first (All-tail (λ x. low < x) g gs above))
     ]
 
--- a frame that is not there comes to its place
+-- a new frame is put in its place
 put_rises : (f : ℕ) (gs : List ℕ) → IsRising gs → times f gs ≡ 0 → IsRising (put_in f gs)
 put_rises f [] rising new = tt
 put_rises f (g ∷ gs) rising new =

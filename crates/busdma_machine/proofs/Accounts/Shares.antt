@@ -1,4 +1,4 @@
--- An entry of one lane leaves what bears on another.
+-- An entry of one lane changes nothing that concerns another lane.
 use Rattle.std.proofs.Common.{◌≡◌, ◌≢◌, ℕ, Bool, true, false, List, [], ◌∷◌, take, refl, sym, ◌∙◌, subst, eqb, leb}
 use Rattle.std.proofs.Common.{if◌then◌else◌, Option, Some, None, All, IsTrue}
 use Rattle.std.proofs.lemmas.Bool.{eqb-true}
@@ -47,7 +47,7 @@ called_other m a caller (w ∷ ws) e other =
       | false ↦ λ t. Same-refl (share m a)
     ]) refl
 
--- a call that its condition allows to one lane leaves each name of another
+-- an allowed call of one lane changes nothing that the account has of another lane's names
 pub names-step : (m : MapId) (a : Account) (caller : ℕ) (c : HubCall) → MayCall caller c a → caller ≢ m.lane.0 →
     Same (share m a) (share m (account_step caller c a).account)
 names-step m a caller (AttachTag t) may other = name-attached m t a
@@ -87,7 +87,7 @@ could_bounce-same : (t : TagLimits) (a b : Account) → b.maxmem ≡ a.maxmem �
     IsTrue (could_bounce t a.maxmem) → IsTrue (could_bounce t b.maxmem)
 could_bounce-same t a b e may = subst (λ k. IsTrue (could_bounce t k)) (sym e) may
 
--- the condition of a call is about these numbers alone
+-- the condition of a call depends only on these numbers
 pub MayCall-same : (lane : ℕ) (a b : Account) (c : HubCall) → SameFor lane a b → MayCall lane c a → MayCall lane c b
 MayCall-same lane a b (AttachTag t) s may = (could_bounce-same t a b s.maxmem may.0, may.1)
 MayCall-same lane a b (CreateMap m t first_done) s may =
@@ -150,7 +150,7 @@ pub maxmem-history : (a : Account) (es : List HoldEntry) → (account_of a es).m
 maxmem-history a [] = refl
 maxmem-history a (e ∷ es) = maxmem-history (after_entry e a) es ∙ maxmem-step e.lane.0 e.call a
 
--- sound entries of other lanes leave what bears on a lane
+-- sound entries of other lanes change nothing that concerns a lane
 pub SameFor-history : (lane : ℕ) (a : Account) (es : List HoldEntry) → IsSound a es →
     All (λ e. e.lane.0 ≢ lane) es → SameFor lane a (account_of a es)
 SameFor-history lane a es sound others = record {
@@ -158,13 +158,13 @@ SameFor-history lane a es sound others = record {
   maxmem = maxmem-history a es;
 }
 
--- The condition of a call of one lane is kept by each sound entry of another.
+-- The condition of a lane's call still holds after each sound entry of another lane.
 pub MayCall-stays : (lane : ℕ) (c : HubCall) (a : Account) (es : List HoldEntry) → MayCall lane c a → IsSound a es →
     All (λ e. e.lane.0 ≢ lane) es → MayCall lane c (account_of a es)
 MayCall-stays lane c a es may sound others =
     MayCall-same lane a (account_of a es) c (SameFor-history lane a es sound others) may
 
--- So are the frames of each memory of a lane.
+-- The frames of each memory of a lane stay the same after sound entries of other lanes.
 pub frames-stay : (lane : ℕ) (m : MapId) (a : Account) (es : List HoldEntry) → m.lane.0 ≡ lane → IsSound a es →
     All (λ e. e.lane.0 ≢ lane) es → frames_of m (account_of a es).mems ≡ frames_of m a.mems
 frames-stay lane m a es own sound others = ((SameFor-history lane a es sound others).names m own).frames

@@ -1,4 +1,4 @@
--- A map that waits keeps its zone and its need until its callback.
+-- A waiting map keeps its zone and its need until its callback is called.
 use Rattle.std.proofs.Common.{◌≡◌, ℕ, ◌+◌, ◌<◌, ◌≤◌, Bool, true, false, cond, List, [], ◌∷◌, take, refl, sym, ap, ◌∙◌}
 use Rattle.std.proofs.Common.{subst, arith, eqb, if◌then◌else◌, Option, Some, None, Contains}
 use Rattle.std.specs.List.{count_by, sum_by}
@@ -31,14 +31,14 @@ use Rattle.busdma_machine.proofs.Accounts.Names.{name-grabbed, waiters-served}
 abbrev weight : Bool → ℕ
 weight b = cond b 1 0
 
--- the zone gets other pages or maps
+-- a zone gets other pages or maps
 waiters-with_zone : (test : Waiter → Bool) (a b : Account) (z : ℕ) (k : Zone) → b.zones ≡ (with_zone a z k).zones →
     k.wait ≡ (zone_at a z).wait → b.ready ≡ a.ready → waiters test b ≡ waiters test a
 waiters-with_zone test a b z k zones wait ready =
     rw (zones, ready) (ap (λ n. n + count_by test a.ready)
     (sum_by-set_like (λ (s : Zone). count_by test s.wait) a.zones z k no_zone refl (ap (count_by test) wait)))
 
--- fewer pass a narrower test
+-- fewer elements pass a narrower test
 count_by-narrower : {X : Type 0} (p q : X → Bool) (xs : List X) →
     ((x : X) → p x ≡ true → q x ≡ true) → count_by p xs ≤ count_by q xs
 count_by-narrower p q [] h = omega arith
@@ -99,7 +99,7 @@ module _ (m : MapId) (z need : ℕ) where
       waiters (is_waiting m z need) (handed a n y k) ≡ waiters (is_waiting m z need) a
   stays-handed a n y k = waiters-with_zone (is_waiting m z need) a (handed a n y k) y _ refl refl refl
 
-  -- a map that waits makes no wish
+  -- a waiting map asks for no pages
   stays-grabbed : (n : MapId) (y k : ℕ) (nowait : Bool) (a : Account) → IsIdle n y a →
       0 < waiters (is_waiting m z need) a →
       waiters (is_waiting m z need) (grabbed n y k nowait a).account ≡ waiters (is_waiting m z need) a

@@ -1,4 +1,4 @@
--- Every account that a sound history leads to is well.
+-- Every account that a sound history leads to is well-formed.
 use Rattle.std.proofs.Common.{◌≡◌, ℕ, ◌+◌, ◌<◌, ◌≤◌, Bool, true, false, List, [], ◌∷◌, take, drop, length, refl, ◌∙◌}
 use Rattle.std.proofs.Common.{arith, eqb, leb, if◌then◌else◌, Option, Some, None}
 use Rattle.std.proofs.lemmas.Bool.{leb-true, leb-false}
@@ -30,7 +30,7 @@ use Rattle.busdma_machine.proofs.Accounts.Names.{get_or-zones_for}
 use Rattle.busdma_machine.proofs.Accounts.Counts.{in_zones, handed-well, queued-well, held-active, release-well, shorter}
 use Rattle.busdma_machine.proofs.Accounts.Counts.{shorter-well, shorter-enough, head-inside}
 
--- a change that leaves the held pages, the lists of maps, and no fewer pages in the zones' lists
+-- a change that keeps the held pages and the lists of maps, and leaves no zone with fewer pages in its list
 pub well-like : (a b : Account) → b.held ≡ a.held → b.ready ≡ a.ready → length a.zones ≤ length b.zones
     → ((y : ℕ) → (zone_at b y).wait ≡ (zone_at a y).wait) →
     ((y : ℕ) → length (zone_at a y).avail ≤ length (zone_at b y).avail) → IsWellFormed a → IsWellFormed b
@@ -56,7 +56,7 @@ well-with_zone_for t a well =
     (λ y. get_or-zones_for t (λ (z : Zone). z.wait) refl a.zones y)
     (λ y. omega (arith, get_or-zones_for t (λ (z : Zone). length z.avail) refl a.zones y)) well
 
--- a zone gets another one in its place that has the same maps waiting and no fewer pages
+-- a zone is replaced by one that has the same waiting maps and no fewer pages
 pub well-with_zone : (a : Account) (bank : List ℕ) (z : ℕ) (k : Zone) → k.wait ≡ (zone_at a z).wait →
     length (zone_at a z).avail ≤ length k.avail → IsWellFormed a →
     IsWellFormed (with_zone (record a { bank = bank }) z k)
@@ -110,7 +110,7 @@ well-grabbed m z need nowait a idle well =
           ])
     ]) refl
 
--- a page that is held is of a zone that is there
+-- a held page belongs to a zone that exists
 pub held-inside : (a : Account) (m : MapId) (z page : ℕ) →
     times_held m z page a ≡ 1 → IsWellFormed a → z < length a.zones
 held-inside a m z page held well = grind (arith, held-active a m z page held, well.inside z)
@@ -172,6 +172,6 @@ well-opening a opening =
 pub account-well : (a : Account) (es : List HoldEntry) → IsOpening a → IsSound a es → IsWellFormed (account_of a es)
 account-well a es opening sound = well-history a es (well-opening a opening) sound
 
--- free, reserved and active pages are all
+-- free, reserved and active pages add up to all pages
 pub well-sum : (a : Account) (z : ℕ) → IsWellFormed a → free a z + reserved a z + active a z ≡ total a z
 well-sum a z well = omega (arith, well.enough z)

@@ -1,4 +1,4 @@
--- The zone of a tag is found, or stands behind all zones.
+-- The zone of a tag is one of the zones, or the new one after all of them.
 use Rattle.std.proofs.Common.{◌≡◌, ◌≢◌, suc, true, false, List, [], ◌∷◌, ◌++◌, length, refl, ap, arith, if◌then◌else◌}
 use Rattle.busdma_machine.specs.declared.tags.tag.TagLimits.{TagLimits}
 use Rattle.busdma_machine.specs.Bounce.Account.{Zone}

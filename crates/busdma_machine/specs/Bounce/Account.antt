@@ -1,13 +1,13 @@
--- The account: what all drivers share, as plain lists of frames, maps and waiters. Its pages are
--- physical addresses and hold no bytes, and all its numbers are counted anew.
+-- The account: what all drivers share, as plain lists of frames, maps and waiters. Its pages are physical addresses and
+-- hold no bytes. How many pages are free, reserved or active is not stored: the definitions count the lists.
 use Rattle.std.specs.Prelude.{ℕ, ◌+◌, ◌-◌, Bool, ◌&&◌, List, [], length, ◌==◌, slice_index_or, slice_set}
 use Rattle.std.specs.List.{count_by, sum_by, filter}
 use Rattle.busdma_machine.specs.declared.name.MapId.{MapId}
 use Rattle.busdma_machine.specs.declared.bounce.zone.Waiter.{Waiter}
 use Rattle.busdma_machine.specs.declared.bounce.zone.ZoneCounts.{ZoneCounts}
 
--- a bounce zone: its pages in list order, its living maps, the maps that wait, and how many loads waited so far and
--- then had all their pages
+-- a bounce zone: its lowaddr and alignment, its list of pages, its maps, the maps that wait in order, and how many
+-- loads have waited and then had all their pages
 pub record Zone : Type 0 where
   pub lowaddr : ℕ
   pub alignment : ℕ
@@ -27,8 +27,8 @@ pub record Memory : Type 0 where
   pub mem : MapId
   pub frames : List ℕ
 
--- the free frames, rising; the zones in order of making; the held pages; the callback list; the memories; and two
--- constants
+-- what all drivers share: the free frames, rising; the zones in order of making; the held pages; the callback list; the
+-- memories; and two constants, the end of frame numbers and the number of pages up to which zones grow for maps
 pub record Account : Type 0 where
   pub bank : List ℕ
   pub zones : List Zone
@@ -38,7 +38,7 @@ pub record Account : Type 0 where
   pub maxmem : ℕ
   pub max_bpages : ℕ
 
--- an account of free frames with the two constants, and of nothing else
+-- an account of free frames and the two constants, with nothing else in it
 abbrev pub fresh_account : List ℕ → ℕ → ℕ → Account
 fresh_account frames maxmem max_bpages = record {
   bank = frames;
@@ -50,39 +50,39 @@ fresh_account frames maxmem max_bpages = record {
   max_bpages = max_bpages;
 }
 
--- what stands past the last zone
+-- a zone with nothing in it, for a number that no zone has
 abbrev pub no_zone : Zone
 no_zone = record { lowaddr = 0; alignment = 0; avail = []; maps = []; wait = []; deferred = 0 }
 
--- the zone of a number
+-- the zone with this number
 abbrev pub zone_at : Account → ℕ → Zone
 zone_at a z = slice_index_or a.zones z no_zone
 
--- the account with another zone of that number
+-- the account with the zone of this number replaced
 abbrev pub with_zone : Account → ℕ → Zone → Account
 with_zone a z zone = record a { zones = slice_set a.zones z zone }
 
--- two names name one map, or one memory
+-- two names are the same: they name the same map or memory
 abbrev pub same_map : MapId → MapId → Bool
 same_map m n = (m.lane.0 == n.lane.0) && (m.made_at == n.made_at)
 
--- the pages of a zone that maps hold
+-- the number of a zone's pages that maps hold
 abbrev pub active : Account → ℕ → ℕ
 active a z = count_by (λ h. h.zone == z) a.held
 
--- the pages that are promised to the zone's waiters and to its maps in the callback list
+-- the number of a zone's pages that are promised to its waiting maps and to its maps in the callback list
 abbrev pub reserved : Account → ℕ → ℕ
 reserved a z = sum_by (λ w. w.have) (zone_at a z).wait + sum_by (λ w. w.need) (filter (λ w. w.zone.0 == z) a.ready)
 
--- the pages in the zone's list that are promised to nobody
+-- the number of pages in a zone's list that are promised to no map
 abbrev pub free : Account → ℕ → ℕ
 free a z = length (zone_at a z).avail - reserved a z
 
--- the pages of a zone
+-- the number of a zone's pages, in its list or with maps
 abbrev pub total : Account → ℕ → ℕ
 total a z = length (zone_at a z).avail + active a z
 
--- the counts of a zone, where so many syncs copied
+-- the counts of a zone, given how many syncs have copied
 abbrev pub counts : Account → ℕ → ℕ → ZoneCounts
 counts a bounced z = record {
   total = total a z;

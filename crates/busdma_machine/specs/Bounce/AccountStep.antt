@@ -1,4 +1,4 @@
--- What each call under the bounce lock makes of the account, and what it answers.
+-- How each call under the bounce lock changes the account, and what it replies.
 use Rattle.std.specs.Prelude.{ℕ, Bool, List, [], ◌∷◌, map, length, take, Option, Some, None, ◌==◌, nat_le}
 use Rattle.std.specs.Prelude.{if◌then◌else◌}
 use Rattle.busdma_machine.specs.declared.machine.address.Pa.{Pa}
@@ -24,11 +24,11 @@ pub record AccountReply : Type 0 where
   pub account : Account
   pub reply : HubReply
 
--- physical addresses as a reply has them
+-- physical addresses in the type that replies have
 abbrev pub as_pages : List ℕ → List Pa
 as_pages pages = map (λ p. record { 0 = p }) pages
 
--- the first allocation of a tag: its zone is looked up and grows
+-- the first allocation of a tag: its zone is looked up, or made, and grows
 abbrev pub attached : TagLimits → Account → AccountReply
 attached t a =
     let b : Account = with_zone_for t a in
@@ -36,7 +36,7 @@ attached t a =
     let growth : GrownBy = growth_for_tag t b z in
     record { account = grown b z growth.added; reply = Grown growth }
 
--- the making of a map: its zone is looked up and grows, and the map joins it where it is made
+-- the making of a map: its zone is looked up, or made, and grows; the map joins the zone if it is made
 abbrev pub created : MapId → TagLimits → Bool → Account → AccountReply
 created m t first_done a =
     let b : Account = with_zone_for t a in
@@ -45,7 +45,7 @@ created m t first_done a =
     let c : Account = grown b z growth.added in
     record { account = if growth.made then with_zone_map c z m else c; reply = Grown growth }
 
--- the wish of a map for pages: it gets them, is refused, or waits
+-- the request of a map for pages: it gets them, is refused, or waits
 abbrev pub grabbed : MapId → ℕ → ℕ → Bool → Account → AccountReply
 grabbed m z need nowait a =
     let pages : List ℕ = take need (zone_at a z).avail in
@@ -53,13 +53,14 @@ grabbed m z need nowait a =
     else if nowait then record { account = a; reply = NoPages }
     else record { account = waiting_at_tail a m z need; reply = Queued (free a z) }
 
--- the return of a page, after which its zone serves
+-- the return of a page, after which the zone serves its waiting maps
 abbrev pub released : MapId → ℕ → ℕ → Account → AccountReply
 released m z page a =
     let b : Account = returned a m z page in
     record { account = served b z; reply = Served (length (completed (free b z) (zone_at b z).wait)) }
 
--- the head of a callback list is taken by its lane, and gets its pages; nobody else takes it
+-- the request of a lane for a callback: the first map of the callback list leaves it and gets its pages, if it is the
+-- lane's
 abbrev pub called_from : List Waiter → ℕ → Account → AccountReply
 called_from [] lane a = record { account = a; reply = Nothing }
 called_from (w ∷ ws) lane a =
@@ -69,12 +70,12 @@ called_from (w ∷ ws) lane a =
     then record { account = handed b w.map w.zone.0 w.need; reply = Called w.map (as_pages pages) }
     else record { account = a; reply = Nothing }
 
--- a memory gets n frames from the first of a run on, where there is one
+-- a memory gets the n frames from the first of a run on, if there is a run
 abbrev pub memory_placed : MapId → ℕ → Option ℕ → Account → AccountReply
 memory_placed m n None a = record { account = a; reply = NoRun }
 memory_placed m n (Some first) a = record { account = with_memory_run a m first n; reply = Run (record { 0 = first }) n }
 
--- the step of a lane's call
+-- the account after a lane's call, and the reply
 abbrev pub account_step : ℕ → HubCall → Account → AccountReply
 account_step lane (AttachTag t) a = attached t a
 account_step lane (CreateMap m t first_done) a = created m t first_done a

@@ -14,19 +14,19 @@ use Rattle.busdma_machine.specs.Tags.TagFlags.{allocnow}
 abbrev pub times_made : MapId → ℕ → Account → ℕ
 times_made m z a = count_by (same_map m) (zone_at a z).maps
 
--- how often it is among the maps of zones
+-- how often a map is among the maps of these zones
 abbrev pub times_in_zones : MapId → List Zone → ℕ
 times_in_zones m zones = sum_by (λ z. count_by (same_map m) z.maps) zones
 
--- how many pages it holds
+-- how many pages a map holds
 abbrev pub pages_held : MapId → Account → ℕ
 pages_held m a = count_by (λ h. same_map m h.map) a.held
 
--- how often it holds this page of this zone
+-- how often a map holds this page of this zone
 abbrev pub times_held : MapId → ℕ → ℕ → Account → ℕ
 times_held m z page a = count_by (is_holding m z page) a.held
 
--- how often it waits, or is in the callback list
+-- how often a map is in a waiting list or in the callback list
 abbrev pub times_listed : MapId → Account → ℕ
 times_listed m a =
     sum_by (λ z. count_by (λ w. same_map m w.map) z.wait) a.zones + count_by (λ w. same_map m w.map) a.ready
@@ -35,13 +35,13 @@ times_listed m a =
 abbrev pub memories : MapId → Account → ℕ
 memories m a = count_by (λ x. same_map m x.mem) a.mems
 
--- a map of the zone holds nothing and is in no list
+-- a map of the zone is idle: it holds no page, and is in no waiting list and not in the callback list
 pub record IsIdle (m : MapId) (z : ℕ) (a : Account) : Type 0 where
   pub made : times_made m z a ≡ 1
   pub holds_nothing : pages_held m a ≡ 0
   pub in_no_list : times_listed m a ≡ 0
 
--- the condition of a lane's call: its map or memory is the lane's, and what it begins or ends can be begun or ended
+-- the condition of a lane's call: its map or memory is the lane's, and what it begins or ends can begin or end
 abbrev pub MayCall : ℕ → HubCall → Account → Type 0
 MayCall lane (AttachTag t) a = IsTrue (could_bounce t a.maxmem) × IsTrue (allocnow t.flags)
 MayCall lane (CreateMap m t first_done) a =

@@ -27,13 +27,13 @@ pub record Seen : Type 0 where
 abbrev pub account : Seen → Account
 account d = account_of d.opening d.history
 
--- a lane that the door serves may make the call
+-- a lane may make a call at the door: the door serves the lane, its history is sound, and the account allows the call
 pub record Allows (d : Seen) (lane : ℕ) (c : HubCall) : Type 0 where
   pub served : IsTrue (d.serves lane)
   pub sound : IsSound d.opening d.history
   pub may : MayCall lane c (account d)
 
--- holds of lanes that the door does not serve came next, and nothing else changed
+-- the history grew by holds of lanes that the door does not serve, and nothing else changed
 pub record Passes (d : Seen) (others : List HoldEntry) (e : Seen) : Type 0 where
   pub opening : e.opening ≡ d.opening
   pub form : IsOpening e.opening
@@ -42,7 +42,8 @@ pub record Passes (d : Seen) (others : List HoldEntry) (e : Seen) : Type 0 where
   pub history : e.history ≡ d.history ++ others
   pub sound : IsSound e.opening e.history
 
--- the door's new history is the old one, then holds of other lanes, then the call with the account's reply
+-- the call was made: the door's new history is the old one, then holds of lanes that the door does not serve, then the
+-- call with the account's reply
 pub record Holds (d : Seen) (lane : ℕ) (c : HubCall) (r : HubReply) (e : Seen) : Type 0 where
   pub between : Seen
   pub others : List HoldEntry
@@ -53,34 +54,34 @@ pub record Holds (d : Seen) (lane : ℕ) (c : HubCall) (r : HubReply) (e : Seen)
   pub history : e.history ≡ between.history ++ record { lane = record { 0 = lane }; call = c; reply = r } ∷ []
   pub sound : IsSound e.opening e.history
 
--- a callback was asked for while the callback list was empty, or its head was another lane's
+-- a lane asked for a callback and got none: the callback list was empty, or its first map was another lane's
 pub record Misses (d : Seen) (lane : ℕ) (e : Seen) : Type 0 where
   pub others : List HoldEntry
   pub passes : Passes d others e
   pub reply : (account_step lane TakeCallback (account e)).reply ≡ Nothing
 
--- memory ran out: holds of other lanes may have come next, and the call was not made
+-- memory ran out and the call was not made; only holds of lanes that the door does not serve may have been added
 pub record Fails (d e : Seen) : Type 0 where
   pub others : List HoldEntry
   pub passes : Passes d others e
 
--- the reply that the answer to a grab is
+-- the reply in the history to a request for pages, from the answer that the lane gets
 abbrev pub grab_reply : Grabbed → HubReply
 grab_reply (GrantedPages pages) = Granted (as_pages (page_addresses pages.items))
 grab_reply (QueuedPages have) = Queued have
 grab_reply NoPagesFree = NoPages
 
--- the reply that the pages of a memory are, or that there are none
+-- the reply in the history to the making of a memory, from the pages that the lane gets or their absence
 abbrev pub memory_reply : Option RoomyPages → HubReply
 memory_reply None = NoRun
 memory_reply (Some pages) = Run (record { 0 = slice_index_or (page_addresses pages.items) 0 0 }) (length pages.items)
 
--- frames at these addresses follow one another
+-- the frames at these addresses follow one another in memory
 abbrev pub IsRow : List ℕ → Type 0
 IsRow [] = Unit {0}
 IsRow (f ∷ []) = Unit {0}
 IsRow (f ∷ g ∷ fs) = (g ≡ f + 4096) × IsRow (g ∷ fs)
 
--- the pages of a memory
+-- the pages are those of a memory, by the account
 abbrev pub ArePagesOf : MapId → List ℕ → Seen → Type 0
 ArePagesOf m pages d = pages ≡ frames_of m (account d).mems

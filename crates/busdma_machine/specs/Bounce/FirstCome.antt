@@ -1,4 +1,4 @@
--- First come, first served, in one zone: which maps a history makes wait, moves to the callback list and calls back.
+-- First come, first served, in one zone: which maps began to wait, moved to the callback list and were called back.
 use Rattle.std.specs.Prelude.{ℕ, List, [], ◌∷◌, ◌++◌, ◌==◌, if◌then◌else◌}
 use Rattle.std.specs.List.{filter}
 use Rattle.busdma_machine.specs.declared.name.MapId.{MapId}
@@ -12,32 +12,32 @@ use Rattle.busdma_machine.specs.Bounce.Account.{Account, zone_at}
 use Rattle.busdma_machine.specs.Bounce.History.{after_entry}
 use Rattle.busdma_machine.specs.Bounce.ServingOrder.{maps_of, joined_by}
 
--- the map that waits for pages of a zone from a call on: one whose wish is answered Queued
+-- the map that begins to wait for pages of a zone by a call: one whose request gets the reply Queued
 abbrev pub queued_by : ℕ → HubCall → HubReply → List MapId
 queued_by z (Grab m y need nowait) (Queued have) = if y.0 == z then m ∷ [] else []
 queued_by z _ _ = []
 
--- of the maps that a call moves to the callback list, those of a zone: all, where a page of the zone comes back
+-- the maps of a zone that a call moves to the callback list, by returning a page of the zone
 abbrev pub completed_by : ℕ → HubCall → Account → List MapId
 completed_by z (Release m y page) a = if y.0 == z then joined_by (Release m y page) a else []
 completed_by z _ a = []
 
--- the map of a zone whose callback a reply calls, with this callback list before it
+-- the map of a zone whose callback a reply calls, if the callback list was this one before the call
 abbrev pub called_from : ℕ → HubReply → List Waiter → List MapId
 called_from z (Called m pages) (w ∷ ws) = if w.zone.0 == z then m ∷ [] else []
 called_from z _ _ = []
 
--- the maps that a history makes wait for pages of a zone, in order
+-- the maps that begin to wait for pages of a zone in a history, in order
 abbrev pub queued_in : ℕ → List HoldEntry → List MapId
 queued_in z [] = []
 queued_in z (e ∷ es) = queued_by z e.call e.reply ++ queued_in z es
 
--- the maps of a zone that a history moves to the callback list, in order
+-- the maps of a zone that move to the callback list in a history, in order
 abbrev pub completed_in : ℕ → Account → List HoldEntry → List MapId
 completed_in z a [] = []
 completed_in z a (e ∷ es) = completed_by z e.call a ++ completed_in z (after_entry e a) es
 
--- the maps of a zone whose callbacks a history calls, in order
+-- the maps of a zone whose callbacks are called in a history, in order
 abbrev pub called_in : ℕ → Account → List HoldEntry → List MapId
 called_in z a [] = []
 called_in z a (e ∷ es) = called_from z e.reply a.ready ++ called_in z (after_entry e a) es
@@ -50,6 +50,6 @@ waiting_in z a = maps_of (zone_at a z).wait
 abbrev pub ready_in : ℕ → Account → List MapId
 ready_in z a = maps_of (filter (λ w. w.zone.0 == z) a.ready)
 
--- the maps that stand in line at a zone: those in the callback list, and behind them those that wait
+-- the line of a zone: its maps in the callback list, followed by its maps that wait
 abbrev pub line : ℕ → Account → List MapId
 line z a = ready_in z a ++ waiting_in z a

@@ -9,18 +9,18 @@ use Rattle.busdma_machine.specs.Bounce.Account.{Account}
 use Rattle.busdma_machine.specs.Bounce.AccountStep.{account_step}
 use Rattle.busdma_machine.specs.Bounce.Conditions.{MayCall}
 
--- numbers rise, each above the one before it
+-- each number is greater than the one before it
 abbrev pub IsRising : List ℕ → Type 0
 IsRising [] = Unit {0}
 IsRising (f ∷ []) = Unit {0}
 IsRising (f ∷ g ∷ gs) = (f < g) × IsRising (g ∷ gs)
 
--- the address of a frame of a number below 2^30
+-- the address of the first byte of a frame, whose number is below 2^30
 pub record IsFrame (f : ℕ) : Type 0 where
   pub whole : f % 4096 ≡ 0
   pub numbered : f < 2 ^ 42
 
--- an account that a history can begin with: free frames, the two constants, and nothing else
+-- an account that a history can begin with: at most 8192 free frames in rising order, and nothing else
 pub record IsOpening (a : Account) : Type 0 where
   pub rising : IsRising a.bank
   pub frames : All IsFrame a.bank
@@ -34,23 +34,23 @@ pub record IsOpening (a : Account) : Type 0 where
 abbrev pub after_entry : HoldEntry → Account → Account
 after_entry e a = (account_step e.lane.0 e.call a).account
 
--- the account after a history that begins with this account
+-- the account after a history that began with this account
 abbrev pub account_of : Account → List HoldEntry → Account
 account_of a [] = a
 account_of a (e ∷ es) = account_of (after_entry e a) es
 
--- a call with this reply is an entry: the taking of a callback that found none is not
+-- a call with this reply is entered in the history, unless it asked for a callback and found none
 abbrev pub is_kept : HubCall → HubReply → Bool
 is_kept TakeCallback Nothing = false
 is_kept _ _ = true
 
--- an entry whose call the account allows, and whose reply is the account's
+-- an entry that belongs in the history: the account allows its call, and its reply is the account's
 pub record IsSoundEntry (e : HoldEntry) (a : Account) : Type 0 where
   pub may : MayCall e.lane.0 e.call a
   pub kept : IsTrue (is_kept e.call e.reply)
   pub reply : e.reply ≡ (account_step e.lane.0 e.call a).reply
 
--- each entry is sound in the account before it
+-- a history is sound: each entry is sound in the account before it
 abbrev pub IsSound : Account → List HoldEntry → Type 0
 IsSound a [] = Unit {0}
 IsSound a (e ∷ es) = IsSoundEntry e a × IsSound (after_entry e a) es

@@ -1,4 +1,4 @@
--- How many pages came to a zone while maps waited there, by the growth of the zone, which serves nobody.
+-- How many pages came to a zone while maps waited there. They came by the growth of the zone, which serves no map.
 use Rattle.std.specs.Prelude.{ℕ, ◌+◌, ◌==◌, List, [], ◌∷◌, if◌then◌else◌}
 use Rattle.std.specs.List.{filter, sum_by}
 use Rattle.busdma_machine.specs.declared.bounce.zone.Waiter.{Waiter}
@@ -8,17 +8,17 @@ use Rattle.busdma_machine.specs.declared.bounce.hold.HoldEntry.{HoldEntry}
 use Rattle.busdma_machine.specs.Bounce.Account.{Account, zone_at}
 use Rattle.busdma_machine.specs.Bounce.History.{after_entry}
 
--- how many pages a reply tells that a zone got
+-- how many pages a zone got, by a reply
 abbrev pub grown_by : ℕ → HubReply → ℕ
 grown_by z (Grown g) = if g.zone.0 == z then g.added else 0
 grown_by z _ = 0
 
--- how many came late with one more reply, where n had before and these maps waited: none where none waited
+-- how many pages of a zone have come late after one more reply, if n had before it; none if no map waited then
 abbrev pub late_with : ℕ → ℕ → HubReply → List Waiter → ℕ
 late_with z n r [] = 0
 late_with z n r (w ∷ ws) = n + grown_by z r
 
--- how many came late by a history, where n had before
+-- how many pages of a zone have come late after a history, if n had before it
 abbrev pub late_from : ℕ → ℕ → Account → List HoldEntry → ℕ
 late_from z n a [] = n
 late_from z n a (e ∷ es) = late_from z (late_with z n e.reply (zone_at a z).wait) (after_entry e a) es

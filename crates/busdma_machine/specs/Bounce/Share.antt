@@ -1,4 +1,4 @@
--- What an account has of one name, of a map or of a memory.
+-- What an account has of one map or one memory, by its name.
 use Rattle.std.specs.Prelude.{◌≡◌, ℕ, ◌+◌, Bool, ◌&&◌, List, ◌==◌}
 use Rattle.std.specs.List.{count_by, sum_by}
 use Rattle.busdma_machine.specs.declared.name.MapId.{MapId}
@@ -8,9 +8,9 @@ use Rattle.busdma_machine.specs.Bounce.Conditions.{times_made, times_in_zones, p
 use Rattle.busdma_machine.specs.Bounce.Conditions.{memories}
 use Rattle.busdma_machine.specs.Bounce.MemoryRuns.{frames_of}
 
--- how often a name is among the maps of a zone, among all maps, how many pages it holds, how often it holds a page of
--- a zone, how often it waits for so many pages of a zone or has them promised in the callback list, how often it does
--- so at all, how many memories have it, and the frames of these
+-- what an account has of a name: how often it is among the maps of a zone, and among all maps; how many pages it holds,
+-- and how often it holds a page of a zone; how often it waits for a number of pages of a zone or has them promised in
+-- the callback list, and how often it does so at all; how many memories have it, and their frames
 pub record Share : Type 0 where
   pub made : ℕ → ℕ
   pub in_zones : ℕ
@@ -21,6 +21,7 @@ pub record Share : Type 0 where
   pub mems : ℕ
   pub frames : List ℕ
 
+-- what two accounts have of a name is the same
 pub record Same (s t : Share) : Type 0 where
   pub made : (z : ℕ) → t.made z ≡ s.made z
   pub in_zones : t.in_zones ≡ s.in_zones
@@ -31,14 +32,15 @@ pub record Same (s t : Share) : Type 0 where
   pub mems : t.mems ≡ s.mems
   pub frames : t.frames ≡ s.frames
 
--- a map waits for so many pages of a zone
+-- a waiter is this map, and needs `need` pages of this zone
 abbrev pub is_waiting : MapId → ℕ → ℕ → Waiter → Bool
 is_waiting m z need w = (w.need == need) && ((w.zone.0 == z) && same_map m w.map)
 
--- how many waiters pass a test, in the zones' lists and the callback list together
+-- how many waiters pass a test, in the zones' waiting lists and the callback list together
 abbrev pub waiters : (Waiter → Bool) → Account → ℕ
 waiters test a = sum_by (λ (z : Zone). count_by test z.wait) a.zones + count_by test a.ready
 
+-- what an account has of the map or memory with this name
 abbrev pub share : MapId → Account → Share
 share m a = record {
   made = λ z. times_made m z a;

@@ -14,11 +14,11 @@ use Rattle.busdma_machine.specs.Bounce.WorkedExample.{low_tag, map_of}
 abbrev pub roomy_machine : Account
 roomy_machine = fresh_account (frames_from 8 0x10000) 0x1010 8
 
--- maps of the tag bring two pages each
+-- a tag each of whose maps asks for two pages for its zone
 abbrev pub two_page_tag : TagLimits
 two_page_tag = record low_tag { maxsize = 12288; nsegments = 2 }
 
--- the second map is made, and brings its pages, while the load of the first waits
+-- four calls of one lane: the second map is made, and its zone grows by two pages, while the load of the first waits
 abbrev pub two_loads : List (ℕ × HubCall)
 two_loads =
     (0, CreateMap (map_of 1) two_page_tag false)
@@ -27,7 +27,7 @@ two_loads =
     ∷ (0, Grab (map_of 2) (record { 0 = 0 }) 3 false)
     ∷ []
 
--- each load has two pages promised, and no map has a page
+-- the counts of the zone after the calls: each load has two pages promised, and no map has a page
 abbrev pub both_waiting : ZoneCounts
 both_waiting = record {
   total = 4;
@@ -40,7 +40,7 @@ both_waiting = record {
   alignment = 4096;
 }
 
--- the entries of calls with the account's replies
+-- the history of these calls, each with the account's reply
 abbrev pub entries_of : Account → List (ℕ × HubCall) → List HoldEntry
 entries_of a [] = []
 entries_of a (c ∷ cs) =

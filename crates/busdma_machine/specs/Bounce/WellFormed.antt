@@ -3,13 +3,14 @@ use Rattle.std.specs.Prelude.{◌≡◌, ℕ, ◌<◌, ◌≤◌, length, All}
 use Rattle.busdma_machine.specs.declared.bounce.zone.Waiter.{Waiter}
 use Rattle.busdma_machine.specs.Bounce.Account.{Account, zone_at, active, reserved}
 
--- a map that waits for pages of the zone lacks some
+-- a waiting map is in the list of its own zone, and has fewer pages than it needs
 pub record Lacks (z : ℕ) (w : Waiter) : Type 0 where
   pub zone : w.zone.0 ≡ z
   pub lacks : w.have < w.need
 
--- no page is held of a zone that is not there, no zone has more pages promised than in its list, each map that waits
--- stands in its own zone and lacks pages, and each in the callback list needs some
+-- the lists of an account fit together: no map holds a page of a zone that does not exist, no zone has more pages
+-- promised than in its list, each waiting map is in the list of its own zone and lacks pages, and each map in the
+-- callback list needs at least one page
 pub record IsWellFormed (a : Account) : Type 0 where
   pub inside : (z : ℕ) → length a.zones ≤ z → active a z ≡ 0
   pub enough : (z : ℕ) → reserved a z ≤ length (zone_at a z).avail

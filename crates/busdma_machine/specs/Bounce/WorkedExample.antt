@@ -1,4 +1,4 @@
--- Twelve calls over a small machine, their replies, and the counts after them, worked by hand.
+-- Twelve calls over a small machine, their replies, and the counts after them, worked out by hand.
 use Rattle.std.specs.Prelude.{ℕ, ◌^◌, ◌-◌, true, false, List, [], ◌∷◌, ◌++◌}
 use Rattle.busdma_machine.specs.declared.name.MapId.{MapId}
 use Rattle.busdma_machine.specs.declared.tags.tag.TagLimits.{TagLimits}
@@ -17,6 +17,7 @@ use Rattle.busdma_machine.specs.Bounce.MemoryRuns.{frames_from}
 abbrev pub small_machine : Account
 small_machine = fresh_account (frames_from 8 0x10000 ++ frames_from 16 0x1000000) 0x1010 2
 
+-- a tag whose device reaches the first 16 MiB, for loads of at most 8192 bytes
 abbrev pub low_tag : TagLimits
 low_tag = record {
   alignment = 1;
@@ -29,10 +30,11 @@ low_tag = record {
   flags = 0;
 }
 
+-- the map that the operation at place n of driver 0's script made
 abbrev pub map_of : ℕ → MapId
 map_of n = record { lane = record { 0 = 0 }; made_at = n }
 
--- each call with its lane
+-- the twelve calls of the example, each with its lane
 abbrev pub calls : List (ℕ × HubCall)
 calls =
     (0, CreateMap (map_of 1) low_tag false)
@@ -49,6 +51,7 @@ calls =
     ∷ (0, MemAlloc (map_of 4) low_tag)
     ∷ []
 
+-- the reply to each call of the example
 abbrev pub replies : List HubReply
 replies =
     Grown (record { zone = record { 0 = 0 }; added = 2; made = true })
@@ -65,6 +68,7 @@ replies =
     ∷ Run (record { 0 = 0x12000 }) 2
     ∷ []
 
+-- the counts of the zone after the calls of the example
 abbrev pub counts_after : ZoneCounts
 counts_after = record {
   total = 2;
@@ -77,12 +81,12 @@ counts_after = record {
   alignment = 4096;
 }
 
--- what calls answer, one after another
+-- the replies to calls that are made one after another
 abbrev pub answers : Account → List (ℕ × HubCall) → List HubReply
 answers a [] = []
 answers a (c ∷ cs) = let o : AccountReply = account_step c.0 c.1 a in o.reply ∷ answers o.account cs
 
--- the account after calls
+-- the account after calls that are made one after another
 abbrev pub after_calls : Account → List (ℕ × HubCall) → Account
 after_calls a [] = a
 after_calls a (c ∷ cs) = after_calls (account_step c.0 c.1 a).account cs

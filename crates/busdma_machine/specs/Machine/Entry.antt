@@ -14,7 +14,8 @@ AreJoined [] = Unit {0}
 AreJoined (e ∷ []) = Unit {0}
 AreJoined (e ∷ f ∷ es) = ((e.pa.0 + e.len) % 4096 ≡ 0) × (f.pa.0 % 4096 ≡ 0) × AreJoined (f ∷ es)
 
--- an entry's extents each lie in a frame, and one goes on in the next frame where the one before it ends its own
+-- each extent of an entry lies in one frame; each extent but the first begins its frame, and each but the last ends its
+-- frame
 pub record IsEntry (e : Entry) : Type 0 where
   pub extents : AllByRecursion IsExtent e.parts
   pub joined : AreJoined e.parts
@@ -23,7 +24,7 @@ pub record IsEntry (e : Entry) : Type 0 where
 abbrev pub entry_addresses : Entry → List ℕ
 entry_addresses e = addresses e.parts
 
--- an entry touches a frame
+-- an entry has at least one part
 abbrev pub HasPart : Entry → Type 0
 HasPart e = 0 < length e.parts
 
@@ -32,11 +33,11 @@ abbrev pub entries_addresses : List Entry → List ℕ
 entries_addresses [] = []
 entries_addresses (e ∷ es) = entry_addresses e ++ entries_addresses es
 
--- how many bytes entries have
+-- how many bytes entries have together
 abbrev pub entries_bytes : List Entry → ℕ
 entries_bytes es = sum_by (λ e. byte_count e.parts) es
 
--- a part's extent, if it has one, lies in a frame
+-- a part's extent, if it has one, lies in one frame
 abbrev pub IsPart : Part → Type 0
 IsPart (Of e opens rounded) = IsExtent e
 IsPart (Unmapped n) = Unit {0}
@@ -46,21 +47,21 @@ abbrev pub part_bytes : Part → ℕ
 part_bytes (Of e opens rounded) = e.len
 part_bytes (Unmapped n) = 0
 
--- the extents of a stream up to the next that opens an entry
+-- the extents of a stream up to the next one that opens an entry
 abbrev pub others_of : List Part → List Extent
 others_of [] = []
 others_of (Of e true r ∷ ps) = []
 others_of (Of e false r ∷ ps) = e ∷ others_of ps
 others_of (Unmapped n ∷ ps) = others_of ps
 
--- the entries of a stream: one from each extent that opens up to the next
+-- the entries of a stream: an entry begins at each extent that opens, and ends before the next that does
 abbrev pub entries_of : List Part → List Entry
 entries_of [] = []
 entries_of (Of e true r ∷ ps) = record { rounded = r; parts = e ∷ others_of ps } ∷ entries_of ps
 entries_of (Of e false r ∷ ps) = entries_of ps
 entries_of (Unmapped n ∷ ps) = entries_of ps
 
--- the first byte of a stream that cannot be reached
+-- the offset of the first byte of a stream that cannot be reached, if there is one
 abbrev pub unmapped_of : List Part → Option ℕ
 unmapped_of [] = None
 unmapped_of (Of e o r ∷ ps) = unmapped_of ps
@@ -72,15 +73,15 @@ pub record IsStream (ps : List Part) : Type 0 where
   pub entries : AllByRecursion IsEntry (entries_of ps)
   pub bytes : entries_bytes (entries_of ps) ≤ 2 ^ 20
 
--- extents as parts of a stream, of which the first opens an entry or does not
+-- extents as parts of a stream; `opens` says whether the first of them opens an entry
 abbrev pub extent_parts : Bool → Bool → List Extent → List Part
 extent_parts opens rounded [] = []
 extent_parts opens rounded (e ∷ es) = Of e opens rounded ∷ extent_parts false rounded es
 
--- the stream of an entry
+-- an entry as a stream
 abbrev pub entry_parts : Entry → List Part
 entry_parts e = extent_parts true e.rounded e.parts
 
--- the stream of entries
+-- entries as a stream, in order
 abbrev pub parts_of : List Entry → List Part
 parts_of es = flat_map entry_parts es

@@ -2,7 +2,7 @@
 use Rattle.std.specs.Prelude.{ℕ, ◌*◌, List, map}
 use Rattle.busdma_machine.specs.Machine.Page.{FrameBytes}
 
--- pages in order, and how many there is room for
+-- pages in order, and for how many there is room
 pub record RoomyPages : Type 0 where
   pub items : List FrameBytes
   pub room : ℕ
@@ -11,10 +11,10 @@ pub record RoomyPages : Type 0 where
 abbrev pub page_address : FrameBytes → ℕ
 page_address p = 4096 * p.frame
 
--- those of pages, in order
+-- the physical addresses of the first bytes of pages, in order
 abbrev pub page_addresses : List FrameBytes → List ℕ
 page_addresses pages = map page_address pages
 
--- the frames of pages, in order
+-- the frame numbers of pages, in order
 abbrev pub frames_of : List FrameBytes → List ℕ
 frames_of pages = map (λ p. p.frame) pages

@@ -5,7 +5,7 @@ use Rattle.busdma_machine.specs.declared.machine.bio.Bio.{Bio}
 use Rattle.busdma_machine.specs.declared.machine.bio.Bio.TheVariants.{Mapped, Vector, Unmapped}
 use Rattle.busdma_machine.specs.Runs.{run_of}
 
--- how many bytes spans have
+-- how many bytes spans have together
 abbrev pub span_bytes : List Span → ℕ
 span_bytes spans = sum_by (λ s. s.len) spans
 
@@ -18,7 +18,7 @@ span_addresses (s ∷ ss) = run_of s.va.0 s.len ++ span_addresses ss
 abbrev pub one_span : ℕ → ℕ → List Span
 one_span va n = record { va = record { 0 = va }; len = n } ∷ []
 
--- the spans of a bio, in order; that of an unmapped one is of the bytes of its frames
+-- the spans of a bio, in order; an unmapped bio has one span, which counts the bytes of its frames from `off` on
 abbrev pub bio_spans : Bio → List Span
 bio_spans (Mapped span) = span ∷ []
 bio_spans (Vector spans) = spans

@@ -1,6 +1,6 @@
 -- The virtual addresses of a driver.
 use Rattle.std.specs.Prelude.{ℕ}
 
--- where the virtual addresses end that a driver's pages may have; those of dmamem memory begin here
+-- the end of the virtual addresses that a driver's pages can have; the addresses of dmamem memories begin here
 abbrev pub pages_end : ℕ
 pages_end = 0xfffff80000000000

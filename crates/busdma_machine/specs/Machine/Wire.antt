@@ -3,7 +3,7 @@ use Rattle.std.specs.Prelude.{ℕ, ◌/◌, ◌%◌, Bool, not, ◌==◌, List, 
 use Rattle.std.specs.List.{filter}
 use Rattle.busdma_machine.specs.Machine.Page.{FrameBytes}
 
--- the byte at each physical address, of a driver's own frames and of the bounce pages of its maps
+-- the byte at each physical address, in a driver's own frames and in the bounce pages of its maps
 abbrev pub Wire : Type 0
 Wire = ℕ → ℕ
 
@@ -11,7 +11,7 @@ Wire = ℕ → ℕ
 abbrev pub page_byte : FrameBytes → ℕ → ℕ
 page_byte p a = slice_index p.bytes (a % 4096)
 
--- what is held where pages hold the bytes of their frames, and w tells of the others
+-- the wire on which each of these pages has its own bytes, and all other addresses have the bytes of w
 abbrev pub with_bytes_of : List FrameBytes → Wire → Wire
 with_bytes_of [] w a = w a
 with_bytes_of (p ∷ ps) w a = if a / 4096 == p.frame then page_byte p a else with_bytes_of ps w a
@@ -25,31 +25,32 @@ pub record Placed : Type 0 where
 abbrev pub Traces : Type 0
 Traces = ℕ → List Placed
 
--- the device reaches the byte in a page
+-- the byte is bounced: its bus address is not its physical address
 abbrev pub is_bounced : Placed → Bool
 is_bounced p = not (p.bus == p.pa)
 
--- the physical addresses of positions, and their bus addresses
+-- the physical addresses of positions, in order
 abbrev pub buffers : List Placed → List ℕ
 buffers ps = map (λ p. p.pa) ps
 
+-- the bus addresses of positions, in order
 abbrev pub buses : List Placed → List ℕ
 buses ps = map (λ p. p.bus) ps
 
--- the positions of a load from off to off + len - 1
+-- the `len` positions of a load from `off` on
 abbrev pub stretch : {A : Type 0} → ℕ → ℕ → List A → List A
 stretch {A} off len ps = take len (drop off ps)
 
--- the bytes at these addresses are these now, in order
+-- the wire after these bytes are written at these addresses, in order
 abbrev pub put : List ℕ → List ℕ → Wire → Wire
 put [] vs w = w
 put (a ∷ rest) [] w = w
 put (a ∷ rest) (v ∷ vs) w = put rest vs (λ b. if b == a then v else w b)
 
--- each byte of these positions that is bounced is copied to its bus address
+-- the wire after each bounced byte of these positions is copied from its physical address to its bus address
 abbrev pub copied_in : List Placed → Wire → Wire
 copied_in ps w = put (buses (filter is_bounced ps)) (map w (buffers (filter is_bounced ps))) w
 
--- each such byte is copied back from there
+-- the wire after each bounced byte of these positions is copied from its bus address back to its physical address
 abbrev pub copied_out : List Placed → Wire → Wire
 copied_out ps w = put (buffers (filter is_bounced ps)) (map w (buses (filter is_bounced ps))) w

@@ -1,12 +1,12 @@
--- The effective tag of a tag's limits and its parent, and the addresses that need a bounce page:
--- after the arguments of bus_dma_tag_create(9) and the x86 bounce code. The formulas are this project's own.
+-- The effective tag of a tag's limits and its parent, and the addresses that need a bounce page, after the arguments of
+-- bus_dma_tag_create(9) and the x86 bounce code. The formulas are this project's own.
 use Rattle.std.specs.Prelude.{◌≡◌, ◌≢◌, ◌==◌, ◌&&◌, ◌||◌, ◌+◌, ◌-◌, ◌*◌, ◌/◌, ◌%◌, ◌^◌, ◌≤◌, ℕ, Bool, not, nat_lt, nat_le}
 use Rattle.std.specs.Prelude.{min, max, Option, Some, None, option_map, if◌then◌else◌}
 use Rattle.std.specs.Int.{IsPowerOfTwo}
 use Rattle.busdma_machine.specs.declared.tags.tag.SpaceLimits.{SpaceLimits}
 use Rattle.busdma_machine.specs.declared.tags.tag.TagLimits.{TagLimits}
 
--- A number below 2 ^ 64 is a power of two where it divides 2 ^ 64.
+-- A number below 2 ^ 64 is a power of two if it divides 2 ^ 64.
 abbrev pub is_power_of_two : ℕ → Bool
 is_power_of_two n = nat_lt 0 n && 2 ^ 64 % n == 0
 
@@ -14,7 +14,7 @@ is_power_of_two n = nat_lt 0 n && 2 ^ 64 % n == 0
 abbrev pub is_alignment : ℕ → Bool
 is_alignment n = is_power_of_two n && nat_le n 4096
 
--- A boundary is 0, which is none, or a power of two of at least 16.
+-- A boundary is 0, which means that there is none, or a power of two of at least 16.
 abbrev pub is_boundary : ℕ → Bool
 is_boundary n = n == 0 || (is_power_of_two n && nat_le 16 n)
 
@@ -22,11 +22,11 @@ is_boundary n = n == 0 || (is_power_of_two n && nat_le 16 n)
 abbrev pub segment_limit : TagLimits → ℕ
 segment_limit t = if t.boundary == 0 then t.maxsegsz else min t.boundary t.maxsegsz
 
--- The last byte of the frame that an address lies in.
+-- The address of the last byte of the frame that an address lies in.
 abbrev pub frame_end : ℕ → ℕ
 frame_end a = a / 4096 * 4096 + 4095
 
--- The limits with lowaddr and highaddr at the last byte of their frame, and maxsegsz cut to the boundary.
+-- The limits with lowaddr and highaddr raised to the last byte of their frame, and maxsegsz cut to the boundary.
 abbrev pub rounded : TagLimits → TagLimits
 rounded t = record t {
   lowaddr = record { 0 = frame_end t.lowaddr.0 };
@@ -34,11 +34,11 @@ rounded t = record t {
   maxsegsz = segment_limit t;
 }
 
--- The limits are not refused: alignment and boundary are right, and a segment can have a byte.
+-- The limits are not refused: alignment and boundary are allowed, and a segment can have a byte.
 abbrev pub is_accepted : TagLimits → Bool
 is_accepted t = is_alignment t.alignment && is_boundary t.boundary && not (segment_limit t == 0)
 
--- The limits of a tag without parent, or none where they are refused.
+-- The effective limits of a tag without a parent, or none if its limits are refused.
 abbrev pub normal : TagLimits → Option TagLimits
 normal t = if is_accepted t then Some (rounded t) else None
 
@@ -55,11 +55,11 @@ space_limits s = record {
   flags = 0;
 }
 
--- The smaller of two boundaries, where 0 is none.
+-- The smaller of two boundaries; a boundary of 0 means that there is none.
 abbrev pub least_boundary : ℕ → ℕ → ℕ
 least_boundary a b = if a == 0 then b else if b == 0 then a else min a b
 
--- A child's limits, narrowed by its parent's. Sizes, the number of segments and flags are the child's own.
+-- A child's limits, narrowed by its parent's. The sizes, the number of segments and the flags are the child's own.
 abbrev pub inherit : TagLimits → TagLimits → TagLimits
 inherit parent child = record child {
   alignment = max parent.alignment child.alignment;
@@ -68,12 +68,13 @@ inherit parent child = record child {
   highaddr = record { 0 = max parent.highaddr.0 child.highaddr.0 };
 }
 
--- The effective tag of these limits, below a parent where there is one.
+-- The effective limits of a tag, narrowed by its parent's if it has one, or none if its limits are refused.
 abbrev pub effective : Option TagLimits → TagLimits → Option TagLimits
 effective None spec = normal spec
 effective (Some parent) spec = option_map (inherit parent) (normal spec)
 
--- The limits that are not refused, by what their alignment, boundary and maxsegsz are.
+-- The limits that are not refused: the alignment is a power of two up to 4096, a boundary is a power of two of at least
+-- 16, and a segment can have a byte.
 pub record IsAccepted (spec : TagLimits) : Type 0 where
   pub alignment_power : IsPowerOfTwo spec.alignment
   pub alignment_high : spec.alignment ≤ 4096
@@ -96,10 +97,12 @@ pub record IsEffective (t : TagLimits) : Type 0 where
 abbrev pub excluded : TagLimits → ℕ → Bool
 excluded t a = nat_lt t.lowaddr.0 a && nat_le a t.highaddr.0
 
--- Some address could need a bounce page, where frame numbers are below maxmem.
+-- A load of the tag could bounce, if frame numbers are below maxmem: its lowaddr is below the end of memory, or its
+-- alignment is above 1.
 abbrev pub could_bounce : TagLimits → ℕ → Bool
 could_bounce t maxmem = nat_lt t.lowaddr.0 (4096 * maxmem) || nat_lt 1 t.alignment
 
--- The address needs a bounce page, where frame numbers are below maxmem.
+-- The address needs a bounce page, if frame numbers are below maxmem: the tag could bounce, and the device cannot reach
+-- the address or the address is not aligned.
 abbrev pub needs_bounce : TagLimits → ℕ → ℕ → Bool
 needs_bounce t maxmem a = could_bounce t maxmem && (excluded t a || not (a % t.alignment == 0))

@@ -1,4 +1,4 @@
-//! Laws of the account, each the contract of a function that does nothing.
+//! Laws of the account. Each law is the contract of a function that does nothing.
 
 ghost use Rattle.std.specs.Prelude.{◌≡◌, ◌≢◌, ◌+◌, ◌<◌, ◌≤◌, ◌++◌, ℕ, Bool, List, All, Contains, length};
 ghost use Rattle.busdma_machine.specs.declared.name.MapId.{MapId};
@@ -19,14 +19,14 @@ ghost use Rattle.busdma_machine.specs.Bounce.ServingOrder.{ServesNobody, ServesI
 ghost use Rattle.busdma_machine.specs.Bounce.WorkedExample.{small_machine, calls, replies, counts_after, answers};
 ghost use Rattle.busdma_machine.specs.Bounce.WorkedExample.{after_calls};
 
-/// Twelve calls over a small machine have the replies and the counts that were worked by hand.
+/// Twelve calls over a small machine have the replies and the counts that were worked out by hand.
 pub fn twelve_calls()
     ensures replies { answers small_machine calls ≡ replies }
     ensures counts { counts (after_calls small_machine calls) 0 0 ≡ counts_after }
 {}
 
-/// The condition of a call of one lane is kept by each sound entry of other lanes, and so is all that
-/// the account has of the lane's maps and memories, as the frames that it hands back at their end.
+/// Sound entries of other lanes keep the condition of a lane's call. They also keep all that the
+/// account has of the lane's maps and memories, for example the frames of each memory.
 pub fn condition_stays()
     ensures may { (lane : ℕ) (call : HubCall) (a : Account) (es : List HoldEntry) →
         MayCall lane call a → IsSound a es → All (λ e. e.lane.0 ≢ lane) es →
@@ -38,7 +38,7 @@ pub fn condition_stays()
         All (λ e. e.lane.0 ≢ lane) es → SameFor lane a (account_of a es) }
 {}
 
-/// The free, the reserved and the active pages of a zone are all its pages.
+/// The free, the reserved and the active pages of a zone add up to all its pages.
 pub fn counts_add_up()
     ensures { (a : Account) (es : List HoldEntry) (z : ℕ) → IsOpening a → IsSound a es →
         let b = account_of a es in free b z + reserved b z + active b z ≡ total b z }
@@ -50,14 +50,14 @@ pub fn account_is_well_formed()
         IsWellFormed (account_of a es) }
 {}
 
-/// The free frames rise after every sound history, so that the first of them is the lowest.
+/// The free frames are in rising order after every sound history, so the first of them is the lowest.
 pub fn free_frames_rise()
     ensures { (a : Account) (es : List HoldEntry) → IsOpening a → IsSound a es →
         IsRising (account_of a es).bank }
 {}
 
-/// Each frame that was free at the opening stands in just one place after a sound history: the
-/// bank, one zone's list, the hands of one map, or one memory. No other frame stands in any.
+/// After a sound history, each frame that was free at the opening is in exactly one place: the bank,
+/// one zone's list, the hands of one map, or one memory. No other frame is in any of these places.
 pub fn each_frame_in_one_place()
     ensures one { (a : Account) (es : List HoldEntry) (p : ℕ) → IsOpening a → IsSound a es →
         Contains a.bank p → places p (account_of a es) ≡ 1 }
@@ -65,43 +65,44 @@ pub fn each_frame_in_one_place()
         (Contains a.bank p → ⊥) → places p (account_of a es) ≡ 0 }
 {}
 
-/// No frame is made or lost.
+/// After a sound history the account has as many frames as at its opening.
 pub fn no_frame_is_lost()
     ensures { (a : Account) (es : List HoldEntry) → IsOpening a → IsSound a es →
         frame_total (account_of a es) ≡ length a.bank }
 {}
 
-/// No page serves two maps at once, and no map has it twice.
+/// No page is held by two maps at once, and no map holds a page twice.
 pub fn no_page_is_lent_twice()
     ensures { (a : Account) (es : List HoldEntry) (p : ℕ) → IsOpening a → IsSound a es →
         times_lent p (account_of a es) ≤ 1 }
 {}
 
-/// The making of a tag or a map serves no map that waits, whatever pages it adds.
+/// Making a tag or a map serves no waiting map, whatever pages it adds to the zone.
 pub fn growth_serves_nobody()
     ensures tag { (t : TagLimits) (a : Account) → ServesNobody a (attached t a).account }
     ensures map { (m : MapId) (t : TagLimits) (first_done : Bool) (a : Account) →
         ServesNobody a (created m t first_done a).account }
 {}
 
-/// The return of a page serves the maps that wait for its zone in their order, up to the first that
+/// Returning a page serves the maps that wait for its zone in their order, up to the first map that
 /// is not completed.
 pub fn release_serves_in_order()
     ensures { (m : MapId) (z page : ℕ) (a : Account) → z < length a.zones →
         ServesInOrder (returned a m z page) (released m z page a).account z }
 {}
 
-/// Callbacks are called in the order in which their maps joined the callback list: those that were
-/// in it and those that joined are those that were called and those that are still in it.
+/// Callbacks are called in the order in which their maps joined the callback list. The maps that were
+/// in the list, followed by those that joined it, are the maps that were called, followed by those
+/// that are still in it.
 pub fn callbacks_keep_their_order()
     ensures { (a : Account) (es : List HoldEntry) → IsSound a es →
         maps_of a.ready ++ joined a es ≡ called es ++ maps_of (account_of a es).ready }
 {}
 
-/// First come, first served, in each zone. The maps that waited, and those that came to wait, in order, are
-/// those that were completed, in order, and those that still wait. The maps that stood in line, in the
-/// callback list and behind it those that waited, and those that came to wait, are those whose callbacks
-/// were called, in order, and those that still stand in line.
+/// In each zone, maps are served first come, first served. The maps that waited, followed by those that
+/// came to wait, are those that were completed, followed by those that still wait. The line of a zone is
+/// its maps in the callback list, followed by its maps that wait. The maps in the line, followed by those
+/// that came to wait, are those whose callbacks were called, followed by those that are still in the line.
 pub fn first_come_is_first_served()
     ensures completed { (a : Account) (es : List HoldEntry) (z : ℕ) → IsSound a es →
         waiting_in z a ++ queued_in z es ≡ completed_in z a es ++ waiting_in z (account_of a es) }

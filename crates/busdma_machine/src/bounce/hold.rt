@@ -6,12 +6,12 @@ use crate::machine::Pa;
 use crate::name::{LaneId, MapId, ZoneId};
 use crate::tags::TagLimits;
 
-/// A call that is made under the bounce lock.
+/// A call under the bounce lock.
 #[derive(Clone, Copy, Debug, PartialEq, Eq)]
 pub enum HubCall {
     /// The first allocation of a tag with ALLOCNOW.
     AttachTag(TagLimits),
-    /// The making of a map; `first_done` tells that its tag's first allocation is done.
+    /// The making of a map. `first_done` says that its tag's first allocation is done.
     CreateMap {
         map: MapId,
         tag: TagLimits,
@@ -22,7 +22,7 @@ pub enum HubCall {
         map: MapId,
         zone: ZoneId,
     },
-    /// The wish of a load for `need` pages.
+    /// The request of a load for `need` pages.
     Grab {
         map: MapId,
         zone: ZoneId,
@@ -35,7 +35,7 @@ pub enum HubCall {
         zone: ZoneId,
         page: Pa,
     },
-    /// The taking of the head of the callback list.
+    /// The removal of the first map of the callback list.
     TakeCallback,
     /// The making of a dmamem memory.
     MemAlloc {
@@ -48,30 +48,30 @@ pub enum HubCall {
     },
 }
 
-/// The reply to a call that is made under the bounce lock.
+/// The reply to a call under the bounce lock.
 #[derive(Debug, Drop)]
 pub enum HubReply {
-    /// There is nothing to say.
+    /// The call is done and returns nothing, or it found no callback.
     Nothing,
-    /// What the making of a tag or a map added.
+    /// What making a tag or a map added to its zone.
     Grown(Grown),
     /// The physical addresses of the pages, in the order of their use.
     Granted(ListOf<Pa>),
-    /// The load waits with so many pages reserved.
+    /// The load waits, with this many pages reserved for it.
     Queued(u32),
-    /// There are too few pages, and the load does not wait.
+    /// Too few pages are free, and the load does not wait.
     NoPages,
-    /// So many maps moved to the callback list.
+    /// This many maps moved to the callback list.
     Served(u32),
-    /// The map whose load is completed, and the physical addresses of its pages.
+    /// The map whose load is complete, and the physical addresses of its pages, in the order of their use.
     Called { map: MapId, pages: ListOf<Pa> },
     /// The physical address of the first frame of a memory, and the number of its frames.
     Run { first: Pa, count: u32 },
-    /// There is no such run of frames.
+    /// No run of free frames fits the memory.
     NoRun,
 }
 
-/// One hold of the bounce lock: who called what, and the reply.
+/// One hold of the bounce lock: the lane that called, its call, and the reply.
 #[derive(Debug, Drop)]
 pub struct HoldEntry {
     pub lane: LaneId,

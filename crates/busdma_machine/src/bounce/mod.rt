@@ -1,4 +1,4 @@
-//! What all drivers share: bounce zones and their pages, the calls of the bounce lock, and the
+//! What all drivers share: bounce zones and their pages, the calls under the bounce lock, and the
 //! laws of the account of both.
 
 mod account_laws;

@@ -1,9 +1,9 @@
-//! The account with which the history of a lock began.
+//! The account with which the history of the bounce lock began.
 
 use std::marker::Model;
 
-/// The account with which the history of the bounce lock began, as contracts see what no call at the lock
-/// changes. No value of it is made.
+/// The account with which the history of the bounce lock began: what no call under the lock changes, as
+/// contracts see it. The program makes no value of this type.
 #[derive(Drop)]
 pub struct Opening {
     _none: (),

@@ -1,11 +1,11 @@
-//! What is counted of bounce zones.
+//! The counts of bounce zones, and the maps that wait for their pages.
 
 use crate::machine::Pa;
 use crate::name::{MapId, ZoneId};
 
-/// What the making of a tag or a map added to its zone.
+/// What making a tag or a map added to its zone.
 ///
-/// `made` is false exactly where the answer is ENOMEM.
+/// `added` counts pages. `made` is false exactly if the answer is ENOMEM.
 #[derive(Clone, Copy, Debug, PartialEq, Eq)]
 pub struct Grown {
     pub zone: ZoneId,
@@ -13,8 +13,10 @@ pub struct Grown {
     pub made: bool,
 }
 
-/// The counts of a zone, after the sysctl values under `hw.busdma` of the x86 bounce code: pages,
-/// and so far how many syncs copied and how many loads waited and then had all their pages.
+/// The counts of a zone, after the sysctl values under `hw.busdma` of the x86 bounce code.
+///
+/// `total`, `free`, `reserved` and `active` count pages. `bounced` counts the syncs that have copied
+/// so far, and `deferred` the loads that waited and then had all their pages.
 #[derive(Clone, Copy, Debug, PartialEq, Eq)]
 pub struct ZoneCounts {
     pub total: u32,
@@ -27,8 +29,8 @@ pub struct ZoneCounts {
     pub alignment: u64,
 }
 
-/// A map that waits for pages of its zone, or whose load is complete and awaits its callback:
-/// `have` of the `need` pages are promised to it.
+/// A map that waits for pages of its zone, or whose load is complete and awaits its callback. `have`
+/// of the `need` pages are promised to it.
 #[derive(Clone, Copy, Debug, PartialEq, Eq)]
 pub struct Waiter {
     pub map: MapId,

@@ -1,5 +1,5 @@
-//! Laws of the zones and of what waits for their pages, each the contract of a function that does
-//! nothing.
+//! Laws of the zones and of the maps that wait for their pages. Each law is the contract of a function
+//! that does nothing.
 
 ghost use Rattle.std.specs.Prelude.{◌≡◌, ◌≢◌, ◌+◌, ◌<◌, ◌≤◌, ◌∷◌, ℕ, Bool, List, All, Contains, IsTrue, sum_by};
 ghost use Rattle.busdma_machine.specs.declared.name.MapId.{MapId};
@@ -22,13 +22,13 @@ ghost use Rattle.busdma_machine.specs.Bounce.Share.{is_waiting, waiters};
 ghost use Rattle.busdma_machine.specs.Bounce.StuckExample.{both_waiting, entries_of, roomy_machine, two_loads};
 ghost use Rattle.busdma_machine.specs.Bounce.WellFormed.{IsWellFormed};
 
-/// No zone goes, and its lowaddr and its alignment never change, whatever is called.
+/// No call removes a zone, or changes its lowaddr or its alignment.
 pub fn zones_stay()
     ensures { (a : Account) (es : List HoldEntry) → KeepsZones a (account_of a es) }
 {}
 
-/// The zone that a tag's first allocation or a map's making tells serves the tag from then on: it
-/// lies as low as the tag asks, and its pages are aligned as the tag asks.
+/// The zone in the reply to a tag's first allocation, or to the making of a map, serves the tag from
+/// then on: it lies as low as the tag asks, and its pages are aligned as the tag asks.
 pub fn zone_serves_its_tag()
     ensures tag { (t : TagLimits) (a : Account) (g : GrownBy) (es : List HoldEntry) →
         (attached t a).reply ≡ Grown g →
@@ -45,9 +45,9 @@ pub fn pages_lie_low()
         PagesLieLow (account_of a es) }
 {}
 
-/// Where each frame of an account has a number below maxmem, and its lists fit together, each has after a
-/// sound history too. Where a sound history begins with an opening, each frame that it leads to is a whole
-/// one, of a number below 2^30.
+/// If an account's lists fit together and each of its frames has a number below maxmem, then each frame
+/// still has such a number after a sound history. If a sound history begins with an opening, each frame
+/// afterwards begins at a multiple of 4096 and has a number below 2^30.
 pub fn frames_lie_below_maxmem()
     ensures history { (a : Account) (es : List HoldEntry) → IsWellFormed a → IsSound a es →
         LiesBelowMaxmem a → LiesBelowMaxmem (account_of a es) }
@@ -55,8 +55,8 @@ pub fn frames_lie_below_maxmem()
         EachFrame IsFrame (account_of a es) }
 {}
 
-/// A map that waits for so many pages of a zone, or stands complete in the callback list, does so
-/// until its callback, whatever is called meanwhile. Entries of other lanes leave it in any case.
+/// A map that waits for a number of pages of a zone, or is complete in the callback list, stays there
+/// until its callback is called, whatever else is called. Entries of other lanes never change this.
 pub fn waiting_map_stays()
     ensures until_called { (m : MapId) (z need : ℕ) (a : Account) (es : List HoldEntry) →
         IsSound a es → (Contains (called es) m → ⊥) → 0 < waiters (is_waiting m z need) a →
@@ -66,10 +66,11 @@ pub fn waiting_map_stays()
         waiters (is_waiting m z need) (account_of a es) ≡ waiters (is_waiting m z need) a }
 {}
 
-/// What a zone lacks in which maps wait. Pages that are promised to none, or to a map behind the first, came
-/// since maps wait there, by the growth of the zone. So the first map waits for pages that maps of the zone
-/// hold or that are promised in the callback list; or it needs more than the zone has, but for the pages that
-/// came late. A load that gets its pages at once, while others wait, gets no more than came late.
+/// In a zone in which maps wait, late pages are those that came by the growth of the zone since its waiting
+/// list was last empty. The pages that are promised to no map, or to a waiting map after the first, are no
+/// more than the late pages. So the first map waits for pages that maps of the zone hold or that are promised
+/// in the callback list; or it needs more pages than the zone has without the late ones. A load that gets its
+/// pages at once while others wait gets no more pages than came late.
 pub fn waiting_zone_lacks_pages()
     ensures spare { (a : Account) (es : List HoldEntry) (z : ℕ) (first : Waiter) (rest : List Waiter) →
         IsOpening a → IsSound a es → let b = account_of a es in (zone_at b z).wait ≡ first ∷ rest →
@@ -83,8 +84,8 @@ pub fn waiting_zone_lacks_pages()
         (grabbed m z need nowait b).reply ≡ Granted pages → need ≤ late_pages z a es }
 {}
 
-/// Two loads of three pages each wait for ever in a zone of four: each has two of them promised. Two pages
-/// came to the zone while the first load waited, so that it lacks one page for ever.
+/// Two loads of three pages each wait for ever in a zone of four pages, because each has two of them
+/// promised. Two of the pages came to the zone while the first load waited.
 pub fn two_loads_wait_for_ever()
     ensures counts { counts (account_of roomy_machine (entries_of roomy_machine two_loads)) 0 0 ≡ both_waiting }
     ensures late { late_pages 0 roomy_machine (entries_of roomy_machine two_loads) ≡ 2 }

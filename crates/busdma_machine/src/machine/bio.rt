@@ -1,20 +1,20 @@
-//! Buffers that lie in more than one place.
+//! The mbufs and bios that loads are given.
 
 use crate::list::ListOf;
 use crate::machine::Span;
 
-/// One mbuf of a chain: `len` bytes from a virtual address on, of which there may be none.
+/// One mbuf of a chain: `len` bytes from a virtual address on. `len` may be 0.
 pub type Mbuf = Span;
 
-/// The bytes of a bio, which are mapped in one run or in several, or are not mapped.
+/// The bytes of a bio: mapped in one run, mapped in several runs, or not mapped.
 #[derive(Debug, Drop)]
 pub enum Bio {
     /// One run of virtual bytes.
     Mapped(Span),
     /// The bytes of spans, in order.
     Vector(ListOf<Span>),
-    /// `len` bytes of the driver's own frames, which are given by their numbers in order, from `off`
-    /// in the first frame on. `off` is below 4096.
+    /// `len` bytes of the driver's own frames, from the byte `off` of the first frame on. `frames` has
+    /// the frame numbers, in the order of the bytes. `off` is below 4096.
     Unmapped {
         frames: ListOf<u64>,
         off: u64,

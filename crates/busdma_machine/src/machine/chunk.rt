@@ -5,19 +5,19 @@ use crate::machine::{Extent, Pa};
 
 /// One entry of a load: a flat buffer, or an element of a vector, a chain or a bio.
 ///
-/// `parts` has one extent for each frame that the entry touches. None is empty, each but the first
-/// begins its frame and each but the last ends its frame. A chunk of an entry that is not
-/// `rounded` does not grow to a multiple of its tag's alignment.
+/// `parts` has one extent for each frame that the entry touches, in order. No extent is empty. Each
+/// extent but the first begins its frame, and each but the last ends its frame. In an entry that is
+/// not `rounded`, no chunk grows to a multiple of the tag's alignment.
 #[derive(Debug, Drop)]
 pub struct Entry {
     pub rounded: bool,
     pub parts: ListOf<Extent>,
 }
 
-/// A run of a load's bytes that stays where it is or moves as a whole to one bounce page.
+/// A run of a load's bytes that is loaded in place, or else moves together to one bounce page.
 ///
-/// `at` is the place of its first byte in the load. Its bytes are those of `first` and then of
-/// `rest`. `page` is the bus address of its first byte, where it is bounced and has its page.
+/// `at` is the offset of its first byte in the load. It has the bytes of `first`, and then the bytes
+/// of `rest`. If it is bounced and has its page, `page` is the bus address of its first byte.
 #[derive(Clone, Copy, Debug, PartialEq, Eq)]
 pub struct Chunk {
     pub at: u64,
@@ -29,8 +29,9 @@ pub struct Chunk {
 
 /// One item of the stream of a load's bytes.
 ///
-/// The first extent of a stream `opens`. The extents from one that opens up to the next are the
-/// parts of one entry. After `Unmapped` a stream ends.
+/// An extent that `opens` begins an entry. The extents after it are parts of the same entry, up to
+/// the next extent that opens. The first extent of a stream opens, and a stream ends after
+/// `Unmapped`.
 #[derive(Clone, Copy, Debug, PartialEq, Eq)]
 pub enum Part {
     /// The next bytes, which lie in one frame.

@@ -1,4 +1,4 @@
-//! Owned frames, and lists of them.
+//! Owned frames.
 
 ghost use Rattle.std.specs.Prelude.{◌≡◌, ◌+◌, ◌^◌, ◌<◌, ◌≤◌, length, replicate, IfOk};
 ghost use Rattle.busdma_machine.specs.Machine.Page.{overwritten};
@@ -6,11 +6,11 @@ ghost use Rattle.busdma_machine.specs.Machine.Page.{overwritten};
 use std::alloc::{AllocError, Global};
 use std::marker::Model;
 
-/// The bytes of a page, and of a frame.
+/// The size of a page and of a frame, in bytes.
 pub const PAGE_SIZE: u64 = 4096;
 
-/// A frame of 4096 bytes with one owner. A page is not cloned; whoever makes pages of frames sees to
-/// it that the frames differ.
+/// A frame of 4096 bytes with one owner. A page cannot be cloned. Whoever makes pages must not make
+/// two of the same frame.
 #[derive(Debug, Drop)]
 pub struct Page {
     frame: u64,
@@ -29,7 +29,11 @@ impl Model for Page {
 }
 
 impl Page {
-    /// The frame of this number, with `fill` in every byte.
+    /// Returns the frame with the number `frame`, with `fill` in every byte.
+    ///
+    /// # Errors
+    ///
+    /// `AllocError` if memory runs out.
     pub fn new(alloc: Global, frame: u64, fill: u8) -> Result<Page, AllocError>
         requires { frame < 2 ^ 30 }
         ensures frame { IfOk result (λ p. p.frame ≡ frame) }
@@ -41,7 +45,7 @@ impl Page {
         })
     }
 
-    /// The number of the frame.
+    /// Returns the number of the frame.
     pub fn frame(&self) -> u64
         ensures number { result ≡ self.now.frame }
         ensures below { result < 2 ^ 30 }
@@ -49,7 +53,7 @@ impl Page {
         self.frame
     }
 
-    /// The bytes of the frame.
+    /// Returns the bytes of the frame.
     pub fn bytes(&self) -> &[u8]
         ensures bytes { result.now ≡ self.now.bytes }
         ensures length { length result.now ≡ 4096 }
@@ -57,7 +61,7 @@ impl Page {
         &*self.bytes
     }
 
-    /// Writes bytes into the frame, the first of them at a place.
+    /// Writes `bytes` into the frame, from its byte `at` on. They must fit into the frame.
     pub fn write(&mut self, at: usize, bytes: &[u8])
         requires { at + length bytes.now ≤ 4096 }
         ensures page { self.new ≡ record self.old { bytes = overwritten self.old.bytes at bytes.now } }

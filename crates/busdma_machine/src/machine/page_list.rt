@@ -1,4 +1,4 @@
-//! Where owned frames lie, and lists of them.
+//! The addresses of owned frames, and lists of owned frames.
 
 ghost use Rattle.std.specs.Prelude.{◌≡◌, ◌+◌, ◌<◌, ◌≤◌, ◌↔◌, [], ◌∷◌, ◌++◌, length, take, drop, IsTrue, IfOk, IfSome};
 ghost use Rattle.std.specs.Prelude.{IfNone, slice_index_or, vec_len, vec_capacity};
@@ -12,7 +12,7 @@ use std::collections::VecDeque;
 use std::marker::Model;
 
 impl Page {
-    /// The physical address of the first byte of the frame.
+    /// Returns the physical address of the first byte of the frame.
     pub fn address(&self) -> Pa
         ensures { result ≡ record { 0 = page_address self.now } }
     {
@@ -20,7 +20,8 @@ impl Page {
     }
 }
 
-/// Owned frames in order, with room for so many.
+/// Owned frames in order, with room for a number of them that contracts know. Within the room, adding
+/// a page takes no memory.
 #[derive(Debug, Drop)]
 pub struct PageList {
     pages: Vec<Page>,
@@ -36,7 +37,11 @@ impl Model for PageList {
 }
 
 impl PageList {
-    /// An empty list with room for so many pages.
+    /// Returns an empty list with room for `room` pages.
+    ///
+    /// # Errors
+    ///
+    /// `AllocError` if memory runs out.
     pub fn with_room(alloc: Global, room: usize) -> Result<PageList, AllocError>
         ensures { IfOk result (λ l. l ≡ record { items = []; room = room }) }
     {
@@ -45,35 +50,35 @@ impl PageList {
         })
     }
 
-    /// The list of these pages, with the room of the vector.
+    /// Returns the list of these pages, with the capacity of the vector as its room.
     pub fn from_vec(pages: Vec<Page>) -> PageList
         ensures { result ≡ record { items = pages.items; room = vec_capacity pages } }
     {
         PageList { pages }
     }
 
-    /// The pages, in order.
+    /// Returns the pages, in order.
     pub fn as_slice(&self) -> &[Page]
         ensures { result.now ≡ self.now.items }
     {
         self.pages.as_slice()
     }
 
-    /// The number of pages.
+    /// Returns the number of pages.
     pub fn len(&self) -> usize
         ensures { result ≡ length self.now.items }
     {
         self.pages.len()
     }
 
-    /// Whether the list has no page.
+    /// Returns whether the list has no page.
     pub fn is_empty(&self) -> bool
         ensures { IsTrue result ↔ (self.now.items ≡ []) }
     {
         self.pages.is_empty()
     }
 
-    /// The physical address of the first page, or 0 where there is none.
+    /// Returns the physical address of the first page, or 0 if the list is empty.
     pub fn first_address(&self) -> Pa
         ensures { result ≡ record { 0 = slice_index_or (page_addresses self.now.items) 0 0 } }
     {
@@ -83,7 +88,7 @@ impl PageList {
         }
     }
 
-    /// The pages as a vector, which keeps the room.
+    /// Returns the pages as a vector, which keeps the room.
     pub fn into_vec(self) -> Vec<Page>
         ensures pages { result.items ≡ self.items }
         ensures room { vec_capacity result ≡ self.room }
@@ -91,7 +96,7 @@ impl PageList {
         self.pages
     }
 
-    /// Adds a page at the end, where there is room.
+    /// Adds a page at the end. The list must have room for it.
     pub fn push_reserved(&mut self, page: Page)
         requires { length self.old.items < self.old.room }
         ensures { self.new ≡ record self.old { items = self.old.items ++ page ∷ [] } }
@@ -99,7 +104,8 @@ impl PageList {
         self.pages.push_reserved(page);
     }
 
-    /// Takes the last page out. The room stays.
+    /// Removes the last page and returns it, or returns `None` if the list is empty. The room does not
+    /// change.
     pub fn pop(&mut self) -> Option<Page>
         ensures some { IfSome result (λ p. self.old.items ≡ self.new.items ++ p ∷ []) }
         ensures none { IfNone result ((self.old.items ≡ []) × (self.new ≡ self.old)) }
@@ -108,7 +114,8 @@ impl PageList {
         self.pages.pop()
     }
 
-    /// Moves the first `count` pages of a queue to the end of the list, where there is room.
+    /// Moves the first `count` pages of `queue` to the end of the list, in order. The list must have room
+    /// for them.
     pub fn take_first(&mut self, queue: &mut VecDeque<Page>, count: usize)
         requires enough { count ≤ length queue.old.items }
         requires room { length self.old.items + count ≤ self.old.room }
@@ -123,8 +130,7 @@ impl PageList {
         }
     }
 
-    /// Writes the physical addresses of the pages, in order, behind what a list holds, where it has
-    /// room.
+    /// Appends the physical addresses of the pages to `list`, in order. `list` must have room for them.
     pub fn write_addresses(&self, list: &mut Vec<Pa>)
         requires { vec_len list.old + length self.now.items ≤ vec_capacity list.old }
         ensures addresses { list.new.items ≡ list.old.items ++ as_pages (page_addresses self.now.items) }

@@ -7,8 +7,8 @@ use crate::machine::Pa;
 
 /// The limits of a tag, after the arguments of bus_dma_tag_create(9).
 ///
-/// Sizes are in bytes. A boundary of 0 is none. A device cannot reach the addresses above
-/// `lowaddr` up to `highaddr`. `flags` is a set of the bits of the tag flags.
+/// Sizes are in bytes. A boundary of 0 means that there is none. The device cannot reach the addresses
+/// above `lowaddr` up to `highaddr`. `flags` is a set of the bits of the tag flags.
 #[derive(Clone, Copy, Debug, PartialEq, Eq)]
 pub struct TagLimits {
     pub alignment: u64,
@@ -23,8 +23,8 @@ pub struct TagLimits {
 
 /// The limits of an IOMMU tag, whose device has an address space of its own.
 ///
-/// Sizes are in bytes, and a boundary of 0 is none. The device reaches the device addresses up to
-/// `lowaddr`.
+/// Sizes are in bytes, and a boundary of 0 means that there is none. The device reaches the device
+/// addresses up to `lowaddr`.
 #[derive(Clone, Copy, Debug, PartialEq, Eq)]
 pub struct SpaceLimits {
     pub boundary: u64,
@@ -35,7 +35,8 @@ pub struct SpaceLimits {
 }
 
 impl SpaceLimits {
-    /// The limits of the tag: no alignment and no flag, and no address above `lowaddr` is reached.
+    /// Returns the limits as those of a tag: there is no alignment and no flag, and no address above
+    /// `lowaddr` is reached.
     pub fn to_limits(self) -> TagLimits
         ensures { result ≡ space_limits self }
     {

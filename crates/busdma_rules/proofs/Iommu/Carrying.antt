@@ -1,4 +1,4 @@
--- Where the bytes of a load are found through an IOMMU.
+-- The physical addresses at which an IOMMU finds the bytes of a load.
 use Rattle.std.proofs.Common.{◌≡◌, ℕ, zero, suc, ◌+◌, ◌*◌, ◌/◌, ◌%◌, ◌<◌, ◌≤◌, List, [], ◌∷◌, ◌++◌, length, map, Option}
 use Rattle.std.proofs.Common.{Some, slice_get, refl, ap, sym, ◌∙◌, subst, arith}
 use Rattle.std.specs.List.{AllByRecursion}
@@ -12,7 +12,7 @@ use Rattle.busdma_rules.specs.Segments.Trace.{RisesByOne, bus_addresses, bus_tra
 use Rattle.busdma_rules.proofs.Segments.Chunking.{run_split}
 use Rattle.busdma_rules.specs.Iommu.Device.{device_begin, device_chunk, device_chunks, load_frames}
 
--- pages from one on stand for these frames
+-- the device pages from `page` on are mapped to these frames
 abbrev pub Carries : (ℕ → Option ℕ) → ℕ → List ℕ → Type 0
 Carries find page frames = (i f a : ℕ) → slice_get frames i ≡ Some f → a / 4096 ≡ page + i →
     find a ≡ Some (4096 * f + a % 4096)
@@ -98,7 +98,7 @@ device-rises page at (e ∷ es) =
     ∙ ap (run_of (device_begin page e.parts)) (omega arith) in
     ((device_begin page e.parts, run), device-rises (page + length e.parts) (at + byte_count e.parts) es)
 
--- a test that holds of the addresses of device pages holds of those of a load in them
+-- a property of all addresses of device pages holds of the addresses of a load in these pages
 all-append : (P : ℕ → Type 0) (xs ys : List ℕ) → AllByRecursion P xs → AllByRecursion P ys →
     AllByRecursion P (xs ++ ys)
 all-append P [] ys h k = k
@@ -110,7 +110,7 @@ run-all P a zero end l h = tt
 run-all P a (suc n) end l h =
     (h a (omega arith) (omega arith), run-all P (a + 1) n end (omega arith) (λ b g m. h b (omega arith) m))
 
--- extents begin in the first of their pages, and end in the last
+-- extents begin in the first of their device pages, and end in the last one
 begins : (page : ℕ) (xs : List Extent) → 4096 * page ≤ device_begin page xs
 begins page [] = omega arith
 begins page (x ∷ xs) = omega arith
@@ -147,9 +147,9 @@ device-within P page at end (e ∷ es) all l h =
     (device-within P (page + length e.parts) (at + byte_count e.parts) end es all.1 (omega (arith, long, l))
     (λ b g m. h b (omega arith) m))
 
--- The first byte of a load
+-- The first byte of a load.
 
--- addresses of which the first lies in a page
+-- addresses, the first of which lies in a page
 pub record BeginsIn (page : ℕ) (bytes : List ℕ) : Type 0 where
   pub first : ℕ
   pub rest : List ℕ

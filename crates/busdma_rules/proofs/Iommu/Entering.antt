@@ -1,4 +1,4 @@
--- What a run that is entered, or ended, makes of the others.
+-- How entering or ending a run affects the others.
 use Rattle.std.proofs.Common.{◌≡◌, ℕ, zero, suc, ◌+◌, ◌-◌, ◌≤◌, true, false, ◌||◌, not, cond, List, [], ◌∷◌, Some}
 use Rattle.std.proofs.Common.{slice_get, refl, ap, ◌∙◌, arith, leb, ltb, eqb}
 use Rattle.std.specs.List.{filter, list_any}
@@ -8,7 +8,7 @@ use Rattle.busdma_rules.specs.Iommu.Space.{DeviceRun, AreRuns, begins_at, run_en
 use Rattle.busdma_rules.specs.Iommu.Space.{frame_of_page as frame_at, gap, has_page, put_run}
 use Rattle.busdma_rules.proofs.Iommu.Runs.{all-stay, begins-behind, gap-low}
 
--- the pages of a run that is entered stand for its frames
+-- the pages of an entered run are mapped to its frames
 pub frame-own : (low high k p : ℕ) (r : DeviceRun) (rs : List DeviceRun) → AreRuns low high rs → 1 ≤ k →
     r.first ≡ gap low k rs → has_page p r ≡ true → frame_at (put_run r rs) p ≡ slice_get r.frames (p - r.first)
 frame-own low high k p r [] h some at has = rw has refl
@@ -25,7 +25,7 @@ frame-own low high k p r (q ∷ qs) h some at has =
           (rw off (frame-own (end_of q) high k p r qs h.1 some at has))
     ]) refl at
 
--- the pages of the others stand for what they stood for
+-- the pages of the other runs stay mapped to the same frames
 pub frame-other : (p : ℕ) (r : DeviceRun) (rs : List DeviceRun) → has_page p r ≡ false →
     frame_at (put_run r rs) p ≡ frame_at rs p
 frame-other p r [] off = rw off refl
@@ -40,7 +40,7 @@ frame-other p r (q ∷ qs) off =
           ])
     ])
 
--- a run that is entered is live
+-- an entered run is live
 pub entered-live : (r : DeviceRun) (rs : List DeviceRun) → list_any (begins_at r.first) (put_run r rs) ≡ true
 entered-live r [] = rw (eq-eqb r.first r.first refl) refl
 entered-live r (q ∷ qs) =
@@ -53,7 +53,7 @@ entered-live r (q ∷ qs) =
       ])
     ])
 
--- ended at once, it leaves the runs as they were
+-- a run that is entered and ended at once leaves the runs as they were
 pub left-entered : (low high k : ℕ) (r : DeviceRun) (rs : List DeviceRun) → AreRuns low high rs → 1 ≤ k →
     r.first ≡ gap low k rs → filter (λ x. not (begins_at r.first x)) (put_run r rs) ≡ rs
 left-entered low high k r [] h some at = rw (eq-eqb r.first r.first refl) refl
@@ -80,7 +80,7 @@ left-entered low high k r (q ∷ qs) h some at =
           (ap (λ rs. q ∷ rs) (left-entered (end_of q) high k r qs h.1 some at)))
     ]) refl at
 
--- a run that ends takes its own pages alone
+-- a run that ends removes only its own pages
 pub frame-left : (low high p i : ℕ) (r : DeviceRun) (rs : List DeviceRun) → AreRuns low high rs →
     slice_get rs i ≡ Some r → has_page p r ≡ false →
     frame_at (filter (λ x. not (begins_at r.first x)) rs) p ≡ frame_at rs p

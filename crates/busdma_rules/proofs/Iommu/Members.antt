@@ -1,4 +1,4 @@
--- Which runs are live after one was entered, or ended.
+-- Which runs are live after a run was entered or ended.
 use Rattle.std.proofs.Common.{◌≡◌, ◌≢◌, ℕ, zero, suc, ◌≤◌, Bool, true, false, ◌||◌, not, cond, ◌∙◌, List, [], ◌∷◌, ◌⊎◌}
 use Rattle.std.proofs.Common.{length, Some, slice_get, refl, sym, ap, subst, arith, ltb, eqb, inl, inr}
 use Rattle.std.specs.List.{Contains, filter, list_any}
@@ -22,7 +22,7 @@ module _ {X : Type 0} where
   in-none : (x : X) → Contains {X = X} [] x → ⊥
   in-none x (k, l, e) = omega arith
 
--- a live run stands at a place
+-- a live run has a place in the list of runs
 pub place-in : (rs : List DeviceRun) (r : DeviceRun) → Contains rs r → (i : ℕ) × (slice_get rs i ≡ Some r)
 place-in rs r h = (h.0, get-at rs h.0 r h.1 (sym h.2))
 
@@ -65,7 +65,7 @@ left-others first r (q ∷ qs) h off = (elim (in-cases q r qs h) as (λ _.
           ])
     ])
 
--- a live run is not met by pages that meet none
+-- pages that meet no live run do not meet this one
 unmet : (first k : ℕ) (r : DeviceRun) (rs : List DeviceRun) → list_any (meets first k) rs ≡ false → Contains rs r →
     meets first k r ≡ false
 unmet first k r [] none h = absurd (in-none r h)
@@ -79,7 +79,7 @@ unmet first k r (q ∷ qs) none h = by (meets first k q) refl none (unmet first 
       | inr there ↦ rest f there
     ]
 
--- the pages of the gap are no live run's
+-- no live run has a page of the gap
 pub gap-new : (low high k p : ℕ) (n r : DeviceRun) (rs : List DeviceRun) → AreRuns low high rs → 1 ≤ k →
     n.first ≡ gap low k rs → length n.frames ≡ k → Contains rs r → has_page p n ≡ true → has_page p r ≡ false
 gap-new low high k p n r rs h some at is there has =
@@ -88,7 +88,7 @@ gap-new low high k p n r rs h some at is there has =
     there in
     grind (arith, nat_tests, free, has, is)
 
--- a live run begins at the first of the pages or behind it, and has a page
+-- a live run begins at or after the lowest page, and has a page
 pub live-is : (low high : ℕ) (rs : List DeviceRun) (r : DeviceRun) → AreRuns low high rs → Contains rs r →
     (low ≤ r.first) × (1 ≤ length r.frames)
 live-is low high [] r h there = absurd (in-none r there)

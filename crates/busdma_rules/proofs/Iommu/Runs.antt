@@ -1,4 +1,4 @@
--- Runs that rise.
+-- Runs of device pages that rise.
 use Rattle.std.proofs.Common.{◌≡◌, ℕ, zero, suc, ◌+◌, ◌<◌, ◌≤◌, Bool, true, false, ◌&&◌, ◌||◌, not, cond, List, [], ◌∷◌}
 use Rattle.std.proofs.Common.{length, Some, None, slice_get, refl, sym, ap, ◌∙◌, arith, leb, ltb, eqb, slice_index_or}
 use Rattle.std.proofs.Common.{inl, inr}
@@ -48,7 +48,7 @@ gap-low low high k (r ∷ rs) h =
       | false ↦ omega (arith, h.0.behind, gap-low (end_of r) high k rs h.1)
     ])
 
--- the k pages from `first` on meet no run behind them
+-- the k pages from `first` on meet no run after them
 free-behind : (low high first k : ℕ) (rs : List DeviceRun) → AreRuns low high rs → 1 ≤ k → first + k ≤ low →
     list_any (meets first k) rs ≡ false
 free-behind low high first k [] h some l = refl
@@ -134,7 +134,7 @@ off-1 true c = refl
 off-1 false c = refl
 
 module _ (s : Space) (k : ℕ) (h : AreRuns 1 s.pages s.runs) (some : 1 ≤ k) where
-  -- no page before the gap may begin the run
+  -- no page before the gap can begin the run
   before : (x : ℕ) → x < gap 1 k s.runs → may_take s k x ≡ false
   before zero l = rw (lt-leb 1 0 (omega arith)) refl
   before (suc x) l =
@@ -223,7 +223,7 @@ get-at [] i r l e = absurd (omega arith)
 get-at (q ∷ rs) zero r l e = ap (λ x. Some x) (sym e)
 get-at (q ∷ rs) (suc i) r l e = get-at rs i r (omega arith) e
 
--- the first page of a run that is taken is that of the gap, and the device reaches its pages
+-- the first page of a run that is taken is the page of the gap, and the device reaches its pages
 pub taken-gap : (s : Space) (k first : ℕ) → AreRuns 1 s.pages s.runs → 1 ≤ k → first_free s k ≡ Some first →
     first ≡ gap 1 k s.runs
 taken-gap s k first h some e = by (ltb s.pages (gap 1 k s.runs + k)) refl

@@ -1,4 +1,4 @@
--- What a space carries in which a run was entered.
+-- A space in which a run was entered carries its frames.
 use Rattle.std.proofs.Common.{◌≡◌, ℕ, ◌+◌, ◌-◌, ◌*◌, ◌/◌, ◌%◌, ◌<◌, ◌≤◌, true, List, [], ◌∷◌, zero, suc, length, Some}
 use Rattle.std.proofs.Common.{slice_get, option_map, ap, ◌∙◌, arith}
 use Rattle.std.proofs.lemmas.Bool.{le-leb, lt-ltb}

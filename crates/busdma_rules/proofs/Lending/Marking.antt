@@ -1,4 +1,4 @@
--- Marks of a range: no position moves, and the bytes that a call loses.
+-- The marks of a range: no position moves, and which bytes a sync call makes unknown.
 use Rattle.std.proofs.Common.{◌≡◌, ℕ, ◌+◌, Bool, true, false, cond, List, [], ◌∷◌, ◌++◌, ◌==◌, map, take, drop, Some}
 use Rattle.std.proofs.Common.{unwrap_or, refl, sym, ap, ◌∙◌}
 use Rattle.std.proofs.lemmas.List.{map-append, append_assoc, drop-drop, take-append-drop}

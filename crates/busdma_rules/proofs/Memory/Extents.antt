@@ -42,12 +42,13 @@ begins pa (e ∷ es) =
       | false ↦ record { first = extent pa (1 + e.len); others = es; are = refl; at = refl }
     ]
 
--- the byte before an extent is the one before its first, or the last of another frame
+-- a byte leads extents: the first of them begins with the next byte, or the byte ends its frame and the extent begins
+-- another one
 abbrev Leads : ℕ → List Extent → Type 0
 Leads pa [] = Unit {0}
 Leads pa (e ∷ es) = (e.pa.0 % 4096 ≡ (pa + 1) % 4096) × ((e.pa.0 % 4096 ≡ 0) ⊎ (e.pa.0 ≡ pa + 1))
 
--- extents of these bytes, each of which begins at an address that has this property
+-- extents of these bytes, each of which begins at an address with this property
 pub record AreExtents (Has : ℕ → Type 0) (pas : List ℕ) (es : List Extent) : Type 0 where
   pub bytes : addresses es ≡ pas
   pub extents : AllByRecursion IsExtent es
@@ -57,7 +58,7 @@ pub record AreExtents (Has : ℕ → Type 0) (pas : List ℕ) (es : List Extent)
 no_extents : (Has : ℕ → Type 0) → AreExtents Has [] []
 no_extents Has = record { bytes = refl; extents = tt; joined = tt; have = tt }
 
--- one byte alone
+-- one byte is an extent
 one_byte : (pa : ℕ) → pa < 2 ^ 42 → IsExtent (extent pa 1)
 one_byte pa h = record { some = omega arith; in_frame = omega arith; numbered = h }
 

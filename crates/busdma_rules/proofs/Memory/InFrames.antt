@@ -1,4 +1,4 @@
--- The bytes of frames keep pages: each page of their bytes is a frame.
+-- The bytes of a list of frames keep pages: each page of these bytes is a frame.
 use Rattle.std.proofs.Common.{◌≡◌, ℕ, zero, suc, ◌+◌, ◌*◌, ◌/◌, ◌%◌, ◌^◌, ◌<◌, List, [], ◌∷◌, refl, ap, sym, ◌∙◌, subst}
 use Rattle.std.proofs.Common.{◌≢◌, arith}
 use Rattle.std.specs.Prelude.{Contains, Option, Some, None, slice_get}

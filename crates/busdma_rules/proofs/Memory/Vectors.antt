@@ -75,7 +75,7 @@ module _ (Has : ℕ → Type 0) (rounded : Bool) (t : Translation) (is : IsPaged
       by_bytes [] h = refl
       by_bytes (pa ∷ pas) h = ap (λ qs. qs ++ entries_addresses es) h
 
-  -- where no byte is refused, the entries have the bytes of the spans
+  -- if no byte is refused, the entries have the bytes of the spans
   pub entries_bytes : (offset : ℕ) (spans : List Span) → judged_spans t offset spans ≡ Fine →
       entries_addresses (entries_of rounded t spans) ≡ map (physical_or_0 t) (span_addresses spans)
   entries_bytes offset [] h = refl

@@ -1,4 +1,4 @@
--- Walks, from their streams.
+-- Walks and their streams.
 use Rattle.std.proofs.Common.{◌≡◌, ℕ, zero, suc, ◌+◌, List, ◌∷◌, ◌++◌, map, length, refl, ap, sym, ◌∙◌, inl, inr, arith}
 use Rattle.std.specs.Prelude.{Option, Some, None, nat_eq, if◌then◌else◌, unwrap_or}
 use Rattle.std.proofs.lemmas.Bool.{eq-eqb, ne_eqb}
@@ -20,7 +20,7 @@ eqb_suc a b = elim (eqb_tells a b) [
 abbrev pub refused_at : ℕ → Judged
 refused_at k = Refused (record { name = name.Unmapped; at = k })
 
--- the judgement of a run of bytes, and then of others
+-- the judgement of a run of bytes followed by other bytes
 pub judged-run : (t : Translation) (va n k : ℕ) (rest : List ℕ) →
     judged (unreached t) k (run_of va n ++ rest)
     ≡ (if nat_eq (length (reached t va n)) n then judged (unreached t) (k + n) rest
@@ -49,7 +49,7 @@ judged-run t va (suc n) k rest = first (t va) (judged-run t (va + 1) n (k + 1) r
         ∙ ap (λ j. if nat_eq l n then judged (unreached t) j rest else refused_at (k + suc l)) all_one
         ∙ ap (λ b. if b then judged (unreached t) (k + suc n) rest else refused_at (k + suc l)) (sym (eqb_suc l n))
 
--- where all bytes are reached, they stand at their physical addresses
+-- if all bytes are reached, they are at their physical addresses
 pub reached_all : (t : Translation) (va n : ℕ) → length (reached t va n) ≡ n →
     reached t va n ≡ map (physical_or_0 t) (run_of va n)
 reached_all t va zero h = refl

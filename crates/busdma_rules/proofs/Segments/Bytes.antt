@@ -26,7 +26,7 @@ first_true false b c h = h
 number_is : (m n : ℕ) → eqb m n ≡ true → m ≡ n
 number_is m n e = grind (arith, nat_tests)
 
--- a piece that may join begins at the end
+-- a piece that can join others begins at their end
 pub begins_at_end : (t : TagLimits) (s p : Segment) → may_join t s p ≡ true → p.addr.0 ≡ s.addr.0 + s.len
 begins_at_end t s p h = number_is p.addr.0 (s.addr.0 + s.len) (first_true _ _ _ h)
 

@@ -100,7 +100,7 @@ carried None bs = None
 carried (Some c) [] = Some c
 carried (Some c) (b ∷ bs) = Some (record c { rest = extent_from (b ∷ bs) })
 
--- the extent ends its frame, or no byte is behind it
+-- an extent of n bytes from a on ends its frame, or no byte follows it
 abbrev pub EndsFrame : ℕ → ℕ → List ℕ → Type 0
 EndsFrame a n more = (more ≡ []) ⊎ (n ≡ to_frame_end a)
 
@@ -150,7 +150,7 @@ chunk_with t m at a n ys h =
     by_rest [] = refl
     by_rest (y ∷ ys) = refl
 
--- the chunk that begins with the bytes of a run, and those behind it
+-- the chunk that begins with the bytes of a run, and the chunks after it
 pub chunk_begins : (t : TagLimits) (m : ℕ) (r : Bool) (at a n : ℕ) (more : List ℕ) → IsEffective t → 0 < n →
     a % 4096 + n ≤ 4096 → EndsFrame a n more →
     chunks_of_bytes t m r at (run_of a n ++ more)
@@ -178,7 +178,7 @@ chunk_begins t m r at a (suc n) more e pos inside ends =
         ∙ ap length (take_nil (chunk_limit t m r a - suc n)))
     by_end (inr h) = inr h
 
--- an extent that is not the entry's last has all that is owed
+-- an extent that is not the last one of its entry has all bytes that are still owed to a chunk
 abbrev pub Fits : ℕ → List Extent → Type 0
 Fits owed [] = Unit {0}
 Fits owed (e ∷ []) = Unit {0}
@@ -189,7 +189,7 @@ nothing_fits [] = tt
 nothing_fits (e ∷ []) = tt
 nothing_fits (e ∷ f ∷ es) = omega arith
 
--- the last extent ends its entry, and another ends its frame
+-- the last extent ends its entry, and any other extent ends its frame
 pub ends_frame : (e : Extent) (owed : ℕ) (es : List Extent) → owed < e.len → IsExtent e → AreJoined (e ∷ es) →
     EndsFrame (e.pa.0 + owed) (e.len - owed) (addresses es)
 ends_frame e owed [] l x j = inl refl

@@ -134,7 +134,7 @@ pub chunks_bytes : (t : TagLimits) (m : ℕ) (es : List Entry) → IsEffective t
     chunk_bytes (chunks_of t m es) ≡ entries_bytes es
 chunks_bytes t m es e = from_bytes t m 0 es e
 
--- no more pages than bytes
+-- a load needs no more pages than it has bytes
 pub need_small : (t : TagLimits) (cs : List Chunk) → AllByRecursion (IsPlaceable t) cs → need_of cs ≤ chunk_bytes cs
 need_small t [] h = omega arith
 need_small t (c ∷ cs) h =
@@ -145,7 +145,7 @@ need_small t (c ∷ cs) h =
           omega (arith, need_small t cs h.1, sum_by-cons chunk_len c cs)
     ]
 
--- no more chunks than bytes
+-- a load has no more chunks than bytes
 pub chunks_few : (t : TagLimits) (cs : List Chunk) → AllByRecursion (IsPlaceable t) cs → length cs ≤ chunk_bytes cs
 chunks_few t [] h = omega arith
 chunks_few t (c ∷ cs) h = let some = h.0.some in omega (arith, chunks_few t cs h.1, sum_by-cons chunk_len c cs)

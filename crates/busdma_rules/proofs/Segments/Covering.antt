@@ -1,4 +1,4 @@
--- The chunks of entries have their bytes, in order.
+-- The chunks of entries have the bytes of the entries, in order.
 use Rattle.std.proofs.Common.{◌≡◌, ℕ, zero, suc, ◌+◌, ◌-◌, ◌<◌, ◌≤◌, List, [], ◌∷◌, ◌++◌, length, take, drop, Bool}
 use Rattle.std.proofs.Common.{true, false, leb, refl, ap, sym, ◌∙◌, subst, arith, append_assoc, append-nil, length-take}
 use Rattle.std.proofs.Common.{◌⊎◌, inl, inr}
@@ -31,7 +31,7 @@ use Rattle.busdma_rules.proofs.Segments.Sound.{made_len}
 abbrev own_addresses : Chunk → List ℕ
 own_addresses c = addresses (chunk_extents c)
 
--- ---- what is carried into the next extent is a run
+-- ---- the bytes that are carried into the next extent are a run
 
 -- the addresses rise by one from the first of them
 abbrev FollowEachOther : List ℕ → Type 0
@@ -158,7 +158,7 @@ from_cover t m at (e ∷ es) eff h =
     (cover t m e.rounded at 0 e.parts eff h.0.extents h.0.joined (nothing_fits e.parts))
     ∙ ap (λ xs. entry_addresses e ++ xs) (from_cover t m (at + byte_count e.parts) es eff h.1))
 
--- the chunks of entries have their bytes
+-- the chunks of entries have the bytes of the entries
 pub chunks_cover : (t : TagLimits) (m : ℕ) (es : List Entry) → IsEffective t → AllByRecursion IsEntry es →
     flat_map (λ c. addresses (chunk_extents c)) (chunks_of t m es) ≡ flat_map entry_addresses es
 chunks_cover t m es eff h = from_cover t m 0 es eff h
@@ -220,7 +220,7 @@ from_at t m at (e ∷ es) before eff h =
     (from_at t m (at + byte_count e.parts) es (before ++ here) eff
     (omega (arith, h, sum_by-append chunk_len before here, bytes, addresses_length e.parts)))
 
--- each chunk of entries stands behind the bytes of those before it
+-- the place of each chunk of entries is the number of bytes of the chunks before it
 pub chunks_at : (t : TagLimits) (m : ℕ) (es : List Entry) → IsEffective t →
     EachAfter (λ before c. c.at ≡ chunk_bytes before) [] (chunks_of t m es)
 chunks_at t m es eff = from_at t m 0 es [] eff refl

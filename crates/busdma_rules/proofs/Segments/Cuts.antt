@@ -6,7 +6,7 @@ use Rattle.busdma_machine.specs.declared.tags.tag.TagLimits.{TagLimits}
 use Rattle.busdma_rules.specs.Segments.Segmentation.{Run, segments_from, segmentation, joint, may_join, grown}
 use Rattle.busdma_rules.specs.Segments.Segmentation.{segment_of, run_pieces, AreRuns, IsSegmentation}
 
--- runs of which the first begins with s
+-- runs of pieces, the first of which begins with s
 record RunsFrom (t : TagLimits) (s : Segment) (ps segs : List Segment) : Type 0 where
   others : List Segment
   later : List Run

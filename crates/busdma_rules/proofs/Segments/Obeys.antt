@@ -54,11 +54,11 @@ same_most x y h e f =
       | false ↦ λ w. (let gt = above x h w in w ∙ sym (is_above y h (omega arith)))
     ]) refl
 
--- the bytes of a frame are excluded or not together
+-- the bytes of one frame are all excluded, or none of them is
 same_frame : (t : TagLimits) (x y : ℕ) → IsEffective t → x / 4096 ≡ y / 4096 → excluded t x ≡ excluded t y
 same_frame t x y eff e = rw (same_less t.lowaddr.0 x y eff.lowaddr e, same_most x y t.highaddr.0 eff.highaddr e) refl
 
--- a chunk is bounced where its first address needs that, and lies in the machine
+-- a chunk is bounced exactly if its first address needs a bounce page, and begins in the machine's memory
 record IsJudged (t : TagLimits) (m : ℕ) (c : Chunk) : Type 0 where
   bounced_is : c.bounced ≡ needs_bounce t m c.first.pa.0
   below : c.first.pa.0 < 4096 * m
@@ -133,7 +133,7 @@ all_run P a (suc n) h =
           (λ j l. (let e : a + suc j ≡ a + 1 + j = omega arith in subst P e (h (suc j) (omega arith)))),
     )
 
--- where a chunk begins on the bus
+-- the bus address at which a chunk begins
 record StartsWell (t : TagLimits) (c : Chunk) : Type 0 where
   begins : (keep_pg_offset t.flags ≡ false → (bus_extent c).pa.0 % t.alignment ≡ 0)
       × (keep_pg_offset t.flags ≡ true → (bus_extent c).pa.0 % 4096 ≡ c.first.pa.0 % 4096)

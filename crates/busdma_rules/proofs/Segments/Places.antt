@@ -1,4 +1,4 @@
--- Pieces by places are those that are cut one after the other.
+-- The pieces by their places are the pieces that are cut one after the other.
 use Rattle.std.proofs.Common.{length, ◌≡◌, ℕ, zero, suc, ◌+◌, ◌-◌, ◌*◌, ◌/◌, ◌%◌, ◌<◌, ◌≤◌, min, List, [], ◌∷◌, Bool}
 use Rattle.std.proofs.Common.{true, false, cond, ◌&&◌, not, eqb, refl, ap, sym, ◌∙◌, subst, arith, add_assoc, add-zero}
 use Rattle.std.specs.Prelude.{slice_index}
@@ -17,7 +17,7 @@ use Rattle.busdma_rules.specs.Segments.Pieces.{pieces_of, piece_len}
 abbrev pub piece_at : ℕ → ℕ → Segment
 piece_at a len = record { addr = record { 0 = a }; len = len }
 
--- the pieces of left bytes from a on, at most n of them
+-- the pieces of `left` bytes from address a on, at most n pieces
 abbrev pub pieces_from : ℕ → TagLimits → ℕ → ℕ → List Segment
 pieces_from zero t a left = []
 pieces_from (suc n) t a zero = []
@@ -26,7 +26,7 @@ pieces_from (suc n) t a (suc l) = let k = piece_len t a (suc l) in piece_at a k 
 not_zero : (n : ℕ) → eqb n 0 ≡ false → 0 < n
 not_zero n e = grind (arith, nat_tests)
 
--- a piece has a byte, and no more than are left
+-- a piece has at least one byte, and no more bytes than are left
 pub piece_some : (t : TagLimits) (a left : ℕ) → 0 < t.maxsegsz → 0 < left → 0 < piece_len t a left
 piece_some t a left m h =
     (elim (eqb t.boundary 0) as (λ b. eqb t.boundary 0 ≡ b →
@@ -94,7 +94,7 @@ window t a p = greatest (λ q. is_at_boundary t (a + q)) p
 abbrev begins : TagLimits → ℕ → ℕ → Bool
 begins t a p = eqb ((p - window t a p) % t.maxsegsz) 0
 
--- no place of the next j - 1 is at the boundary
+-- none of the next j - 1 places is at a multiple of the boundary
 IsClear : TagLimits → ℕ → ℕ → ℕ → Type 0
 IsClear t a p j = (i : ℕ) → 0 < i → i < j → is_at_boundary t (a + (p + i)) ≡ false
 
@@ -183,7 +183,7 @@ at_full t x j e h =
     let pos = not_zero t.boundary e in
     rw (e, mod_full x j t.boundary pos h) refl
 
--- a piece that is not the last is full, or reaches to the boundary
+-- a piece that is not the last one is full, or reaches to the boundary
 why_ends : (t : TagLimits) (x left : ℕ) → piece_len t x left < left →
     is_at_boundary t (x + piece_len t x left) ≡ false → piece_len t x left ≡ t.maxsegsz
 why_ends t x left l v =
@@ -225,7 +225,7 @@ places_skip t a p (suc n) (suc m) h l =
     (λ i k. (let o : p + suc i ≡ p + 1 + i = omega arith in
     subst (λ (q : ℕ). begins t a q ≡ false) o (h (suc i) (omega arith)))) (omega arith))
 
--- where a piece begins at p, the next begins behind it
+-- if a piece begins at p, the next piece begins at its end
 places_step : (t : TagLimits) (a p n : ℕ) → 0 < t.maxsegsz → begins t a p ≡ true → 0 < n →
     places t a p n ≡ p ∷ places t a (p + piece_len t (a + p) n) (n - piece_len t (a + p) n)
 unfolding IsClear
@@ -260,7 +260,7 @@ IsRising a bus = (q : ℕ) → q < length bus → slice_index bus q ≡ a + q
 same_piece : (x y m n : ℕ) → x ≡ y → m ≡ n → piece_at x m ≡ piece_at y n
 same_piece x y m n e f = rw (e, f) refl
 
--- a piece of k bytes at p, behind which r bytes are
+-- a piece of k bytes at p, followed by r more bytes
 after_place : (t : TagLimits) (a p k r : ℕ) (bus : List ℕ) → IsRising a bus → length bus ≡ p + (k + r) → 0 < k →
     (0 < r → begins t a (p + k) ≡ true) → (begins t a (p + k) ≡ true →
     pieces_at bus (places t a (p + k) r) ≡ pieces_from r t (a + (p + k)) r) →
@@ -276,7 +276,7 @@ after_place t a p k (suc r) bus rising len pos b ih =
     (same_piece (slice_index bus p) (a + p) (p + k - p) k (rising p (omega arith)) (omega arith))
     ∙ ap (λ ps. piece_at (a + p) k ∷ ps) (i ∙ ap (λ x. pieces_from (suc r) t x (suc r)) e))
 
--- the pieces from place p on, where one begins
+-- the pieces from place p on, if a piece begins at p
 by_place : (f : ℕ) (t : TagLimits) (a p n : ℕ) (bus : List ℕ) → 0 < t.maxsegsz → IsRising a bus → length bus ≡ p + n →
     begins t a p ≡ true → n ≤ f → pieces_at bus (places t a p n) ≡ pieces_from n t (a + p) n
 by_place f t a p zero bus m rising len b l = refl
@@ -318,7 +318,7 @@ places_agree : (f g : ℕ → Bool) (p n : ℕ) → ((q : ℕ) → q < p + n →
 places_agree f g p zero h = refl
 places_agree f g p (suc n) h = rw (h p (omega arith), places_agree f g (p + 1) n (λ q l. h q (omega arith))) refl
 
--- the pieces of a run are those that are cut one after the other
+-- the pieces of a run of addresses are the pieces that are cut one after the other
 pub pieces_are_from : (t : TagLimits) (a n : ℕ) → 0 < t.maxsegsz → pieces_of t (run_of a n) ≡ pieces_from n t a n
 unfolding IsRising
 pieces_are_from t a n m =
@@ -334,7 +334,7 @@ pieces_are_from t a n m =
 pub no_pieces : (t : TagLimits) (a : ℕ) → pieces_of t (run_of a 0) ≡ []
 no_pieces t a = refl
 
--- the first piece of a run, and those behind it
+-- the first piece of a run of addresses, and the pieces after it
 pub pieces_step : (t : TagLimits) (a left size : ℕ) → 0 < t.maxsegsz → 0 < left → size ≡ piece_len t a left →
     pieces_of t (run_of a left) ≡ piece_at a size ∷ pieces_of t (run_of (a + size) (left - size))
 pieces_step t a left size m h e =

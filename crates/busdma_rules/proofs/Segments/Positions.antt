@@ -1,4 +1,4 @@
--- What stands in the trace where a chunk or a segment begins.
+-- The address in the trace at which a chunk or a segment begins.
 use Rattle.std.proofs.Common.{◌≡◌, ℕ, zero, suc, ◌+◌, ◌<◌, ◌≤◌, List, [], ◌∷◌, ◌++◌, length, take, drop, get_or, Bool}
 use Rattle.std.proofs.Common.{true, false, cond, refl, ap, sym, ◌∙◌, subst, arith, append_assoc, append-nil}
 use Rattle.std.specs.List.{AllByRecursion}
@@ -17,7 +17,7 @@ use Rattle.busdma_rules.proofs.Segments.Bytes.{bus_is_run}
 use Rattle.busdma_rules.proofs.Segments.Counting.{chunk_bytes}
 use Rattle.busdma_rules.proofs.Segments.Places.{run_length}
 
--- ---- elements behind others
+-- ---- elements after others
 
 pub each_from : {X : Type 0} (P : List X → X → Type 0) (before rest : List X) →
     ((xs : List X) (y : X) (zs : List X) → rest ≡ xs ++ y ∷ zs → P (before ++ xs) y) → EachAfter P before rest

@@ -37,7 +37,7 @@ either_boundary P a b p q some =
           ]
     ]
 
--- where one of two boundaries is not 0, the smaller is not, and is at most that one
+-- if one of two boundaries is not 0, the smaller boundary is not 0 and is at most that one
 pub least_boundary-left : (a b : ℕ) → a ≢ 0 → (least_boundary a b ≢ 0) × (least_boundary a b ≤ a)
 least_boundary-left a b some =
     elim (cases_eq b 0) [

@@ -69,7 +69,7 @@ tested_accepted t alignment_fits boundary_fits a =
     (and_from (is_alignment t.alignment) (is_boundary t.boundary) alignment boundary)
     (above_test (segment_limit t) (some_limit t a))
 
--- the test tells the limits that are accepted
+-- limits are accepted exactly if they pass the test
 pub is_accepted_decides : (t : TagLimits) → t.alignment < 2 ^ 64 →
     t.boundary < 2 ^ 64 → Decides (is_accepted t) (IsAccepted t)
 is_accepted_decides t p q = (IsAccepted-tested t p q, tested_accepted t p q)
@@ -90,7 +90,7 @@ IsEffective-rounded t a = record {
     power_low : (n : ℕ) → IsPowerOfTwo n → 1 ≤ n
     power_low n (k, e) = omega (arith, pow_pos k)
 
--- what is inherited is effective
+-- inherited limits are effective
 pub IsEffective-inherit : (parent child : TagLimits) → IsEffective parent →
     IsEffective child → IsEffective (inherit parent child)
 IsEffective-inherit parent child p c = record {

@@ -1,4 +1,4 @@
--- Powers of two: by their set bits, by what they divide, and as powers.
+-- Powers of two: by their set bits, by the numbers that they divide, and as powers.
 use Rattle.std.proofs.Common.{◌≡◌, ℕ, zero, suc, ◌+◌, ◌-◌, ◌*◌, ◌/◌, ◌%◌, ◌^◌, ◌<◌, ◌≤◌, nat_lt, ◌==◌, refl, ap, ◌∙◌}
 use Rattle.std.proofs.Common.{inl, inr, arith}
 use Rattle.std.proofs.Math.Nat.{mul-mod_left, pow-suc, mul_comm}
@@ -53,7 +53,7 @@ one_product (suc zero) m e = refl
 one_product (suc (suc a)) zero e = omega arith
 one_product (suc (suc a)) (suc b) e = omega arith
 
--- what divides a power of two is one
+-- a divisor of a power of two is a power of two
 pub power_of_divisor : (k n m : ℕ) → n * m ≡ 2 ^ k → IsPowerOfTwo n
 power_of_divisor zero n m e = (0, one_product n m e)
 power_of_divisor (suc k) n m e =
@@ -83,7 +83,7 @@ small_power n h k e =
       | inr small ↦ small
     ]
 
--- the test of what a number of 64 bits divides tells a power of two
+-- a number of 64 bits is a power of two exactly if it passes the test by division
 pub is_power_of_two_decides : (n : ℕ) → n < 2 ^ 64 → Decides (is_power_of_two n) (IsPowerOfTwo n)
 is_power_of_two_decides n h =
     Decides-like (is_power_of_two n)
@@ -92,7 +92,7 @@ is_power_of_two_decides n h =
     (λ (k, e). (omega (arith, pow_pos k), ap (λ (x : ℕ). 2 ^ 64 % x) e ∙ power_divides k (small_power n h k e)))
     (Decides-and (nat_lt 0 n) (2 ^ 64 % n == 0) (Decides-ltb 0 n) (Decides-eqb (2 ^ 64 % n) 0))
 
--- the test of its set bits tells the same
+-- the test by set bits agrees with the test by division
 pub one_bit-is_power_of_two : (n : ℕ) → n < 2 ^ 64 → (count_ones n == 1) ≡ is_power_of_two n
 one_bit-is_power_of_two n h =
     same_from_decides (count_ones n == 1) (is_power_of_two n)

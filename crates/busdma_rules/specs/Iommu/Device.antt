@@ -6,17 +6,17 @@ use Rattle.busdma_machine.specs.declared.machine.chunk.Chunk.{Chunk}
 use Rattle.busdma_machine.specs.declared.machine.chunk.Entry.{Entry}
 use Rattle.busdma_machine.specs.Runs.{byte_count}
 
--- the frames that the entries of a load touch, one for each extent
+-- the numbers of the frames that the entries of a load touch, one for each extent
 abbrev pub load_frames : List Entry → List ℕ
 load_frames [] = []
 load_frames (e ∷ es) = map (λ x. x.pa.0 / 4096) e.parts ++ load_frames es
 
--- the device address of the first of these extents, where it stands in a device page
+-- the device address at which these extents begin, if the first of them is mapped at this device page
 abbrev pub device_begin : ℕ → List Extent → ℕ
 device_begin page [] = 4096 * page
 device_begin page (x ∷ xs) = 4096 * page + x.pa.0 % 4096
 
--- an entry as one chunk of device addresses, whose extents stand in the pages from one on
+-- an entry as one chunk of device addresses, if its extents are mapped at the device pages from `page` on
 abbrev pub device_chunk : ℕ → ℕ → Entry → Chunk
 device_chunk page at e = record {
   at = at;
@@ -26,7 +26,8 @@ device_chunk page at e = record {
   page = None;
 }
 
--- the chunks of entries in the device pages from one on, of which the first begins at a place of the load
+-- the chunks of entries that are mapped at the device pages from `page` on; the first chunk is at the offset `at` of
+-- the load
 abbrev pub device_chunks : ℕ → ℕ → List Entry → List Chunk
 device_chunks page at [] = []
 device_chunks page at (e ∷ es) =

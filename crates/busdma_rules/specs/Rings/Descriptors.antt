@@ -1,10 +1,10 @@
--- Descriptors: what a ring's device is told to do with a range of bus addresses, as 16 bytes. This project's own.
+-- Descriptors: what a ring's device is to do with a range of bus addresses, in 16 bytes. This project's own.
 use Rattle.std.specs.Prelude.{ℕ, List, [], ◌∷◌, ◌++◌, take, drop, slice_index}
 use Rattle.std.specs.Int.{w32, w64, from_le_bytes, to_le_bytes}
 use Rattle.busdma_rules.specs.declared.descriptor.Descriptor.{Descriptor}
 
--- the descriptor that these bytes hold: 8 of the bus address and 4 of the length, both from the least byte on, then
--- kind, fill byte, owner and status
+-- the descriptor that 16 bytes hold: 8 bytes of the bus address and 4 bytes of the length, both with the least
+-- significant byte first, then the kind, the fill byte, the owner and the status
 abbrev pub descriptor_of : List ℕ → Descriptor
 descriptor_of bytes = record {
   addr = from_le_bytes w64 (take 8 bytes);
@@ -15,7 +15,7 @@ descriptor_of bytes = record {
   status = slice_index bytes 15;
 }
 
--- the bytes that hold a descriptor
+-- the 16 bytes that hold a descriptor
 abbrev pub descriptor_bytes : Descriptor → List ℕ
 descriptor_bytes d =
     to_le_bytes w64 d.addr ++ to_le_bytes w32 d.len ++ d.kind ∷ d.fill ∷ d.owner ∷ d.status ∷ []

@@ -8,15 +8,15 @@ use Rattle.busdma_machine.specs.Tags.TagFlags.{keep_pg_offset}
 use Rattle.busdma_rules.specs.Segments.Pieces.{chunk_pieces}
 use Rattle.busdma_rules.specs.Segments.Trace.{IsPlaced, chunk_len, page_offset, chunks_in_pages}
 
--- a tag's chunks in these pages
+-- a tag's chunks, with each bounced one in its page of this list
 abbrev pub tag_placed : TagLimits → List Chunk → List Pa → List Chunk
 tag_placed t cs pages = chunks_in_pages (keep_pg_offset t.flags) cs pages
 
--- the pieces of a tag's chunks in these pages
+-- the pieces of a tag's chunks, with each bounced chunk in its page of this list
 abbrev pub placed_pieces : TagLimits → List Chunk → List Pa → List Segment
 placed_pieces t cs pages = chunk_pieces t (tag_placed t cs pages)
 
--- a chunk that is not bounced is in its place, and one that is bounced fits into a page
+-- a chunk has a byte, is in its place if it is not bounced, and fits into a page if it is bounced
 pub record IsPlaceable (t : TagLimits) (c : Chunk) : Type 0 where
   pub own : c.bounced ≡ false → IsPlaced c
   pub some : 0 < chunk_len c

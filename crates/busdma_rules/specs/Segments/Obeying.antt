@@ -14,12 +14,12 @@ use Rattle.busdma_rules.specs.Segments.Trace.{IsPage}
 abbrev pub IsReached : TagLimits → Segment → Type 0
 IsReached t s = (k : ℕ) → k < s.len → excluded t (s.addr.0 + k) ≡ false
 
--- the segment lies in one window of boundary bytes, where there is a boundary
+-- the segment crosses no multiple of the boundary, if there is a boundary
 abbrev pub LiesInWindow : TagLimits → Segment → Type 0
 LiesInWindow t s = t.boundary ≢ 0 → s.addr.0 / t.boundary ≡ (s.addr.0 + s.len - 1) / t.boundary
 
--- a segment that begins with the first byte of a chunk begins at a multiple of the alignment, or, where
--- the tag keeps offsets, as far into its page as that byte into its own
+-- a segment that begins with a chunk begins at a multiple of the alignment; or, if the tag keeps offsets, it has the
+-- same offset in its page as the first byte of the chunk in its frame
 abbrev pub BeginsWith : TagLimits → Segment → Chunk → Type 0
 BeginsWith t s c =
     (keep_pg_offset t.flags ≡ false → s.addr.0 % t.alignment ≡ 0)
@@ -29,11 +29,11 @@ BeginsWith t s c =
 abbrev pub HasAlignedSizes : TagLimits → Type 0
 HasAlignedSizes t = (t.maxsegsz % t.alignment ≡ 0) × (t.boundary % t.alignment ≡ 0)
 
--- how many bytes segments have
+-- how many bytes segments have together
 abbrev pub segments_bytes : List Segment → ℕ
 segments_bytes segments = sum_by (λ s. s.len) segments
 
--- a segment behind others obeys the tag
+-- a segment that follows these others obeys the tag
 pub record IsObeying (t : TagLimits) (chunks : List Chunk) (before : List Segment) (s : Segment) : Type 0 where
   pub some : 1 ≤ s.len
   pub short : s.len ≤ t.maxsegsz
@@ -42,11 +42,11 @@ pub record IsObeying (t : TagLimits) (chunks : List Chunk) (before : List Segmen
   pub begins : (c : Chunk) → Contains chunks c → c.at ≡ segments_bytes before → BeginsWith t s c
   pub aligned : keep_pg_offset t.flags ≡ false → HasAlignedSizes t → s.addr.0 % t.alignment ≡ 0
 
--- the segments of these chunks obey the tag
+-- the segments of these chunks obey the tag: they are few enough, and each of them obeys it
 pub record Obeys (t : TagLimits) (chunks : List Chunk) (segments : List Segment) : Type 0 where
   pub few : length segments ≤ t.nsegments
   pub each : EachAfter (IsObeying t chunks) [] segments
 
--- a page that the device reaches: a frame at or below lowaddr
+-- a page that the device reaches: a frame that begins at or below lowaddr
 abbrev pub IsReachable : TagLimits → Pa → Type 0
 IsReachable t page = IsPage page × (page.0 ≤ t.lowaddr.0)

@@ -3,7 +3,7 @@ use Rattle.io_edge.specs.declared.sink.Put.TheVariants.{Took}
 use Rattle.io_edge.proofs.Taken.{appends_more}
 use Rattle.io_edge.proofs.sink.write_all.Goals as goal
 
--- a count is not 0 where 0 would mean an empty piece
+-- the count is not 0, because 0 would mean an empty piece
 is_some : (n : ℕ) (piece : List ℕ) → 0 < length piece → (n ≡ 0 → piece ≡ []) → 0 < n
 is_some zero piece any none = absurd (omega (arith, ap length (none refl)))
 is_some (suc n) piece any none = omega arith

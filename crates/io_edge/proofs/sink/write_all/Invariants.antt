@@ -10,6 +10,6 @@ invariant-loop-done g l = record {
   untouched : l.done ≡ 0 → l.sink ≡ l.initial.sink;
 }
 
--- each turn gives a byte at least
+-- each turn writes at least one byte
 abbrev pub decreases-loop-done : goal.decreases-loop-done
 decreases-loop-done g l = length l.text - l.done

@@ -9,6 +9,6 @@ invariant-loop-piece g l = record {
   unfailed : g.S.Source.faults l.source ≡ g.S.Source.faults l.initial.source;
 }
 
--- each turn takes a byte at least
+-- each turn takes at least one byte
 abbrev pub decreases-loop-piece : goal.decreases-loop-piece
 decreases-loop-piece g l = (l.most + 1) - length l.bytes.items
