@@ -1,4 +1,4 @@
--- The items that stand in a transfer queue and those that may still join it never become more.
+-- The items in a transfer queue and those that may still join it never become more.
 use Rattle.std.proofs.Common.{◌≡◌, ℕ, ◌+◌, ◌≤◌, ◌==◌, Bool, true, false, if◌then◌else◌, List, [], ◌∷◌, Option}
 use Rattle.std.proofs.Common.{Some, None, refl, ap, arith, length, drop}
 use Rattle.std.proofs.lemmas.List.{length-append}
@@ -52,8 +52,8 @@ module _ (l : LaneState) where
   empty-stage [] = refl
   empty-stage (p ∷ ps) = refl
 
-  -- a driver at the same place of the same script, with at most so many items more in its queue and for which its
-  -- maps wait, and none fewer in its queue
+  -- a driver at the same place of the same script: the items in its queue and those for which its maps wait have
+  -- together grown by at most `more`, and its queue has not shrunk
   record Few (more : ℕ) (n : LaneState) : Type 0 where
     low : length n.queue + weigh w n.maps ≤ length l.queue + (weigh w l.maps + more)
     longer : length l.queue ≤ length n.queue

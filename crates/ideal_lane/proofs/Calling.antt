@@ -52,7 +52,8 @@ module _ (p : ℕ) where
   empty-stage (q ∷ ps) = refl
 
   module _ (l : LaneState) where
-    -- the maps that wait with the load, and its callback where the answer ends it, are at most those before and `here`
+    -- the maps that wait with the load, and its callback if the answer ends it, are at most the maps that waited before
+    -- and `here`
     record Paid (here : ℕ) (o : Outcome) : Type 0 where
       low : weigh w o.lane.maps + (if ends o.answer then here else 0) ≤ weigh w l.maps + here
       place : o.lane.place ≡ l.place
@@ -61,11 +62,11 @@ module _ (p : ℕ) where
     few true here = omega arith
     few false here = omega arith
 
-    -- no more maps wait with it
+    -- no more maps wait with the load than before
     no-more : {here : ℕ} (o : Outcome) → weigh w o.lane.maps ≤ weigh w l.maps → o.lane.place ≡ l.place → Paid here o
     no-more {here} o h e = record { low = omega (arith, h, few (ends o.answer) here); place = e }
 
-    -- a map is put, that waits with nothing, in place of another or of none
+    -- a map that waits with nothing is put in place of another or of none
     put-free : (k : ℕ) (o n : LaneMap) → get l.maps k ≡ Some o → w n ≡ 0 →
         weigh w (insert l.maps k n) + w o ≡ weigh w l.maps
     put-free k o n e z = omega (arith, z, weigh-put w l.maps k o n e)
@@ -80,7 +81,7 @@ module _ (p : ℕ) where
     new-free e t zone =
         omega (arith, weigh-new w l.maps l.place (record { tag = t; zone = zone; tried = false; stage = Idle }) e)
 
-    -- a load that has its pages waits no more
+    -- a load that has its pages no longer waits
     module _ {d : Work} {c : Option HubCall} {r : HubReply} (k : Ends l d c r) where
       loaded-free :
           weigh w (fitting l (map_in k) (was_in k) (place_in k) (asked_in k) (chunks_in k) (pages_in k)).lane.maps
@@ -101,7 +102,7 @@ module _ (p : ℕ) where
     touches-pay {x = x} (Same a q u) = no-more x (omega arith) refl
     touches-pay {x = x} _ = no-more x (omega arith) refl
 
-    -- one that waits owes its callback from now on
+    -- a load that waits owes its callback from now on
     pays : {here : ℕ} {d : Work} {c : Option HubCall} {r : HubReply} {x : Outcome} → get l.maps l.place ≡ None →
         one (l.place == p) ≤ here → Makes l d c r x → Paid here x
     pays none owes (Touched t) = touches-pay t
@@ -139,7 +140,7 @@ module _ (p : ℕ) where
 
   -- ---- turns
 
-  -- a turn calls at most what was owed before it and is not owed any more
+  -- a turn calls at most what was owed before it and no longer is
   abbrev Settles : LaneState → Turned → Type 0
   Settles l t = owed t.lane + called_by p l t.turn ≤ owed l
 
@@ -165,7 +166,7 @@ module _ (p : ℕ) where
     none-called true false ends_it held e = refl
     none-called false load ends_it held e = refl
 
-    -- that of a resend
+    -- a resend calls the callback at most once, if its answer ends the load
     few-ends : (b ends_it : Bool) → one (b && ends_it) ≤ (if ends_it then one b else 0)
     few-ends true true = omega arith
     few-ends true false = omega arith
@@ -197,7 +198,7 @@ module _ (p : ℕ) where
         let at : one (nat_le o.lane.place p) ≡ one (nat_le l.place p) = ap (λ n. one (nat_le n p)) paid.place in
         omega (arith, paid.low, at)
 
-    -- of a callback that finds no load that waits
+    -- a callback that finds no load that waits calls nothing
     unwaiting : (s : Stage) → IsUnwaiting s → one (awaits p s) ≡ 0
     unwaiting (Waiting v) u = absurd u
     unwaiting _ u = refl
@@ -257,7 +258,7 @@ module _ (p : ℕ) where
   stands-on (Gives t) r h = h
   stands-on (Asks c k) r h = h r
 
-  -- over a run
+  -- a run calls at most what is owed at its beginning
   run-settles : (l : LaneState) (ms : List Made) → Stands l → IsRun l ms → times_called p l ms ≤ owed l
   run-settles l [] s h = omega arith
   run-settles l (m ∷ ms) s h =
@@ -272,7 +273,7 @@ module _ (p : ℕ) where
   at-most true = omega arith
   at-most false = omega arith
 
--- of a driver that opens
+-- from the opening of a driver on, each callback is called at most once
 pub called-once : (p id maxmem : ℕ) (driver : _) (ms : List Made) → IsRun (opening_lane id maxmem driver) ms →
     times_called p (opening_lane id maxmem driver) ms ≤ 1
 called-once p id maxmem driver ms h =

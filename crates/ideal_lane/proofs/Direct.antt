@@ -1,4 +1,4 @@
--- Where nothing can bounce, no chunk does.
+-- If no byte can bounce, no chunk does.
 use Rattle.std.proofs.Common.{◌≡◌, ℕ, zero, suc, ◌+◌, ◌||◌, ◌&&◌, not, Bool, true, false, cond, List, [], ◌∷◌, ◌++◌, length}
 use Rattle.std.proofs.Common.{refl, ap, sym, ◌∙◌, arith, take, drop, Some, None}
 use Rattle.std.proofs.lemmas.Bool.Decides.{nat_tests}
@@ -47,7 +47,7 @@ module _ (t : TagLimits) (maxmem : ℕ) (never : could_bounce t maxmem ≡ false
       (chunks_from t maxmem (at + byte_count e.parts) es)
       (within (length (entry_addresses e)) e.rounded at (entry_addresses e)) (from (at + byte_count e.parts) es)
 
--- where the end of memory is 0 and no alignment is asked, nothing can bounce
+-- if the end of memory is 0 and no alignment is asked for, nothing can bounce
 nowhere : (t : TagLimits) → could_bounce (record t { alignment = 1 }) 0 ≡ false
 nowhere t = grind (arith, nat_tests)
 

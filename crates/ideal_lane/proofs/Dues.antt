@@ -1,4 +1,4 @@
--- What holds of a send while its resend is due stays from step to step, and lets no resend end unfit.
+-- What holds of a send while its resend is due is kept by each step, and no resend ends unfit.
 use Rattle.std.proofs.Common.{◌≡◌, ℕ, ◌+◌, ◌≤◌, ◌==◌, ◌++◌, Bool, true, false, cond, if◌then◌else◌, List, [], ◌∷◌}
 use Rattle.std.proofs.Common.{Option, Some, None, refl, ap, sym, ◌∙◌, subst, arith, nat_lt, unwrap_or, zero, suc}
 use Rattle.std.proofs.lemmas.List.Sums.{sum_by-cons}
@@ -52,7 +52,7 @@ use Rattle.ideal_lane.proofs.Lookups.{get_put}
 use Rattle.ideal_lane.proofs.Stepping.{Answers-by, begins, begun-answers, found, passed, turn-steps}
 use Rattle.ideal_lane.proofs.Sent.{due-clusters}
 
--- a map of a tag stands without a load
+-- a map of this tag has no load
 pub record Bare (maps : FinMap nat_cmp LaneMap) (returns : List Return) (k tag : ℕ) : Type 0 where
   pub o : LaneMap
   pub there : get maps k ≡ Some o
@@ -96,7 +96,7 @@ same-map : {a b : LaneMap} → Some a ≡ Some b → a ≡ b
 same-map e = cc
 
 module _ (l : LaneState) where
-  -- a driver at the same place of the same script, each of whose maps stands without a load if it did
+  -- a driver at the same place of the same script, each of whose maps has no load if it had none before
   pub record Spares (n : LaneState) : Type 0 where
     pub script : n.script ≡ l.script
     pub place : n.place ≡ l.place
@@ -154,7 +154,7 @@ module _ (l : LaneState) where
         there refl (λ b. empty-bare m (zone_of y) l.returns pages)
         (λ k off. returning-more k l.returns (queued_back m (zone_of y) pages))
 
-    -- one that waited did not stand without a load
+    -- a map that waited was not without a load
     loaded-bare : (s : Stage) → (IsBare y.stage (returning m l.returns) → ⊥) → (k : ℕ) (o : LaneMap) →
         get l.maps k ≡ Some o → IsBare o.stage (returning k l.returns) →
         Bare (insert l.maps m (record y { tried = true; stage = s })) l.returns k o.tag
@@ -246,12 +246,12 @@ module _ (l : LaneState) where
       puts-bare q.map y (record y { stage = after_return q.map rest }) rest there refl (λ b. after-bare q.map rest)
       (λ k off. off-first q rest is k (turned k q.map off))
 
--- ---- what stands
+-- ---- what stays
 
 abbrev maxsize_of : Option LaneTag → ℕ
 maxsize_of t = (unwrap_or (option_map (λ (y : LaneTag). y.limits) t) no_limits).maxsize
 
--- the send that is due stands where it stood before
+-- the send whose resend is due still is at the same place, with its map without a load
 spared : (l n : LaneState) → Spares l n → DueStands l → DueStands n
 spared l n h d = subst (λ q. IfSome q (IsDue n)) (sym same) (by (due_send l) d)
   where
@@ -271,7 +271,7 @@ spared l n h d = subst (λ q. IfSome q (IsDue n)) (sym same) (by (due_send l) d)
               (sym (λ i. get (h.tags i) (b.same i))) d.short;
         }
 
--- the first load of a send stands so that its resend may be due
+-- the first load of a send leaves its map so that the resend may be due
 held-due : (l : LaneState) (s : Send) → send_at l.script l.place ≡ Some s → Held l s →
     DueStands (record l { due = true })
 held-due l s at h =
@@ -366,7 +366,7 @@ module _ (known : ℕ → Bool) (loans : Loans) (a : ℕ) (n : ReportName) where
 abbrev IsFit : Answer → Type 0
 IsFit a = is_unfit a ≡ false
 
--- a map that stands without a load is idle where no page is to be returned
+-- a map without a load is idle if no page is to be returned
 bare-idle : (s : Stage) → IsBare s 0 → is_idle s ≡ true
 bare-idle Idle b = refl
 bare-idle (Waiting w) b = absurd b

@@ -1,7 +1,7 @@
--- What a driver can do to its state: one case for each effect of a step, with what is known where it comes about. The
--- effects stand at the end: `Touches` are those without a call, `Makes` all of them, in the order of `Turns.operation`,
--- and `Steps` those of turns. `Stepping` shows that each operation, item and callback has one of them, so what holds
--- after each effect holds after each step.
+-- What a driver can do to its state: one case for each effect of a step, with what is known when it comes about. The
+-- effects are at the end: `Touches` has those without a call, `Makes` has all of them, in the order of
+-- `Turns.operation`, and `Steps` has those of turns. `Stepping` shows that each operation, item and callback has one of
+-- them, so what holds after each effect holds after each step.
 use Rattle.std.proofs.Common.{◌≡◌, ℕ, ◌+◌, ◌==◌, ◌&&◌, ◌%◌, Bool, true, false, if◌then◌else◌, List, [], ◌∷◌, ◌++◌}
 use Rattle.std.proofs.Common.{length, Option, Some, None, nat_le, nat_lt, refl, slice_get, subst}
 use Rattle.std.specs.Prelude.{replicate}
@@ -104,18 +104,18 @@ abbrev pub IsUnmade : HubReply → Type 0
 IsUnmade (reply.Grown g) = g.made ≡ false
 IsUnmade _ = Unit {0}
 
--- it places no memory
+-- a reply places no memory
 abbrev pub IsUnplaced : HubReply → Type 0
 IsUnplaced (reply.Run first count) = ⊥
 IsUnplaced _ = Unit {0}
 
--- it brings no pages, and no wait for them
+-- a reply brings no pages, and no wait for them
 abbrev pub IsUngranted : HubReply → Type 0
 IsUngranted (reply.Granted pages) = ⊥
 IsUngranted (reply.Queued have) = ⊥
 IsUngranted _ = Unit {0}
 
--- it brings no callback
+-- a reply brings no callback
 abbrev pub IsUncalled : HubReply → Type 0
 IsUncalled (reply.Called m pages) = ⊥
 IsUncalled _ = Unit {0}
@@ -125,18 +125,18 @@ abbrev pub IsQuiet : Answer → Type 0
 IsQuiet (answer.Segments ss) = ⊥
 IsQuiet _ = Unit {0}
 
--- it does not say that something was done
+-- an answer does not say that something was done
 abbrev pub IsUndone : Answer → Type 0
 IsUndone answer.Done = ⊥
 IsUndone _ = Unit {0}
 
--- it has no segments and is no report
+-- an answer has no segments and is no report
 abbrev pub IsUntold : Answer → Type 0
 IsUntold (answer.Segments ss) = ⊥
 IsUntold (answer.Report x) = ⊥
 IsUntold _ = Unit {0}
 
--- a map that stands so has no load that waits
+-- a map at this stage has no load that waits
 abbrev pub IsUnwaiting : Stage → Type 0
 IsUnwaiting (Waiting v) = ⊥
 IsUnwaiting _ = Unit {0}
@@ -152,7 +152,7 @@ pub data IsNew (l : LaneState) : Option ℕ → TagLimits → TagLimits → Type
   Below : (p : ℕ) (x : LaneTag) (limits t : TagLimits) → get l.tags p ≡ Some x →
       effective (Some x.limits) limits ≡ Some t → IsNew l (Some p) limits t
 
--- the reply to a call brings nothing: no tag, no map, no memory, or a callback where no load waits
+-- the reply to a call brings nothing: no tag, no map and no memory, or a callback although no load waits
 pub data IsVain (l : LaneState) : Work → HubCall → HubReply → Type 0 where
   Unattached : {name : List ℕ} {parent : Option ℕ} {limits : TagLimits} {r : HubReply} (t : TagLimits) →
       (could_bounce t l.maxmem && allocnow t.flags) ≡ true → IsUnmade r →
@@ -185,11 +185,11 @@ module _ {l : LaneState} {d : Work} (b : Begins l d) where
   abbrev pub chunks : List Chunk
   chunks = chunks_for l b.o (contains_key l.mems b.m) asks.entries
 
-  -- its frames
+  -- the frames of the load
   abbrev pub frames : List ℕ
   frames = load_frames asks.entries
 
-  -- what its map keeps while it waits
+  -- what the map keeps while the load waits
   abbrev pub waits_for : WaitingLoad
   waits_for = waiting_load l asks chunks
 
@@ -199,8 +199,8 @@ module _ {l : LaneState} {d : Work} (b : Begins l d) where
   pub here : IsNext l d → slice_get l.script l.place ≡ Some (op.Load b.m b.buffer b.flags b.items)
   here at = subst (IsNext l) b.is at
 
--- such a load is refused: it is longer than the tag allows, the reply to its wish brings neither pages nor a wait, or
--- its map is one of an IOMMU tag and no run of so many device pages is free
+-- a load that has begun is refused: it is longer than the tag allows, the reply to its call brings neither pages nor a
+-- wait, or its map is of an IOMMU tag and no run of so many device pages is free
 pub data IsOver {l : LaneState} {d : Work} (b : Begins l d) : Option HubCall → HubReply → Type 0 where
   TooLong : {r : HubReply} → nat_lt (limits_of l b.o).maxsize (asks b).len ≡ true → IsOver b None r
   Ungranted : {r : HubReply} → is_device l b.o ≡ false → (need_of (chunks b) == 0) ≡ false → IsUngranted r →
@@ -216,8 +216,8 @@ pub data IsTaken {l : LaneState} {d : Work} (b : Begins l d) : ℕ → (ℕ → 
       IsTaken b first (with_run (are_few (limits_of l b.o) (device_chunks first 0 (asks b).entries)) b.o.tag first
       (frames b) l.spaces)
 
--- a load has its pages: it needs none, the reply to its wish brings them, or its callback does; or it is one of an
--- IOMMU tag's map
+-- a load has its pages: it needs none, the reply to its call brings them, or its callback does; or its map is of an
+-- IOMMU tag
 pub data Ends (l : LaneState) : Work → Option HubCall → HubReply → Type 0 where
   AtOnce : {d : Work} {r : HubReply} (b : Begins l d) → is_device l b.o ≡ false → (need_of (chunks b) == 0) ≡ true →
       Ends l d None r
@@ -229,7 +229,8 @@ pub data Ends (l : LaneState) : Work → Option HubCall → HubReply → Type 0 
   Device : {d : Work} {r : HubReply} (b : Begins l d) → is_device l b.o ≡ true → (first : ℕ) (spaces : ℕ → Space) →
       IsTaken b first spaces → Ends l d None r
 
--- the map of such a load, how it stood, the load's place in the script, what it asks, its chunks, and its pages
+-- of a load that has its pages: its map, the map's stage before, its place in the script, what it asks for, its chunks,
+-- and its pages
 module _ {l : LaneState} where
   abbrev pub map_in : {d : Work} {c : Option HubCall} {r : HubReply} → Ends l d c r → ℕ
   map_in (AtOnce b plain e) = b.m
@@ -262,7 +263,7 @@ module _ {l : LaneState} where
       chunks_for l o (contains_key l.mems m.made_at) (asked m.made_at v.bio false v.items l).entries
   chunks_in (Device b device first spaces taken) = device_chunks first 0 (asks b).entries
 
-  -- the address spaces after it
+  -- the address spaces after the load
   abbrev pub spaces_in : {d : Work} {c : Option HubCall} {r : HubReply} → Ends l d c r → ℕ → Space
   spaces_in (AtOnce b plain e) = l.spaces
   spaces_in (Granted b plain e pages) = l.spaces
@@ -289,7 +290,7 @@ pub data IsSync (l : LaneState) : Work → ℕ → ℕ → ℕ → ℕ → Type 
   WholeItem : (m ops : ℕ) → IsSync l (Transfer (item.Sync m ops)) m 0 (load_length l m) ops
   RangeItem : (m off len ops : ℕ) → IsSync l (Transfer (item.SyncRange m off len ops)) m off len ops
 
--- the call that ends a map, where it has a zone
+-- the call that ends a map, if it has a zone
 abbrev pub end_call : LaneState → ℕ → Option ℕ → Option HubCall
 end_call l m None = None
 end_call l m (Some z) = Some (call.DestroyMap (named l m) (record { 0 = z }))
@@ -306,8 +307,9 @@ after_sync l m o off len ops = record l {
 abbrev pub after_write : LaneState → List ℕ → List ℕ → LaneState
 after_write l bytes vs = record l { memory = written bytes vs l.memory }
 
--- the step of a ring's device is done at a candidate: the ring's map is loaded and has the descriptor at the head, all
--- bytes of which are Known; it is the device's, which can be told so; and this is the first candidate that allows it
+-- the step of a ring's device is done at a candidate: the ring's map is loaded and has the descriptor at the head, with
+-- all its bytes Known; the descriptor is the device's and asks for what one may ask; and this is the first candidate
+-- that allows the access
 pub record Fetching (l : LaneState) (k : ℕ) : Type 0 where
   pub r : LaneRing
   pub ring : get l.rings k ≡ Some r
@@ -321,7 +323,7 @@ pub record Fetching (l : LaneState) (k : ℕ) : Type 0 where
   pub c : Candidate
   pub first : slice_get (allowed (head_of r l) l (candidates r l)) 0 ≡ Some c
 
--- the driver after it: the bytes of its memory, and the ring's head
+-- the driver after the step of a ring's device: the bytes of its memory, and the ring's head
 abbrev pub after_fetch : LaneState → ℕ → LaneRing → Descriptor → Candidate → LaneState
 after_fetch l k r d c = record l {
   memory = (retired r (used d c l)).memory;
@@ -342,7 +344,7 @@ fetched-is l k r d c = by (d.kind == 1)
 
 -- ---- the effects
 
--- without a call: the driver is the same, or its loans, its bytes and a ring's head change
+-- the effects without a call: the driver is the same, or its loans, its bytes and a ring's head change
 pub data Touches (l : LaneState) : Work → Outcome → Type 0 where
   -- a report, bytes that were read, or a refusal: the driver is the same
   Same : {d : Work} (a : Answer) → IsQuiet a → IsUndone a → Touches l d (record { lane = l; answer = a })
@@ -392,7 +394,7 @@ pub data Touches (l : LaneState) : Work → Outcome → Type 0 where
         answer = told (head_of f.r l) f.c l;
       })
 
--- of any operation, item or callback, with its call and the reply
+-- the effects of any operation, item or callback, with its call and the reply
 pub data Makes (l : LaneState) : Work → Option HubCall → HubReply → Outcome → Type 0 where
   -- it makes no call, and its effect is one of those above
   Touched : {d : Work} {r : HubReply} {x : Outcome} → Touches l d x → Makes l d None r x
@@ -420,7 +422,7 @@ pub data Makes (l : LaneState) : Work → Option HubCall → HubReply → Outcom
         lane = record l { tags = remove l.tags t; spaces = with_space t no_space l.spaces };
         answer = answer.Done;
       })
-  -- map: the driver has one more map, which has no zone, since its loads never bounce
+  -- map: the driver has one more map, without a zone, because its loads never bounce
   Maps : {r : HubReply} (name : List ℕ) (t : ℕ) (g : LaneTag) → get l.tags t ≡ Some g →
       bounces l.maxmem g ≡ false →
       Makes l (Operation (op.Map name t)) None r (record { lane = with_map t None l; answer = answer.Done })
@@ -432,7 +434,7 @@ pub data Makes (l : LaneState) : Work → Option HubCall → HubReply → Outcom
         lane = with_tag t g.limits true (with_map t (Some n.zone.0) l);
         answer = answer.Grown n;
       })
-  -- map_destroy: an idle map is gone, and has ended at its zone where it had one
+  -- map_destroy: an idle map is gone, and has ended at its zone if it had one
   Unmaps : {r : HubReply} (m : ℕ) (o : LaneMap) → get l.maps m ≡ Some o → is_idle o.stage ≡ true →
       Makes l (Operation (op.MapDestroy m)) (end_call l m o.zone) r
       (record { lane = without_map m l; answer = answer.Done })
@@ -461,8 +463,8 @@ pub data Makes (l : LaneState) : Work → Option HubCall → HubReply → Outcom
       fits l (map_in k) (was_in k) (place_in k) (asked_in k) (chunks_in k) (pages_in k) ≡ false →
       Makes l d c r
       (with_spaces (spaces_in k) (too_big l (map_in k) (was_in k) (place_in k) (asked_in k) (chunks_in k) (pages_in k)))
-  -- unload: the map lends nothing any more, what it lent to write is Unknown, its pages join the return queue, and its
-  -- run of device pages ends
+  -- unload: the map lends nothing, what it lent to write is Unknown, its pages join the return queue, and its run of
+  -- device pages ends
   Unloads : {r : HubReply} (m : ℕ) (o : LaneMap) → get l.maps m ≡ Some o → is_loaded o.stage ≡ true →
       Makes l (Operation (op.Unload m)) None r
       (record { lane = unmapped o (unpaged m o (pages_of o.stage) (unlent m l)); answer = answer.Done })
@@ -483,7 +485,7 @@ pub data Makes (l : LaneState) : Work → Option HubCall → HubReply → Outcom
 
 -- ---- sends
 
--- the load of the clusters of a send is that of a vector, which must not wait
+-- the load of a send's clusters, as an operation: it loads a vector, and must not wait
 abbrev pub again : Send → Op
 again s = op.Load s.map (buffer.Vector s.clusters) nowait_bit s.items
 
@@ -509,7 +511,7 @@ pub record Copies (l : LaneState) (s : Send) : Type 0 where
   pub readable : cpu_read_answer (is_known l.memory) l.loans (chain_bytes s l) ≡ Fine
   pub writable : cpu_write_answer l.loans (cluster_bytes s l) ≡ Fine
 
--- it does not, with a report
+-- the resend of a send copies nothing, and answers this report
 pub data IsDeclined (l : LaneState) (s : Send) : Report → Type 0 where
   NoMap : get l.maps s.map ≡ None → IsDeclined l s (record { name = Absent; at = 0 })
   BusyMap : (o : LaneMap) → get l.maps s.map ≡ Some o → is_idle o.stage ≡ false →
@@ -526,7 +528,7 @@ pub data IsDeclined (l : LaneState) (s : Send) : Report → Type 0 where
 
 -- ---- turns
 
--- an operation can step, and no resend stands before it
+-- an operation can step, and no resend comes before it
 pub record IsFree (l : LaneState) (o : Op) : Type 0 where
   pub none : due_send l ≡ None
   pub free : waits o l ≡ false
@@ -537,14 +539,15 @@ pub data IsStay : Option HubCall → HubReply → Turn → Type 0 where
   NothingLeft : {r : HubReply} → IsStay None r Ended
   NoneCalled : {r : HubReply} → IsUncalled r → IsStay (Some call.TakeCallback) r Blocked
 
--- of the turn of a side, with its call and the reply
+-- the effects of the turn of a side, with its call and the reply
 pub data Steps (l : LaneState) : Side → Option HubCall → HubReply → Turned → Type 0 where
-  -- it is no step, and the driver is the same
+  -- the turn is no step, and the driver is the same
   Stays : {s : Side} {c : Option HubCall} {r : HubReply} (t : Turn) → IsStay c r t → Steps l s c r (stays t l)
   -- the next operation can step: it is done, and the script goes on to its next place
   Advances : {c : Option HubCall} {r : HubReply} {x : Outcome} (o : Op) → slice_get l.script l.place ≡ Some o →
       IsFree l o → Makes l (Operation o) c r x → Steps l side.Script c r (advanced l.place x)
-  -- it is a send whose chain has too many segments and whose clusters are enough: the script stays at its place
+  -- the next operation is a send whose chain has too many segments and whose clusters are enough: the script stays at
+  -- its place
   Keeps : {c : Option HubCall} {r : HubReply} {x : Outcome} (o : Op) → slice_get l.script l.place ≡ Some o →
       IsFree l o → (s : Send) → send_of o ≡ Some s → is_too_big x.answer ≡ true → Held l s →
       Makes l (Operation o) c r x → Steps l side.Script c r (kept l.place x)
@@ -558,7 +561,7 @@ pub data Steps (l : LaneState) : Side → Option HubCall → HubReply → Turned
   -- the first item of the transfer queue is done, and has left the queue
   Leaves : {r : HubReply} {x : Outcome} (q : QueuedItem) (rest : List QueuedItem) → l.queue ≡ q ∷ rest →
       Touches l (Transfer q.item) x → Steps l side.Transfer None r (left_queue q rest x)
-  -- the first page of the return queue goes back to its zone, and its map is idle where this was its last
+  -- the first page of the return queue goes back to its zone, and its map is idle if this was its last
   Releases : {r : HubReply} (q : Return) (rest : List Return) → l.returns ≡ q ∷ rest → (y : Option LaneMap) →
       get l.maps q.map ≡ y →
       Steps l side.Script

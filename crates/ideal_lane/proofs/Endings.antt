@@ -1,4 +1,4 @@
--- How a load ends that has its pages: with its segments, or with too many.
+-- How a load that has its pages ends: with its segments, or with too many.
 use Rattle.std.specs.Prelude.{ℕ, Bool, List, length, nat_le}
 use Rattle.busdma_base.specs.declared.journals.answer.Answer.TheVariants.{Segments, Refused}
 use Rattle.busdma_machine.specs.declared.report.Errno.TheVariants.{EFBIG}

@@ -56,11 +56,11 @@ use Rattle.busdma_machine.specs.declared.bounce.hold.HubCall.{HubCall}
 use Rattle.busdma_machine.specs.declared.name.MapId.{MapId}
 use Rattle.busdma_machine.specs.declared.machine.address.Pa.{Pa}
 
--- what is left beside the operations
+-- what is left besides the operations
 abbrev pub cost : LaneState → ℕ
 cost n = length n.queue + (length n.returns + maps_weight n.maps)
 
--- a driver of the same script at the same place, with at most so much more to do
+-- a driver at the same place of the same script, with at most `more` more to do
 pub record Low (l : LaneState) (more : ℕ) (n : LaneState) : Type 0 where
   pub cost_low : cost n ≤ cost l + more
   pub script : n.script ≡ l.script
@@ -206,7 +206,7 @@ module _ (l : LaneState) where
   items-in (Device b device first spaces taken) = refl
 
   module _ (a : Account) where
-    -- it has at most as many pages as it needs
+    -- the load has at most as many pages as it needs
     pages-few : {o : Op} {c : Option HubCall} {r : HubReply} → IsReplyOf l.id a c r → (k : Ends l (Operation o) c r) →
         length (pages_in k) ≤ need_of (chunks (begun-in k))
     pages-few e (AtOnce b plain none) = omega arith
@@ -247,7 +247,7 @@ module _ (l : LaneState) where
         Low l more (record l { maps = insert l.maps b.m (record b.o { tried = true; stage = Idle }) })
     refuses-low b more = stage-low more b.m b.o (record b.o { tried = true; stage = Idle }) b.there (omega arith)
 
-    -- one with too many segments
+    -- a load with too many segments
     abbrev bytes_in : Work → ℕ
     bytes_in (Operation o) = option_map_or buffer_bytes (about o).loads 0
     bytes_in (Transfer i) = 0
@@ -266,7 +266,7 @@ module _ (l : LaneState) where
         overflows-low _ e k (omega (arith, need-within b, bytes))
     big-low o s is e _ big = absurd (cc)
 
-    -- the resend of a send costs its items and the bytes of its clusters, and not one more, since it never waits
+    -- the resend of a send costs its items and the bytes of its clusters, but not 1 for waiting, because it never waits
     abbrev waits_in : Work → Bool
     waits_in (Operation (op.Load m x flags items)) = never_waits x flags
     waits_in _ = true
@@ -352,14 +352,14 @@ need_in (Some o) = need_of_stage o.stage
 
 module _ (l : LaneState) (a : Account) (stands : Stands l) (fit : IsFit a) (agrees : Agrees (view_of l) a)
     (clusters : HaveClusters l.script) where
-  -- a callback is called of a map that waits with as many pages as it needs
+  -- a callback brings a map that waits as many pages as it needs
   waited : {m : MapId} {pages : List Pa} → (account_step l.id call.TakeCallback a).reply ≡ reply.Called m pages →
       (z need : ℕ) × (length (addresses pages) ≡ need) × WaitsAt l m.made_at z need
   waited {m} {pages} e =
       let c = called-length (view_of l) a.ready a m pages fit.well agrees refl e in
       (c.2, c.0, addresses-length pages ∙ c.4, waits-at l m.made_at c.2 c.0 c.3)
 
-  -- the script's weight, where a resend is due or not
+  -- the script's weight, with a resend that is due or without
   abbrev weight_at : Bool → List Op → ℕ → ℕ
   weight_at due script place = script_weight (if due then send_at script place else None) script place
 
@@ -368,12 +368,12 @@ module _ (l : LaneState) (a : Account) (stands : Stands l) (fit : IsFit a) (agre
       weight_at n.due n.script n.place ≡ weight_at l.due l.script l.place
   ops n s p d = (λ i. weight_at (d i) (s i) (p i))
 
-  -- where a resend is due, and where none is
+  -- if a resend is due, and if none is
   ahead-due : (q : Option Send) → due_send l ≡ q →
       weight_at l.due l.script l.place ≡ script_weight q l.script l.place
   ahead-due q e = ap (λ y. script_weight y l.script l.place) e
 
-  -- the operations behind the place
+  -- the operations after the place
   behind : (n : LaneState) → n.script ≡ l.script →
       sum_by op_weight (drop (l.place + 1) n.script) ≡ sum_by op_weight (drop (l.place + 1) l.script)
   behind n s = ap (λ y. sum_by op_weight (drop (l.place + 1) y)) s

@@ -34,7 +34,7 @@ below n (e ∷ es) h =
     let lt : n < e.0 = comes-first (nat_cmp n e.0) _ _ _ (ranks n e.0) (both _ _ h).0 in
     (lt, below n es (both _ _ h).1)
 
--- each candidate stands before those whose maps were made after its own
+-- each candidate comes before those whose maps were made after its own
 abbrev Rises : List Candidate → Type 0
 Rises [] = Unit {0}
 Rises (c ∷ cs) = AllByRecursion (λ o. c.map < o.map) cs × Rises cs

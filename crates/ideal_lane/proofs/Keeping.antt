@@ -48,8 +48,8 @@ pub record Following (l : LaneState) (c : HubCall) (r : HubReply) (n : LaneState
   pub fits : Bool
   pub like : IsLike (after fits (view_of l) c r) (view_of n)
 
--- where nothing was called agreement with each account is kept; a call is one that the driver's state allows, and its
--- reply is followed
+-- without a call, agreement with each account is kept; a call is one that the driver's state allows, and the driver
+-- follows its reply
 abbrev pub KeptBy : LaneState → Option HubCall → HubReply → LaneState → Type 0
 KeptBy l None r n = (a : Account) → Agrees (view_of l) a → Agrees (view_of n) a
 KeptBy l (Some c) r n = calls.MayAsk (view_of l) c × Following l c r n
@@ -78,7 +78,7 @@ pageless-pages (Waiting w) h = refl
 pageless-pages (Loaded bounced segments pages) h = h
 pageless-pages Returning h = refl
 
--- the map at a place, as the account sees it
+-- the account's view of the map at a place
 seen : (l : LaneState) (m : ℕ) (o : LaneMap) → get l.maps m ≡ Some o → own_map (get l.maps m) ≡ in_zone o.stage o.zone
 seen l m o e = ap own_map e
 
@@ -113,7 +113,7 @@ vain l v e = subst (λ y. IsLike y (view_of l)) (sym e) (like-refl (view_of l))
 -- ---- how a load ends
 
 module _ (l : LaneState) (m : ℕ) (o : LaneMap) (at : ℕ) (x : Asked) (chunks : List Chunk) (pages : List ℕ) where
-  -- where the map has a zone
+  -- if the map has a zone
   pub ended-like : (z : ℕ) → o.zone ≡ Some z → (b : Bool) →
       IsLike (view.ended b (view_of l) m z pages) (view_of (if b then fitting l m o at x chunks pages else too_big l m o at x chunks pages).lane)
   ended-like z zone true =
@@ -159,7 +159,7 @@ module _ (l : LaneState) (s : Stands l) where
 
   -- ---- loads
   module _ {d : Work} (b : Begins l d) where
-    -- a map of a load that is refused stands where it stood
+    -- the account sees the map of a refused load as before
     back : IsLike (view_of l) (view_of (staged b.m b.o Idle l))
     back =
         like-unseen l b.m (record b.o { tried = true; stage = Idle })

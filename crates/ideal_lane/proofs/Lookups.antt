@@ -18,7 +18,7 @@ pub mapped : {X Y : Type 0} (f : X → Y) (b : Bool) (x y : X) → f (cond b x y
 mapped f true x y = refl
 mapped f false x y = refl
 
--- what stands at a place, chosen there
+-- a lookup at a place, chosen by whether it is that place
 pub same_at : {X : Type 0} (f : ℕ → X) (k j : ℕ) → f j ≡ cond (j == k) (f k) (f j)
 same_at f k j = by (j == k) refl
   where
@@ -30,7 +30,7 @@ same_at f k j = by (j == k) refl
 pub put_same : {X : Type 0} (f : ℕ → X) (k j : ℕ) (x : X) → x ≡ f k → cond (j == k) x (f j) ≡ f j
 put_same f k j x e = ap (λ y. cond (j == k) y (f j)) e ∙ sym (same_at f k j)
 
--- what holds of each thing holds of that at a place
+-- what holds of each thing in a list holds of the thing at a place
 pub all-at : {X : Type 0} (P : X → Type 0) (xs : List X) (k : ℕ) (x : X) → AllByRecursion P xs →
     slice_get xs k ≡ Some x → P x
 all-at P [] k x h e = absurd (cc)

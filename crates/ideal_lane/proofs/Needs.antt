@@ -124,7 +124,7 @@ entries-length rounded t (s ∷ ss) = by (length (reached t s.va.0 s.len) == s.l
           sum_by-cons (λ (x : Span). x.len) s ss,
         )
 
--- how many bytes a bio has, where there is one
+-- how many bytes a bio has, if there is one
 abbrev bytes_of : Option Bio → ℕ
 bytes_of o = option_map_or (λ b. span_bytes (bio_spans b)) o 0
 
@@ -149,7 +149,7 @@ pub bytes-few : (l : LaneState) (x : Buffer) (b : Bio) → bio_at l x ≡ Some b
 bytes-few l x b e =
     omega (arith, bio-bytes l x b e, entries-length (is_rounded b) (load_translation l b) (bio_spans b))
 
--- and a buffer counts at least as many
+-- a buffer counts at least as many bytes as it has
 pub bytes-counted : (x : Buffer) → buffer_bytes x ≤ counted_bytes x
 bytes-counted (buffer.Flat place len) = omega arith
 bytes-counted (buffer.Vector spans) = omega arith

@@ -1,4 +1,4 @@
--- A driver opens standing, and agrees with the account with which its scenario opens.
+-- The invariant of a driver holds at its opening, and it agrees with the account with which its scenario opens.
 use Rattle.std.proofs.Common.{◌≡◌, ℕ, zero, suc, ◌+◌, ◌*◌, ◌==◌, ◌&&◌, ◌||◌, not, Bool, true, false, cond, List, []}
 use Rattle.std.proofs.Common.{◌∷◌, map, Some, None, refl, ap, sym, ◌∙◌, arith, nat_le, nat_lt, slice_get}
 use Rattle.std.proofs.lemmas.Bool.{and_parts}

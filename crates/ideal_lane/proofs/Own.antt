@@ -28,8 +28,8 @@ IsOwnBy id s (Stepped entry) = entry.actor ≡ actor_of s id
 IsOwnBy id s Blocked = Unit {0}
 IsOwnBy id s Ended = Unit {0}
 
--- what a driver keeps at each turn: its number, its script and its pages; and it counts at most one sync more for
--- each zone
+-- what a driver keeps at each turn: its number, its script and its pages; and for each zone it counts at most one more
+-- sync
 pub record Kept (l : LaneState) (id : ℕ) (script : List Op) (pages : List PageRun) (shares : ℕ → ℕ) : Type 0 where
   pub same_id : id ≡ l.id
   pub same_script : script ≡ l.script
@@ -74,11 +74,11 @@ module _ (l : LaneState) where
   makes-later _ = still
 
 module _ (l : LaneState) where
-  -- an entry is that of a driver with this number
+  -- the entry of a turn names a driver with the same number
   names : (s : Side) (n : LaneState) → IsLater l n → actor_of s n.id ≡ actor_of s l.id
   names s n h = ap (actor_of s) h.same_id
 
-  -- what is later after the copy of a send is so before it
+  -- a later state than after the copy of a send is a later state than before it
   uncopied : (s : Send) (n : LaneState) → IsLater (copied s l) n → IsLater l n
   uncopied s n h =
       record { same_id = h.same_id; same_script = h.same_script; same_pages = h.same_pages; few = h.few }

@@ -1,4 +1,4 @@
--- What holds of a refusal and of each step behind it, holds of the step with its refusals.
+-- What holds of a refusal and of each step after it holds of the step with its refusals.
 use Rattle.std.proofs.Common.{◌≡◌, ℕ, ◌+◌, ◌-◌, Bool, true, false, Option, Some, None, if◌then◌else◌, refl, nat_le}
 use Rattle.std.specs.FinMap.{get}
 use Rattle.busdma_base.specs.declared.journals.answer.Answer.TheVariants as answer

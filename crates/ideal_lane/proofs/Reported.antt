@@ -1,5 +1,5 @@
--- A step whose answer is a report goes on and changes nothing else; and the items of a load join the queue with segments,
--- those of a kick where it is done.
+-- A step whose answer is a report goes on and changes nothing else. The items of a load join the queue if it ends with
+-- segments, and the items of a kick if it is done.
 use Rattle.std.proofs.Common.{◌≡◌, ℕ, ◌==◌, Bool, true, false, if◌then◌else◌, List, [], ◌++◌, Option, Some, None, refl}
 use Rattle.std.proofs.Common.{sym, ap, ◌∙◌, append-nil, slice_get}
 use Rattle.std.proofs.lemmas.Bool.{false≢true}
@@ -121,7 +121,7 @@ module _ (l : LaneState) where
   no-items answer.Done = refl
   no-items _ = refl
 
-  -- what a reply brings nothing to has no items that could join
+  -- if a reply brings nothing, there are no items that could join
   no-await : (y : Option LaneMap) → IsUnwaited y → items_in y ≡ []
   no-await None u = refl
   no-await (Some o) u = by o.stage u

@@ -24,7 +24,7 @@ abbrev one : Bool → ℕ
 one b = if b then 1 else 0
 
 module _ (p : ℕ) where
-  -- the operation at p is not yet done where the script is at q, and there its send may be due
+  -- the operation at p is not yet done if the script is at q, and its send may be due there
   abbrev to_do : Option Send → ℕ → ℕ
   to_do None q = one (nat_le q p)
   to_do (Some s) q = one (nat_le (q + 1) p)
@@ -32,7 +32,7 @@ module _ (p : ℕ) where
   abbrev operation_left : LaneState → ℕ
   operation_left l = to_do (due_send l) l.place
 
-  -- its resend is not yet done
+  -- the resend of the send at p is not yet done
   abbrev resend_left : LaneState → ℕ
   resend_left l = one (nat_le l.place p)
 
@@ -86,7 +86,8 @@ module _ (p : ℕ) where
     resend-settles (Releases q rest e (Some y) there) = omega arith
     resend-settles (Calls {x = x} m pages k) = omega (arith, spared-resend x.lane (called-spares l k))
 
--- what is done at most as often as it is left, over a run
+-- if each turn does a thing only as often as it makes it less left, a run does it at most as often as it is left at the
+-- beginning
 module _ (chosen : Did → Bool) (left : LaneState → ℕ)
     (settles : (l : LaneState) (s : Side) (r : HubReply) →
     left (by_reply (lane_step l s) r).lane + done_by chosen (by_reply (lane_step l s) r).turn ≤ left l) where

@@ -1,4 +1,4 @@
--- What the steps of a driver look at of its script: the operation at its place, and nothing else.
+-- The steps of a driver look at no operation of its script but the one at its place.
 use Rattle.std.proofs.Common.{◌≡◌, ℕ, ◌+◌, ◌==◌, Bool, true, false, if◌then◌else◌, List, [], ◌∷◌, length, Option, Some, None}
 use Rattle.std.proofs.Common.{ap, ◌∙◌, map, nat_lt, nat_le, refl, not, ◌&&◌, ◌||◌, is_some, unwrap_or, slice_get, ◌^◌}
 use Rattle.std.specs.FinMap.{contains_key, entries, get}
@@ -91,7 +91,7 @@ use Rattle.ideal_lane.specs.Unloads.{segments_in}
 use Rattle.ideal_lane.proofs.Endings.{fits, fitting, too_big}
 
 module _ (script : List Op) (l : LaneState) where
-  -- the driver with the other script, and an outcome of it
+  -- the driver with the other script, and an outcome with it
   abbrev n : LaneState
   n = with_script script l
 

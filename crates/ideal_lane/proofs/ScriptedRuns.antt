@@ -1,4 +1,5 @@
--- A run of a driver is one of the driver with more operations, as long as no turn finds the script at its end; and back.
+-- A run of a driver is one of the driver with more operations, as long as no turn finds the end of the script; and the
+-- converse.
 use Rattle.std.proofs.Common.{◌≡◌, ℕ, zero, suc, ◌<◌, Bool, true, false, if◌then◌else◌, List, [], ◌∷◌, ◌++◌, length}
 use Rattle.std.proofs.Common.{Option, Some, None, refl, ap, sym, ◌∙◌, map, nat_lt, slice_get, subst, arith}
 use Rattle.std.proofs.lemmas.Bool.Decides.{nat_tests}
@@ -23,7 +24,7 @@ use Rattle.ideal_lane.proofs.Own.{turn-own}
 use Rattle.ideal_lane.proofs.Scripted.{turn-same, waits-same}
 use Rattle.ideal_lane.proofs.Stepping.{turn-steps}
 
--- ---- what stands at a place of a longer list
+-- ---- what a longer list has at a place
 
 pub found-before : {X : Type 0} (xs ys : List X) (k : ℕ) (x : X) → slice_get xs k ≡ Some x →
     slice_get (xs ++ ys) k ≡ Some x
@@ -40,7 +41,7 @@ pub found-behind : {X : Type 0} (xs : List X) (x : X) → slice_get (xs ++ x ∷
 found-behind [] x = refl
 found-behind (z ∷ xs) x = found-behind xs x
 
--- what is given at last, made into another thing
+-- the result of a step that is made into another thing
 pub by-other : {X Y : Type 0} (f : X → Y) (x : Asking X) (r : HubReply) → by_reply (goes_on f x) r ≡ f (by_reply x r)
 by-other f (Gives x) r = refl
 by-other f (Asks c k) r = refl
@@ -48,7 +49,7 @@ by-other f (Asks c k) r = refl
 -- ---- one step
 
 module _ (l : LaneState) (r : HubReply) where
-  -- where the script has no operation at its place, and no page is to go back, its turn finds the end
+  -- if the script has no operation at its place, and no page is to go back, its turn finds the end
   ends : slice_get l.script l.place ≡ None → is_ended (by_reply (due_turn (sends.due_send l) l) r).turn ≡ true
   ends none =
       ap (λ q. is_ended (by_reply (due_turn q l) r).turn) undue
@@ -73,13 +74,13 @@ module _ (l : LaneState) (r : HubReply) where
     script-looks [] going = next-looks (slice_get l.script l.place) refl going
     script-looks (q ∷ rest) going = tt
 
-    -- a turn that does not find the script at its end looks at nothing behind it
+    -- a turn that does not find the end of the script looks at nothing after it
     pub looks : (s : Side) → is_ended (by_reply (lane_step l s) r).turn ≡ false → LooksSame s (l.script ++ more) l
     looks side.Script going = script-looks l.returns going
     looks side.Transfer going = tt
     looks side.Callback going = tt
 
-  -- a step of the script that is one below n, where no page is to go back, is at a place below n
+  -- a step of the script that is below n, with no page to go back, is at a place below n
   module _ (n : ℕ) where
     no-stay : {c : Option HubCall} {t : turns.Turn} → IsStay c r t → is_step_below n t ≡ true → l.place < n
     no-stay NothingLeft below = absurd (cc)
@@ -97,7 +98,7 @@ module _ (l : LaneState) (r : HubReply) where
     at-below (Resends s now k untold m) none below = lower below
     at-below (Releases q rest e o there) none below = let off : [] ≡ q ∷ rest = sym none ∙ e in absurd (cc)
 
-  -- so such a step looks at nothing behind the n operations of a shorter script
+  -- a step below n looks at nothing after the n operations of a shorter script
   pub looks-below : (base more : List Op) → l.script ≡ base ++ more → (s : Side) →
       is_step_below (length base) (by_reply (lane_step l s) r).turn ≡ true → LooksSame s base l
   looks-below base more is s low = at s (turn-steps l s r) low
@@ -156,7 +157,7 @@ module _ (base more : List Op) where
 -- ---- a driver whose script has ended gets one more operation
 
 module _ (l : LaneState) (o : Op) where
-  -- it is its next
+  -- the added operation is the driver's next
   abbrev next : LaneState
   next = with_script (l.script ++ o ∷ []) l
 

@@ -20,7 +20,7 @@ use Rattle.ideal_lane.specs.Sends.{HaveClusters, Send, due_send, send_of}
 use Rattle.ideal_lane.specs.State.{LaneState}
 use Rattle.ideal_lane.proofs.Lookups.{all-at}
 
--- where an operation is a send, it is a load of a chain with these clusters
+-- an operation that is a send is a load of a chain with these clusters
 pub record IsSend (o : Op) (s : Send) : Type 0 where
   pub flags : ℕ
   pub is : o ≡ op.Load s.map (buffer.Send s.chain (Some s.clusters)) flags s.items
@@ -52,7 +52,7 @@ due-at l s e = by l.due (slice_get l.script l.place) refl e
     by true None at e = absurd (cc)
     by true (Some o) at e = record { o = o; at = at; is = e }
 
--- the clusters of a send of a script are as the rules on scripts want them
+-- the clusters of a send of a script obey the rules on scripts
 pub due-clusters : (l : LaneState) (s : Send) → due_send l ≡ Some s → HaveClusters l.script →
     AreClustersFor s.chain s.clusters
 due-clusters l s e all =
@@ -60,7 +60,7 @@ due-clusters l s e all =
     subst (λ o. IfSome (about o).loads HasClusters) (sent d.o s d.is).is
     (all-at (λ o. IfSome (about o).loads HasClusters) l.script l.place d.o all d.at)
 
--- a call that must not wait does not
+-- a call that must not wait is not queued
 pub unqueued : (lane : ℕ) (m : MapId) (z : ZoneId) (need : ℕ) (a : Account) (have : ℕ) →
     (account_step lane (call.Grab m z need true) a).reply ≡ reply.Queued have → ⊥
 unqueued lane m z need a have h = by (nat_le need (free a z.0)) h

@@ -1,4 +1,4 @@
--- Each turn leaves its driver standing.
+-- Each turn keeps its driver's invariant.
 use Rattle.std.proofs.Common.{◌≡◌, ◌≢◌, ℕ, ◌+◌, ◌*◌, ◌%◌, ◌≤◌, ◌<◌, ◌==◌, ◌||◌, not, Bool, true, false, cond, if◌then◌else◌, List}
 use Rattle.std.proofs.Common.{[], ◌∷◌, Option, Some, None, is_some, refl, ap, sym, ◌∙◌, subst, arith, nat_le}
 use Rattle.std.proofs.lemmas.Bool.{and_parts, false≢true}
@@ -78,7 +78,7 @@ cut-none m k q none = get_cut m k q ∙ by (q == k)
 same-value : {X : Type 0} {o : Option X} {x y : X} → o ≡ Some x → o ≡ Some y → x ≡ y
 same-value e f = cc
 
--- what is there stands at another place than what is not
+-- a place that has a value is not one that has none
 apart : {X : Type 0} (m : FinMap nat_cmp X) (k q : ℕ) (x : X) → get m k ≡ Some x → get m q ≡ None → q ≢ k
 apart m k q x there none e = absurd (let f : get m q ≡ get m k = ap (get m) e in cc)
 
@@ -127,7 +127,7 @@ none-found {X} test (f ∷ es) q x none e =
         sym (λ i. test (key i, value i)) ∙ t
     by rest false t h false d g = rest h g
 
--- ---- changes of the tags, maps, memories and rings of a driver that stands
+-- ---- changes of the tags, maps, memories and rings of a driver, which keep its invariant
 
 -- a ring lies in a memory that is as it was, or is gone with its map
 ring-in : {p : ℕ} {maps : FinMap nat_cmp LaneMap} {mems : FinMap nat_cmp LaneMemory} (q : ℕ)
@@ -156,7 +156,7 @@ module _ {p maxmem : ℕ} {tags : FinMap nat_cmp LaneTag} {maps : FinMap nat_cmp
     ring = λ k r e. ring-in q maps mems r le (λ x h. h) (s.ring k r e).there (s.ring k r e);
   }
 
-  -- a map stands elsewhere
+  -- a map is at another stage
   stands-put : (m : ℕ) (o n : LaneMap) → get maps m ≡ Some o → n.tag ≡ o.tag → n.zone ≡ o.zone →
       (o.zone ≡ None → IsPageless n.stage) →
       StandsFrom p maxmem tags maps mems rings → StandsFrom p maxmem tags (insert maps m n) mems rings
@@ -241,7 +241,7 @@ module _ {p maxmem : ℕ} {tags : FinMap nat_cmp LaneTag} {maps : FinMap nat_cmp
         pageless = st.pageless;
       }
 
-  -- a tag is gone that no map has
+  -- a tag without maps is gone
   stands-untagged : (t : ℕ) → list_any (λ e. e.1.tag == t) (entries maps) ≡ false →
       StandsFrom p maxmem tags maps mems rings → StandsFrom p maxmem (remove tags t) maps mems rings
   stands-untagged t none s = record {
@@ -498,7 +498,7 @@ module _ (p : ℕ) (l : LaneState) (s : StandsFrom p l.maxmem l.tags l.maps l.me
   touches-stand (Fetches k f) = (stands-moved k f.r f.ring s, refl)
   touches-stand _ = (s, refl)
 
-  -- the map of a load, where it stands now
+  -- the map of a load is at another stage
   in-staged : (m : ℕ) (o : LaneMap) (g : Stage) → get l.maps m ≡ Some o →
       (o.zone ≡ None → IsPageless g) → StandsIn p l.place (staged m o g l)
   in-staged m o g e pageless = (stands-put m o (record o { tried = true; stage = g }) e refl refl pageless s, refl)
@@ -508,7 +508,7 @@ module _ (p : ℕ) (l : LaneState) (s : StandsFrom p l.maxmem l.tags l.maps l.me
   in-unpaged m o pages e none =
       in-staged m o (emptied pages) e (λ z. subst (λ ps. IsPageless (emptied ps)) (sym (none z)) tt)
 
-  -- a load that needs pages is of a map with a zone; so one without a zone ends with none
+  -- the map of a load that needs pages has a zone, so a load of a map without one ends with no pages
   zoned : {d : Work} (b : Begins l d) → is_device l b.o ≡ false → (need_of (chunks b) == 0) ≡ false →
       b.o.zone ≡ None → ⊥
   zoned b plain some none =

@@ -95,7 +95,7 @@ use Rattle.ideal_lane.proofs.Effects.{Unreadable, Unwritable, again}
 -- ---- each operation, item and callback is one of them
 
 module _ (l : LaneState) (d : Work) where
-  -- what takes no door
+  -- a step without a call has one of these effects
   abbrev pub Only : Asking Outcome → Type 0
   Only (Gives x) = Touches l d x
   Only (Asks c k) = ⊥
@@ -103,7 +103,7 @@ module _ (l : LaneState) (d : Work) where
   same : (x : Report) → Only (gives l (answer.Report x))
   same x = Same (answer.Report x) tt tt
 
-  -- whatever the reply to its call
+  -- a step has one of these effects, whatever the reply to its call
   abbrev pub Made : Asking Outcome → Type 0
   Made (Gives x) = (r : HubReply) → Makes l d None r x
   Made (Asks c k) = (r : HubReply) → Makes l d (Some c) r (k r)
@@ -256,7 +256,7 @@ module _ (l : LaneState) (d : Work) where
   device-makes : (b : Begins l d) → is_device l b.o ≡ true → Made l d (Gives (device_load b.m b.o (asks b) l))
   device-makes b device r = by (length (frames b) == 0) refl
     where
-      -- with its run
+      -- a load of an IOMMU tag's map that has its run of device pages
       runs : (k : Ends l d None r) (fit : Bool) →
           fits l (map_in k) (was_in k) (place_in k) (asked_in k) (chunks_in k) (pages_in k) ≡ fit →
           Makes l d None r (with_spaces (spaces_in k)
@@ -512,7 +512,7 @@ called-makes l m pages = by (get l.maps m.made_at) refl
 -- ---- sends
 
 module _ (l : LaneState) where
-  -- where an outcome is that there are too many segments, the first load of a send went so far
+  -- if there are too many segments, the first load of a send got so far
   abbrev Held-by : Send → Asking Outcome → Type 0
   Held-by s (Gives x) = is_too_big x.answer ≡ true → Held l s
   Held-by s (Asks c k) = (r : HubReply) → is_too_big (k r).answer ≡ true → Held l s
@@ -541,7 +541,7 @@ module _ (l : LaneState) where
 
   -- ---- resends
 
-  -- what is answered, whatever the reply to a call
+  -- the answer has this property, whatever the reply to a call
   abbrev pub Answers-by : (Answer → Type 0) → Asking Outcome → Type 0
   Answers-by Q (Gives x) = Q x.answer
   Answers-by Q (Asks c k) = (r : HubReply) → Q (k r).answer
@@ -642,7 +642,7 @@ module _ (l : LaneState) (s : Send) (now : IsAgain l s) where
         (passed filled Again-by (load_judged filled s.map (Vector s.clusters)) _ fine
         (resends _ (begun-makes filled (Operation (again s)) begins) (begun-answers filled begins IsTold (λ ss. refl) (λ have need. refl) refl refl (λ long. refl))))
 
-  -- each refusal stands before the next
+  -- each refusal comes before the next
   module _ (o : LaneMap) (there : get l.maps s.map ≡ Some o) (idle : is_idle o.stage ≡ true) where
     written-steps : load_judged l s.map (Vector s.clusters) ≡ Fine →
         cpu_read_answer (is_known l.memory) l.loans (chain_bytes s l) ≡ Fine → (j : Judged) →
@@ -688,7 +688,7 @@ module _ (l : LaneState) (s : Send) (now : IsAgain l s) where
 -- ---- turns
 
 module _ (l : LaneState) where
-  -- a turn is one of them, whatever the reply to its call
+  -- a turn has one of these effects, whatever the reply to its call
   abbrev pub Stepped-by : Side → Asking Turned → Type 0
   Stepped-by s x = (r : HubReply) → Steps l s (call_of x) r (by_reply x r)
 

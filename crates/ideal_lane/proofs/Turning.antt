@@ -141,7 +141,7 @@ abbrev zone_at : Option LaneMap → Option ℕ
 zone_at None = None
 zone_at (Some o) = o.zone
 
--- a callback that comes is that of a map that waits
+-- a callback that comes is for a map that waits
 pub callback-waits : (l : LaneState) (a : Account) (m : MapId) (pages : List Pa) → IsFit a → Agrees (view_of l) a →
     (account_step l.id call.TakeCallback a).reply ≡ reply.Called m pages →
     (z need : ℕ) × WaitsAt l m.made_at z need
@@ -161,7 +161,7 @@ module _ (l : LaneState) (s : Stands l) where
   asked-by None r n h = tt
   asked-by (Some c) r n h = h.0
 
-  -- what is kept after the copy of a send is so before it
+  -- what is kept from the state after the copy of a send is kept from the state before it
   uncopied : (d : Send) (c : Option HubCall) (r : HubReply) (n : LaneState) → KeptBy (copied d l) c r n →
       KeptBy l c r n
   uncopied d None r n h = h

@@ -1,4 +1,4 @@
--- What a load looks at, the call that it makes and how it ends are the same whatever the bytes of the driver are.
+-- What a load looks at, the call that it makes and how it ends are the same, whatever the bytes of the driver.
 use Rattle.std.proofs.Common.{◌≡◌, ℕ, ◌==◌, Bool, true, false, if◌then◌else◌, List, [], length, Option, Some, None, refl}
 use Rattle.std.proofs.Common.{ap, ◌∙◌, map, nat_lt}
 use Rattle.std.specs.FinMap.{contains_key, get}
@@ -85,7 +85,7 @@ module _ (w : IdealMemory) (l : LaneState) where
   abbrev other : Outcome → Outcome
   other = outcome_with w
 
-  -- of the same load, which looks at no byte, the driver's bytes are all that differs
+  -- the same load leaves drivers that differ only in their bytes
   module _ (m : ℕ) (x : Asked) (o : LaneMap) where
     finished-same : (at : ℕ) (chunks : List Chunk) (pages : List ℕ) →
         finished m o at x chunks pages n ≡ other (finished m o at x chunks pages l)
@@ -141,7 +141,7 @@ module _ (w : IdealMemory) (l : LaneState) where
         else if is_device k o then Gives (device_load m o x k)
         else load_chunks m o x (chunks_for k o (contains_key k.mems m) x.entries) k)
 
-    -- with its tests decided
+    -- the load of a map, with its tests decided
     abbrev decided : Judged → Bool → Bool → LaneState → Asking Outcome
     decided j long device k =
         unless_refused j k (
@@ -173,7 +173,7 @@ module _ (w : IdealMemory) (l : LaneState) where
       by None = refl
       by (Some o) = idle o (is_idle o.stage)
 
--- a load of a bio, over the driver with these bytes
+-- the load of a bio, by the driver with these bytes
 pub bytes-unread : (m : ℕ) (b : Bio) (nowait : Bool) (items : List Item) (w : IdealMemory) (l : LaneState) →
     load m (asked m b nowait items (with_memory w l)) (with_memory w l)
     ≡ goes_on (outcome_with w) (load m (asked m b nowait items l) l)

@@ -1,4 +1,4 @@
--- Where no tag has an address space, none has one after a tag has gone, or a load has ended.
+-- If no tag has an address space, none has one after a tag has gone or a load has ended.
 use Rattle.std.proofs.Common.{◌≡◌, ℕ, ◌==◌, Bool, true, false, if◌then◌else◌, refl, ap, sym, ◌∙◌}
 use Rattle.busdma_rules.specs.Iommu.Space.{Space, run_unmapped as left}
 use Rattle.ideal_lane.specs.State.{no_space}

@@ -31,7 +31,7 @@ like-refl v =
     record { id = refl; maxmem = refl; maps = λ j. refl; mems = λ j. refl; returns = refl; own_frame = λ f. refl }
 
 module _ (l : LaneState) (m : ℕ) where
-  -- a map is put where the account bears on nothing new
+  -- a map is put of which the account sees nothing new
   pub like-unseen : (o : LaneMap) → own_map (Some o) ≡ own_map (get l.maps m) →
       IsLike (view_of l) (view_of (record l { maps = insert l.maps m o }))
   like-unseen o e = record {
@@ -55,7 +55,7 @@ module _ (l : LaneState) (m : ℕ) where
     own_frame = λ f. refl;
   }
 
-  -- and its pages have joined the return queue
+  -- a map with a zone is put, and its pages have joined the return queue
   pub like-unloaded : (o : LaneMap) (z : ℕ) (pages : List ℕ) →
       own_map (Some o) ≡ Some (record { zone = z; stage = view.emptied pages }) →
       IsLike (view.unloaded (view_of l) m z pages)
@@ -80,7 +80,7 @@ module _ (l : LaneState) (m : ℕ) where
     own_frame = λ f. refl;
   }
 
-  -- a map is gone on which the account does not bear
+  -- a map is gone that the account does not see
   pub like-unseen_gone : own_map (get l.maps m) ≡ None →
       IsLike (view_of l) (view_of (record l { maps = remove l.maps m }))
   like-unseen_gone e = record {
@@ -92,7 +92,7 @@ module _ (l : LaneState) (m : ℕ) where
     own_frame = λ f. refl;
   }
 
-  -- a memory is put with a map on which the account does not bear
+  -- a memory is put with a map that the account does not see
   pub like-memory : (o : LaneMap) (x : LaneMemory) → own_map (Some o) ≡ own_map (get l.maps m) →
       IsLike (view.with_mem (view_of l) m (own_frames (Some x)))
       (view_of (record l { mems = insert l.mems m x; maps = insert l.maps m o }))
@@ -105,7 +105,7 @@ module _ (l : LaneState) (m : ℕ) where
     own_frame = λ f. refl;
   }
 
-  -- a memory is gone, with such a map
+  -- a memory is gone, with a map that the account does not see
   pub like-no_memory : own_map (get l.maps m) ≡ None →
       IsLike (view.with_mem (view_of l) m None)
       (view_of (record l { mems = remove l.mems m; maps = remove l.maps m }))
@@ -118,7 +118,7 @@ module _ (l : LaneState) (m : ℕ) where
     own_frame = λ f. refl;
   }
 
--- where a map stands whose pages left it
+-- the stage of a map whose pages left it
 pub stage-emptied : (pages : List ℕ) → stage_of (emptied pages) ≡ view.emptied pages
 stage-emptied [] = refl
 stage-emptied (p ∷ ps) = refl

@@ -21,11 +21,11 @@ use Rattle.ideal_lane.specs.Asking.{Asking}
 use Rattle.ideal_lane.specs.Outcomes.{Outcome, gives, unless_absent, unless_refused, unless_unloaded, unless_past}
 use Rattle.ideal_lane.specs.Places.{virtual_at, first_unreached, bytes_at}
 
--- the values of bytes
+-- the values of the bytes at these physical addresses, in order
 abbrev pub values : LaneState → List ℕ → List ℕ
 values l bytes = map (λ a. value (l.memory a)) bytes
 
--- cpu_read
+-- cpu_read: the driver reads the `len` bytes at a place, if it reaches them all and the rules of lending allow it
 abbrev pub cpu_read : Place → ℕ → LaneState → Asking Outcome
 cpu_read place len l =
     unless_absent (virtual_at l place) l (λ va.
@@ -33,7 +33,7 @@ cpu_read place len l =
     unless_refused (cpu_read_answer (is_known l.memory) l.loans (bytes_at l (run_of va len))) l (
     gives l (Bytes (values l (bytes_at l (run_of va len)))))))
 
--- cpu_write
+-- cpu_write: the driver writes these values at a place, if it reaches all the bytes and the rules of lending allow it
 abbrev pub cpu_write : Place → List ℕ → LaneState → Asking Outcome
 cpu_write place vs l =
     unless_absent (virtual_at l place) l (λ va.
@@ -41,17 +41,19 @@ cpu_write place vs l =
     unless_refused (cpu_write_answer l.loans (bytes_at l (run_of va (length vs)))) l (
     gives (record l { memory = written (bytes_at l (run_of va (length vs))) vs l.memory }) Done)))
 
--- the step, unless the device may not read `len` bytes of a map's load, from `off` on
+-- the step, unless the device is forbidden to read `len` bytes of a map's load, from `off` on
 abbrev pub unless_unread : ℕ → ℕ → ℕ → LaneState → Asking Outcome → Asking Outcome
 unless_unread m off len l step =
     unless_unloaded m l (λ o. unless_past m off len l (
     unless_refused (dev_read_answer (is_known l.memory) (loan_of l.loans m) off len) l step))
 
--- dev_read
+-- dev_read: the device reads `len` bytes of a map's load from `off` on, if the load has them and the rules of lending
+-- allow it
 abbrev pub dev_read : ℕ → ℕ → ℕ → LaneState → Asking Outcome
 dev_read m off len l = unless_unread m off len l (gives l (Bytes (values l (load_bytes l.loans m off len))))
 
--- dev_write
+-- dev_write: the device writes these values to a map's load from `off` on, if the load has the bytes and the rules of
+-- lending allow it
 abbrev pub dev_write : ℕ → ℕ → List ℕ → LaneState → Asking Outcome
 dev_write m off vs l =
     unless_unloaded m l (λ o. unless_past m off (length vs) l (
@@ -60,14 +62,15 @@ dev_write m off vs l =
 
 -- Accesses of an IOMMU tag's address space
 
--- the place of the byte at a device address among the bytes of segments, which stand behind so many others
+-- the place of the byte at a device address among the bytes of these segments, which follow `before` other bytes
 abbrev pub place_in : ℕ → List Segment → ℕ → Option ℕ
 place_in before [] a = None
 place_in before (s ∷ ss) a =
     if nat_le s.addr.0 a && nat_lt a (s.addr.0 + s.len) then Some (before + (a - s.addr.0))
     else place_in (before + s.len) ss a
 
--- the position of the byte at a device address in the load of the first of these maps that is of the tag and has it
+-- the position of the byte at a device address, in the load of the first of these maps that is of the tag and has the
+-- byte
 abbrev pub position_in : LaneState → ℕ → ℕ → List (ℕ × LaneMap) → Option Position
 position_in l t a [] = None
 position_in l t a (e ∷ es) =
@@ -75,22 +78,24 @@ position_in l t a (e ∷ es) =
     then slice_get (loan_of l.loans e.0).positions (unwrap_or (place_in 0 (segments_in e.1.stage) a) 0)
     else position_in l t a es
 
--- what stands in the way of a device's access of a position, where a load has it
+-- why the device's access of a position is refused, if it is; without a position no load has the byte, so it is not
+-- lent
 abbrev pub unless_unlent : ReportName → (Position → Option ReportName) → Option Position → Option ReportName
 unless_unlent unlent refusal None = Some unlent
 unless_unlent unlent refusal (Some p) = refusal p
 
--- what stands in the way of an access at a device address
+-- why an access of the byte at a device address is refused, if it is
 abbrev pub raw_refusal : ReportName → (Position → Option ReportName) → LaneState → ℕ → ℕ → Option ReportName
 raw_refusal unlent refusal l t a =
     if nat_le (2 ^ 64) a || not (is_some (translated (l.spaces t) a)) then Some Untranslated
     else unless_unlent unlent refusal (position_in l t a (entries l.maps))
 
--- where the bytes at device addresses lie
+-- the physical addresses of the bytes at these device addresses
 abbrev pub raw_bytes : LaneState → ℕ → List ℕ → List ℕ
 raw_bytes l t addresses = map (λ a. unwrap_or (translated (l.spaces t) a) 0) addresses
 
--- dev_read_at
+-- dev_read_at: the device reads the `len` bytes from a device address on, if each has a translation and the rules of
+-- lending allow it
 abbrev pub dev_read_at : ℕ → ℕ → ℕ → LaneState → Asking Outcome
 dev_read_at t addr len l =
     unless_absent (get l.tags t) l (λ o.
@@ -98,7 +103,8 @@ dev_read_at t addr len l =
     (judged (raw_refusal DeviceReadUnlent (dev_read_refusal (is_known l.memory) false) l t) 0 (run_of addr len)) l (
     gives l (Bytes (values l (raw_bytes l t (run_of addr len))))))
 
--- dev_write_at
+-- dev_write_at: the device writes these values from a device address on, if each byte has a translation and the rules
+-- of lending allow it
 abbrev pub dev_write_at : ℕ → ℕ → List ℕ → LaneState → Asking Outcome
 dev_write_at t addr vs l =
     unless_absent (get l.tags t) l (λ o.

@@ -1,4 +1,4 @@
--- How a driver and the account of all drivers agree, and what a step makes of that.
+-- How a driver and the account of all drivers agree, and what a step makes of their agreement.
 use Rattle.std.specs.Prelude.{ℕ}
 use Rattle.busdma_machine.specs.Bounce.Account.{Account}
 use Rattle.busdma_machine.specs.Bounce.AccountStep.{AccountReply, account_step}
@@ -9,7 +9,7 @@ use Rattle.ideal_lane.specs.Asking.{Asking, Gives, Asks}
 use Rattle.ideal_lane.specs.Turns.{Turned}
 use Rattle.ideal_lane.specs.View.{view_of}
 
--- of each name of the driver the account has what the driver has of it
+-- the driver and the account agree: the account has of each name of the driver what the driver has of it
 abbrev pub AgreesWith : LaneState → Account → Type 0
 AgreesWith l a = Agrees (view_of l) a
 

@@ -1,4 +1,4 @@
--- Which load's callback a step calls, and how often the steps of a run call it: after bus_dmamap_load(9).
+-- Which load's callback a step calls, and how often the steps of a run call it. After bus_dmamap_load(9).
 use Rattle.std.specs.Prelude.{◌≡◌, ℕ, ◌+◌, ◌==◌, Bool, true, false, not, ◌&&◌, List, [], ◌∷◌, Option, Some, None}
 use Rattle.std.specs.Prelude.{if◌then◌else◌, is_some, slice_get}
 use Rattle.std.specs.FinMap.{get}
@@ -15,7 +15,7 @@ use Rattle.ideal_lane.specs.Asking.{by_reply}
 use Rattle.ideal_lane.specs.Sends.{is_kept, send_at}
 use Rattle.ideal_lane.specs.Turns.{Turn, Turned, Stepped, Blocked, Ended, lane_step}
 
--- a load with this answer has ended in the step of its own operation, which calls its callback
+-- a load with this answer ends in the step of its own operation, which calls its callback
 abbrev pub ends : Answer → Bool
 ends answer.Done = false
 ends (answer.Grown g) = false
@@ -28,25 +28,25 @@ ends answer.Idle = false
 ends (answer.Refused errno) = true
 ends (answer.Report r) = false
 
--- there is a load
+-- there is an operation, and it is a load
 abbrev pub is_load : Option Op → Bool
 is_load None = false
 is_load (Some o) = is_some (about o).loads
 
--- the load at a place of the script waits, with a map that stands so
+-- a map at this stage waits with the load of this place of the script
 abbrev pub awaits : ℕ → Stage → Bool
 awaits p Idle = false
 awaits p (Waiting w) = w.load_at == p
 awaits p (Loaded bounced segments pages) = false
 awaits p Returning = false
 
--- it waits, with this map
+-- this map exists, and waits with the load of this place of the script
 abbrev pub awaited : ℕ → Option LaneMap → Bool
 awaited p None = false
 awaited p (Some o) = awaits p o.stage
 
--- what was done, with this answer, calls the callback of the load at a place of the script; a send whose resend is due
--- keeps its callback, and the resend calls it or drops it
+-- this step, with this answer, calls the callback of the load at a place of the script. A send whose resend is due
+-- keeps its callback, and the resend calls it or drops it.
 abbrev pub calls : ℕ → LaneState → Did → Answer → Bool
 calls p l (did.Op place) a =
     (place == p) && (is_load (slice_get l.script place) && (ends a && not (is_kept (send_at l.script place) a)))
@@ -55,24 +55,24 @@ calls p l (did.Callback m) a = awaited p (get l.maps m.made_at)
 calls p l (did.Release m page) a = false
 calls p l (did.Item load_at place) a = false
 
--- how often a turn calls it
+-- how often a turn calls the callback of the load at a place of the script
 abbrev pub called_by : ℕ → LaneState → Turn → ℕ
 called_by p l (Stepped e) = if calls p l e.did e.answer then 1 else 0
 called_by p l Blocked = 0
 called_by p l Ended = 0
 
--- a step of a run: its side, the reply to its call if it made one, and the turn
+-- a turn of a run: its side, the reply to its call if it made one, and what it made
 pub record Made : Type 0 where
   pub side : Side
   pub reply : HubReply
   pub turned : Turned
 
--- these steps were made one after another
+-- these turns were made one after another, from this state of the driver on
 abbrev pub IsRun : LaneState → List Made → Type 0
 IsRun l [] = Unit {0}
 IsRun l (m ∷ ms) = (m.turned ≡ by_reply (lane_step l m.side) m.reply) × IsRun m.turned.lane ms
 
--- how often the steps of a run call the callback of the load at a place of the script
+-- how often the turns of a run call the callback of the load at a place of the script
 abbrev pub times_called : ℕ → LaneState → List Made → ℕ
 times_called p l [] = 0
 times_called p l (m ∷ ms) = called_by p l m.turned.turn + times_called p m.turned.lane ms

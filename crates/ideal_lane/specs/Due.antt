@@ -14,7 +14,8 @@ use Rattle.ideal_lane.specs.Sends.{Send, due_send}
 use Rattle.ideal_lane.specs.State.{LaneState, LaneMap, Stage, Idle, Waiting, Loaded, Returning}
 use Rattle.ideal_lane.specs.Turns.{Turn, Stepped, Blocked, Ended}
 
--- a map that stands so has no load, and is idle where the return queue has none of its pages
+-- a map at this stage has no load; if it is Returning, the return queue has at least one of its pages, which `pages`
+-- counts
 abbrev pub IsBare : Stage → ℕ → Type 0
 IsBare Idle pages = Unit {0}
 IsBare (Waiting w) pages = ⊥
@@ -28,11 +29,11 @@ pub record IsDue (l : LaneState) (s : Send) : Type 0 where
   pub bare : IsBare o.stage (returning s.map l.returns)
   pub short : span_bytes s.chain ≤ (limits_of l o).maxsize
 
--- so it is with the send whose resend is due, if one is
+-- if a resend is due, its send has its map without a load, and a chain that the map's tag allows
 abbrev pub DueStands : LaneState → Type 0
 DueStands l = IfSome (due_send l) (IsDue l)
 
--- a load is refused since it is too long, or its map does not exist or is busy
+-- the errno of a load that is longer than its tag allows
 abbrev pub is_einval : Errno → Bool
 is_einval errno.EINVAL = true
 is_einval errno.EFBIG = false
@@ -40,17 +41,19 @@ is_einval errno.ENOMEM = false
 is_einval errno.EINPROGRESS = false
 is_einval errno.EBUSY = false
 
+-- the report says that a map does not exist or is busy
 abbrev pub is_of_map : ReportName → Bool
 is_of_map name.Absent = true
 is_of_map name.MapBusy = true
 is_of_map _ = false
 
+-- the answer is EINVAL, or a report that a map does not exist or is busy
 abbrev pub is_unfit : Answer → Bool
 is_unfit (answer.Refused e) = is_einval e
 is_unfit (answer.Report r) = is_of_map r.name
 is_unfit _ = false
 
--- a turn is a step with such an answer
+-- a turn is a step that answers EINVAL, or reports that a map does not exist or is busy
 abbrev pub is_unfit_turn : Turn → Bool
 is_unfit_turn (Stepped e) = is_unfit e.answer
 is_unfit_turn Blocked = false

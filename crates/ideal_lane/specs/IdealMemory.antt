@@ -1,5 +1,5 @@
--- The bytes of a driver's ideal memory: one for each physical address of its own frames, in which its devices read and
--- write directly. This project's own.
+-- The bytes of a driver's ideal memory: one for each physical address of its own frames. The driver's devices read and
+-- write them directly. This project's own.
 use Rattle.std.specs.Prelude.{ℕ, ◌==◌, Bool, true, false, if◌then◌else◌, List, [], ◌∷◌, Option, Some, None}
 use Rattle.std.specs.List.{list_any}
 use Rattle.std.specs.Option.{option_map}
@@ -9,7 +9,7 @@ pub data Content : Type 0 where
   Known : ℕ → Content
   Unknown : Content
 
--- what stands at each physical address; None where the byte is not the driver's own
+-- what the ideal memory has at each physical address, or None if the byte is not the driver's own
 abbrev pub IdealMemory : Type 0
 IdealMemory = ℕ → Option Content
 
@@ -19,7 +19,7 @@ known (Some (Known v)) = true
 known (Some Unknown) = false
 known None = false
 
--- the value of a byte that is Known
+-- the value of a byte that is Known, and 0 for any other
 abbrev pub value : Option Content → ℕ
 value (Some (Known v)) = v
 value (Some Unknown) = 0
@@ -33,12 +33,12 @@ is_known memory a = known (memory a)
 abbrev pub has_address : List ℕ → ℕ → Bool
 has_address addresses a = list_any (λ k. a == k) addresses
 
--- the bytes at these addresses become Unknown, where they are the driver's own
+-- the bytes at these addresses become Unknown, if they are the driver's own
 abbrev pub forgotten : List ℕ → IdealMemory → IdealMemory
 forgotten addresses memory a =
     if has_address addresses a then option_map (λ c. Unknown) (memory a) else memory a
 
--- one byte is written, where it is the driver's own
+-- one byte is written, if it is the driver's own
 abbrev pub written_at : ℕ → ℕ → IdealMemory → IdealMemory
 written_at pa v memory a = if a == pa then option_map (λ c. Known v) (memory a) else memory a
 

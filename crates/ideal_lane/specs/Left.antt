@@ -1,4 +1,4 @@
--- How much a driver has still to do.
+-- How much a driver still has to do.
 use Rattle.std.specs.Prelude.{◌≡◌, ℕ, ◌+◌, ◌<◌, List, length, drop, Option, Some, None}
 use Rattle.std.specs.Ordering.{nat_cmp}
 use Rattle.std.specs.FinMap.{FinMap, entries}
@@ -17,13 +17,14 @@ use Rattle.ideal_lane.specs.Turns.{Turn, Turned, Stepped, Blocked, Ended}
 abbrev pub op_weight : Op → ℕ
 op_weight o = 2 + (length (items_of o) + loaded_by o)
 
--- a map counts the pages that it holds; and where its load waits 1, the load's items and its need
+-- what a map at this stage counts: the pages that it holds; or, if its load waits, 1, the load's items and its need
 abbrev pub stage_weight : Stage → ℕ
 stage_weight Idle = 0
 stage_weight (Waiting w) = 1 + (length w.items + w.need)
 stage_weight (Loaded bounced segments pages) = length pages
 stage_weight Returning = 0
 
+-- what these maps count together
 abbrev pub maps_weight : FinMap nat_cmp LaneMap → ℕ
 maps_weight maps = sum_by (λ e. stage_weight e.1.stage) (entries maps)
 
@@ -31,7 +32,7 @@ maps_weight maps = sum_by (λ e. stage_weight e.1.stage) (entries maps)
 abbrev pub due_weight : Send → ℕ
 due_weight s = 1 + (length s.items + span_bytes s.chain)
 
--- the operations from a place on that are not yet done, of which the first may be a send whose resend is due
+-- what the operations from a place on count that are not yet done; the first may be a send whose resend is due
 abbrev pub script_weight : Option Send → List Op → ℕ → ℕ
 script_weight None script place = sum_by op_weight (drop place script)
 script_weight (Some s) script place = due_weight s + sum_by op_weight (drop (place + 1) script)
@@ -48,7 +49,7 @@ Falls before after (Stepped entry) = left after < left before
 Falls before after Blocked = after ≡ before
 Falls before after Ended = after ≡ before
 
--- the same of a step with the account's reply
+-- a step with the account's reply leaves less to do, and a turn that is no step leaves the driver as it was
 abbrev pub FallsOrStays : LaneState → Account → Asking Turned → Type 0
 FallsOrStays l a (Gives t) = Falls l t.lane t.turn
 FallsOrStays l a (Asks c k) = let t : Turned = k (account_step l.id c a).reply in Falls l t.lane t.turn

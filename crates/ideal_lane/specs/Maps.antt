@@ -18,8 +18,8 @@ abbrev pub with_map : ℕ → Option ℕ → LaneState → LaneState
 with_map t zone l =
     record l { maps = insert l.maps l.place (record { tag = t; zone = zone; tried = false; stage = Idle }) }
 
--- a map of a tag that could bounce was to be made; where the first allocation of the tag wanted more pages than came,
--- it was not
+-- the driver after the call to make a map of a tag that could bounce: no map is made if the first allocation of the tag
+-- got too few pages
 abbrev pub map_by_reply : ℕ → LaneTag → LaneState → HubReply → Outcome
 map_by_reply t o l (reply.Grown g) = record {
   lane = if g.made then with_tag t o.limits true (with_map t (Some g.zone.0) l) else l;
@@ -27,11 +27,11 @@ map_by_reply t o l (reply.Grown g) = record {
 }
 map_by_reply t o l _ = record { lane = l; answer = Refused ENOMEM }
 
--- the loads of a tag's maps could bounce; those of an IOMMU tag never do
+-- the loads of a tag's maps could bounce; the loads of an IOMMU tag's maps never do
 abbrev pub bounces : ℕ → LaneTag → Bool
 bounces maxmem t = not t.device && could_bounce t.limits maxmem
 
--- map: an idle map of a tag, named by this place
+-- map: a new idle map of a tag, named by this place of the script
 abbrev pub map : ℕ → LaneState → Asking Outcome
 map t l =
     unless_absent (get l.tags t) l (λ o.
@@ -42,19 +42,20 @@ map t l =
 abbrev pub without_map : ℕ → LaneState → LaneState
 without_map m l = record l { maps = remove l.maps m }
 
--- an idle map is ended, at its zone where it has one
+-- an idle map is ended, at its zone if it has one
 abbrev pub end_map : ℕ → Option ℕ → LaneState → Asking Outcome
 end_map m None l = gives (without_map m l) Done
 end_map m (Some z) l =
     Asks (DestroyMap (named l m) (record { 0 = z })) (λ r. record { lane = without_map m l; answer = Done })
 
--- map_destroy: a map that is not idle is busy
+-- map_destroy: an idle map is ended; any other gives EBUSY
 abbrev pub map_destroy : ℕ → LaneState → Asking Outcome
 map_destroy m l =
     unless_absent (get l.maps m) l (λ o.
     if is_idle o.stage then end_map m o.zone l else gives l (Refused EBUSY))
 
--- await: the driver has waited for the callback of a load of the map, of which one must have been called or stored
+-- await: the driver has waited for the callback of a load of the map. At least one load must have called or stored its
+-- callback.
 abbrev pub await : ℕ → LaneState → Asking Outcome
 await m l =
     unless_absent (get l.maps m) l (λ o. if o.tried then gives l Done else refused NotDeferred 0 l)

@@ -1,4 +1,4 @@
--- Making and ending dmamem memories: after bus_dmamem_alloc(9).
+-- Making and ending dmamem memories. After bus_dmamem_alloc(9).
 use Rattle.std.specs.Prelude.{ℕ, Bool, false, None, if◌then◌else◌}
 use Rattle.std.specs.FinMap.{get, insert, remove}
 use Rattle.busdma_machine.specs.declared.bounce.hold.HubCall.TheVariants.{MemAlloc, MemFree}
@@ -14,7 +14,8 @@ use Rattle.ideal_lane.specs.State.{LaneState, LaneMemory, Idle, named}
 use Rattle.ideal_lane.specs.Asking.{Asking, Asks}
 use Rattle.ideal_lane.specs.Outcomes.{Outcome, gives, unless_absent, is_idle}
 
--- the driver with a memory at this place, its idle map and its bytes, which are 0 where they are asked to be
+-- the driver with a memory named by this place, with its idle map and its bytes, which are 0 if that is asked for and
+-- else Unknown
 abbrev pub with_memory : LaneMemory → Bool → LaneState → LaneState
 with_memory x zero l = record l {
   mems = insert l.mems l.place x;
@@ -22,7 +23,7 @@ with_memory x zero l = record l {
   memory = joined (in_run x.first x.count) (if zero then Known 0 else Unknown) l.memory;
 }
 
--- a run of frames was asked for
+-- the driver after the call for a run of frames: it has the memory, or there is no run and it answers ENOMEM
 abbrev pub memory_by_reply : ℕ → TagLimits → ℕ → LaneState → HubReply → Outcome
 memory_by_reply t limits flags l (reply.Run first count) = record {
   lane =
@@ -32,7 +33,7 @@ memory_by_reply t limits flags l (reply.Run first count) = record {
 }
 memory_by_reply t limits flags l _ = record { lane = l; answer = Refused ENOMEM }
 
--- dmamem: a memory of a tag, named by this place
+-- dmamem: a new memory of a tag, named by this place of the script
 abbrev pub dmamem : ℕ → ℕ → LaneState → Asking Outcome
 dmamem t flags l =
     unless_absent (get l.tags t) l (λ o. Asks (MemAlloc (named l l.place) o.limits) (memory_by_reply t o.limits flags l))
@@ -45,7 +46,7 @@ without_memory m x l = record l {
   memory = parted (in_run x.first x.count) l.memory;
 }
 
--- dmamem_free: a memory whose map is not idle is busy
+-- dmamem_free: a memory is ended if its map is idle; otherwise the answer is EBUSY
 abbrev pub dmamem_free : ℕ → LaneState → Asking Outcome
 dmamem_free m l =
     unless_absent (get l.mems m) l (λ x. unless_absent (get l.maps m) l (λ o.

@@ -7,12 +7,12 @@ use Rattle.busdma_base.specs.Scenarios.PageRuns.{is_own}
 use Rattle.ideal_lane.specs.IdealMemory.{IdealMemory, Known}
 use Rattle.ideal_lane.specs.State.{LaneState, no_space}
 
--- every byte of the driver's pages is Known and 0
+-- the opening memory of a driver: each byte of its pages is Known and 0
 abbrev pub zeros : List PageRun → IdealMemory
 zeros runs pa = if is_own runs pa then Some (Known 0) else None
 
--- a driver at the first operation of its script, in a machine with so many frames, with nothing made and nothing to do
--- for its device
+-- the opening state of a driver: it is at the first operation of its script and has made nothing, and its device has
+-- nothing to do; `maxmem` is the end of the machine's memory, in frames
 abbrev pub opening_lane : ℕ → ℕ → Driver → LaneState
 opening_lane id maxmem driver = record {
   id = id;

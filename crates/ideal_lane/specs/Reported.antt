@@ -1,4 +1,4 @@
--- What a step leaves of a driver whose answer is a report, and which items join its transfer queue.
+-- What a step whose answer is a report leaves of its driver, and which items join the transfer queue.
 use Rattle.std.specs.Prelude.{ℕ, ◌+◌, Bool, false, List, [], ◌∷◌, Option, Some, None, slice_get}
 use Rattle.std.specs.FinMap.{get}
 use Rattle.busdma_base.specs.declared.journals.answer.Answer.{Answer}
@@ -21,34 +21,35 @@ is_reported (Stepped e) = is_report e.answer
 is_reported Blocked = false
 is_reported Ended = false
 
--- the items behind the first
+-- the items after the first
 abbrev pub behind : List QueuedItem → List QueuedItem
 behind [] = []
 behind (q ∷ rest) = rest
 
--- the driver whose side has gone on, and nothing else: its script is at the next place, or an item has left the queue
+-- the driver of which only this side has gone on: its script is at the next place, or an item has left the queue
 abbrev pub gone_on : Side → LaneState → LaneState
 gone_on side.Script l = record l { place = l.place + 1; due = false }
 gone_on side.Transfer l = record l { queue = behind l.queue }
 gone_on side.Callback l = l
 
--- the items that are still in the queue after a turn of a side: a step of the device takes the first
+-- the items of the queue that remain after a turn of a side: a step of the device takes the first
 abbrev pub remaining : Side → Turn → List QueuedItem → List QueuedItem
 remaining side.Transfer (Stepped e) queue = behind queue
 remaining _ _ queue = queue
 
--- the items of an operation at a place
+-- the items of an operation, if there is one, as its place in the script queues them
 abbrev pub items_at : ℕ → Option Op → List QueuedItem
 items_at place None = []
 items_at place (Some o) = queued_items place (items_of o)
 
--- the items of the load for which a map waits that stands so
+-- the items of the load for which a map at this stage waits
 abbrev pub items_awaited : Stage → List QueuedItem
 items_awaited Idle = []
 items_awaited (Waiting v) = queued_items v.load_at v.items
 items_awaited (Loaded bounced segments pages) = []
 items_awaited Returning = []
 
+-- the items of the load for which this map waits, if there is such a map
 abbrev pub items_in : Option LaneMap → List QueuedItem
 items_in None = []
 items_in (Some o) = items_awaited o.stage
@@ -61,13 +62,13 @@ done_items l (did.Callback m) = items_in (get l.maps m.made_at)
 done_items l (did.Release m page) = []
 done_items l (did.Item load_at place) = []
 
--- they join the queue where the load's callback is called with segments, and not with a refusal, or the kick is done
+-- these items, if the answer lets them join: it is segments, with which the load's callback is called, or a kick's Done
 abbrev pub if_ready : Answer → List QueuedItem → List QueuedItem
 if_ready (answer.Segments segments) items = items
 if_ready answer.Done items = items
 if_ready _ items = []
 
--- the items that join the queue with a turn
+-- the items that join the transfer queue with a turn
 abbrev pub joining : LaneState → Turn → List QueuedItem
 joining l (Stepped e) = if_ready e.answer (done_items l e.did)
 joining l Blocked = []

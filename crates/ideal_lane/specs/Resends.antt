@@ -6,7 +6,7 @@ use Rattle.busdma_base.specs.declared.journals.journal.Did.TheVariants as did
 use Rattle.ideal_lane.specs.Callbacks.{Made}
 use Rattle.ideal_lane.specs.Turns.{Turn, Stepped, Blocked, Ended}
 
--- what was done is the operation at a place of the script
+-- what was done is the operation at this place of the script, and not its resend
 abbrev pub is_operation : ℕ → Did → Bool
 is_operation p (did.Op place) = place == p
 is_operation p (did.Again place) = false
@@ -14,7 +14,7 @@ is_operation p (did.Release m page) = false
 is_operation p (did.Callback m) = false
 is_operation p (did.Item load_at place) = false
 
--- it is the resend of the send there
+-- what was done is the resend of the send at this place of the script
 abbrev pub is_resend : ℕ → Did → Bool
 is_resend p (did.Op place) = false
 is_resend p (did.Again place) = place == p
@@ -22,12 +22,12 @@ is_resend p (did.Release m page) = false
 is_resend p (did.Callback m) = false
 is_resend p (did.Item load_at place) = false
 
--- how often a turn does what a test chooses
+-- how often a turn does what a test chooses: 1 if it is such a step, and else 0
 abbrev pub done_by : (Did → Bool) → Turn → ℕ
 done_by chosen (Stepped e) = if chosen e.did then 1 else 0
 done_by chosen Blocked = 0
 done_by chosen Ended = 0
 
--- how often the steps of a run do
+-- how often the turns of a run do what a test chooses
 abbrev pub times_done : (Did → Bool) → List Made → ℕ
 times_done chosen steps = sum_by (λ m. done_by chosen m.turned.turn) steps

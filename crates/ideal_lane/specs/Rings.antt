@@ -39,7 +39,7 @@ fits_in slots x = x.coherent && (nat_le 1 slots && (nat_le slots 256 && nat_le (
 abbrev pub with_ring : ℕ → LaneRing → LaneState → LaneState
 with_ring k r l = record l { rings = insert l.rings k r }
 
--- ring: named by this place, in the first bytes of a memory, with the head at its first slot
+-- ring: a new ring, named by this place of the script, in the first bytes of a memory; its head is at its first slot
 abbrev pub ring : ℕ → ℕ → LaneState → Asking Outcome
 ring mem slots l =
     unless_absent (get l.mems mem) l (λ x.
@@ -49,15 +49,15 @@ ring mem slots l =
 
 -- Posting
 
--- a device can be told this: to read or to write, and one to 4096 bytes
+-- a descriptor may ask this of a device: to read (1) or to write (2), and 1 to 4096 bytes
 abbrev pub is_work : ℕ → ℕ → Bool
 is_work kind len = (kind == 1 || kind == 2) && (nat_le 1 len && nat_le len 4096)
 
--- the driver's place of a slot
+-- the place of a slot, by which the driver writes it
 abbrev pub slot_place : LaneRing → ℕ → Place
 slot_place r slot = In r.mem (16 * slot)
 
--- the descriptor of a range of the load that has these segments, for the device and not done
+-- the descriptor of a range of the load that has these segments: owned by the device, and not done
 abbrev pub posted : List Segment → ℕ → ℕ → ℕ → ℕ → Descriptor
 posted segments off len kind fill = record {
   addr = unwrap_or (address_of off len segments) 0;
@@ -68,15 +68,15 @@ posted segments off len kind fill = record {
   status = 0;
 }
 
--- a range of a map's load may be posted to a slot of a ring: there is such a slot, a device can be told so, the map is
--- neither the ring's own nor one of an IOMMU tag, and the range lies in one segment
+-- a range of a map's load may be posted to a slot of a ring: the ring has such a slot, a descriptor may ask this of a
+-- device, the map is neither the ring's own nor one of an IOMMU tag, and the range lies in one segment
 abbrev pub may_post : LaneRing → ℕ → ℕ → LaneMap → ℕ → ℕ → ℕ → LaneState → Bool
 may_post r slot m o off len kind l =
     nat_lt slot r.slots
     && (is_work kind len && (not (m == r.mem) && (not (is_device l o) && is_some (address_of off len (segments_in o.stage)))))
 
--- ring_post: the driver writes the descriptor as it writes any bytes. The write is never refused, as no load lends a
--- byte of a coherent memory.
+-- ring_post: the driver writes the descriptor as it writes any bytes. The write is never refused, because no load lends
+-- a byte of a coherent memory.
 abbrev pub ring_post : ℕ → ℕ → ℕ → ℕ → ℕ → ℕ → ℕ → LaneState → Asking Outcome
 ring_post k slot m off len kind fill l =
     unless_absent (get l.rings k) l (λ r.
@@ -98,7 +98,7 @@ kick k steps l =
 abbrev pub head_at : LaneRing → ℕ
 head_at r = 16 * r.head
 
--- the descriptor at the head, as the ideal memory has it
+-- the descriptor at the head that the ideal memory has
 abbrev pub head_of : LaneRing → LaneState → Descriptor
 head_of r l = descriptor_of (values l (load_bytes l.loans r.mem (head_at r) 16))
 
@@ -107,17 +107,17 @@ pub record Candidate : Type 0 where
   pub map : ℕ
   pub off : ℕ
 
--- a candidate before others, where there is one
+-- a candidate before others, if the map has the bytes at an offset; otherwise only the others
 abbrev pub before_others : ℕ → Option ℕ → List Candidate → List Candidate
 before_others m None cs = cs
 before_others m (Some off) cs = record { map = m; off = off } ∷ cs
 
--- a map is no candidate, whatever its segments: it is the ring's own, or one of an IOMMU tag
+-- a map is never a candidate: it is the ring's own, or one of an IOMMU tag
 abbrev pub is_left_out : ℕ → LaneState → ℕ × LaneMap → Bool
 is_left_out own l e = e.0 == own || is_device l e.1
 
--- the candidates among these maps, in their order: each has a segment with all bytes that the descriptor names, and
--- counts by the first such segment. A map that is not loaded has no segments.
+-- the candidates among these maps, in their order. A map is one if one of its segments has all bytes that the
+-- descriptor names; the first such segment counts. A map that is not loaded has no segments.
 abbrev pub candidates_in : Descriptor → ℕ → LaneState → List (ℕ × LaneMap) → List Candidate
 candidates_in d own l [] = []
 candidates_in d own l (e ∷ es) =
@@ -128,54 +128,58 @@ candidates_in d own l (e ∷ es) =
 abbrev pub candidates : LaneRing → LaneState → List Candidate
 candidates r l = candidates_in (head_of r l) r.mem l (entries l.maps)
 
--- what the rules of lending say of the access at a candidate
+-- the judgement of the access at a candidate, by the rules of lending
 abbrev pub judged_at : Descriptor → LaneState → Candidate → Judged
 judged_at d l c =
     if d.kind == 1 then dev_read_answer (is_known l.memory) (loan_of l.loans c.map) c.off d.len
     else dev_write_answer (loan_of l.loans c.map) c.off d.len
 
+-- the judgement is no refusal
 abbrev pub is_fine : Judged → Bool
 is_fine Fine = true
 is_fine (Refused r) = false
 
--- the candidates at which they allow it
+-- the candidates at which the rules of lending allow the access
 abbrev pub allowed : Descriptor → LaneState → List Candidate → List Candidate
 allowed d l cs = filter (λ c. is_fine (judged_at d l c)) cs
 
--- the report of a candidate that does not allow it; without a candidate no byte is found
+-- the report of a judgement; for one that refuses nothing, that no byte was found
 abbrev pub blame_of : Judged → Report
 blame_of Fine = record { name = Untranslated; at = 0 }
 blame_of (Refused r) = r
 
+-- why the access is refused: by the judgement at this candidate, or Untranslated if there is no candidate
 abbrev pub blame : Descriptor → LaneState → Option Candidate → Report
 blame d l None = record { name = Untranslated; at = 0 }
 blame d l (Some c) = blame_of (judged_at d l c)
 
--- the driver after a write of the device of so many bytes into a map's load
+-- the driver after its device has written these values to `len` bytes of a map's load, from `off` on
 abbrev pub stored : ℕ → ℕ → ℕ → List ℕ → LaneState → LaneState
 stored m off len vs l = record l { memory = written (load_bytes l.loans m off len) vs l.memory }
 
--- the device has done what the descriptor says, at a candidate
+-- the driver after its device has done what the descriptor says, at a candidate
 abbrev pub used : Descriptor → Candidate → LaneState → LaneState
 used d c l = if d.kind == 1 then l else stored c.map c.off d.len (replicate d.len d.fill) l
 
+-- the answer of the access at a candidate: the bytes that the device read, or Done after a write
 abbrev pub told : Descriptor → Candidate → LaneState → Answer
 told d c l =
     if d.kind == 1 then answer.Bytes (values l (load_bytes l.loans c.map c.off d.len)) else answer.Done
 
--- the descriptor is the driver's again, and done
+-- the driver after its device has given the descriptor back to it as done
 abbrev pub retired : LaneRing → LaneState → LaneState
 retired r l = stored r.mem (head_at r + 14) 2 (0 ∷ 1 ∷ []) l
 
--- the head is at the next slot, and at the first behind the last
+-- the driver with the ring's head at the next slot, or at the first after the last
 abbrev pub moved_on : ℕ → LaneRing → LaneState → LaneState
 moved_on k r l = with_ring k (record r { head = (r.head + 1) % r.slots }) l
 
--- the access at a candidate, after which the descriptor is done and the head goes on
+-- the access at a candidate is done, the descriptor is marked done, and the head goes on
 abbrev pub fetched : ℕ → LaneRing → Descriptor → Candidate → LaneState → Outcome
 fetched k r d c l = record { lane = moved_on k r (retired r (used d c l)); answer = told d c l }
 
--- the step at the first candidate that allows the access; without one it is refused as the first candidate says
+-- the step at the first candidate that allows the access; if none does, it is refused with the report of the first
+-- candidate
 abbrev pub at_first : ℕ → LaneRing → Descriptor → List Candidate → Option Candidate → LaneState → Asking Outcome
 at_first k r d cs None l = gives l (answer.Report (blame d l (slice_get cs 0)))
 at_first k r d cs (Some c) l = gives (fetched k r d c l).lane (fetched k r d c l).answer
@@ -187,21 +191,23 @@ fetch k r d l =
     else if not (is_work d.kind d.len) then gives l (answer.Refused EINVAL)
     else at_first k r d (candidates r l) (slice_get (allowed d l (candidates r l)) 0) l
 
--- ring_step: the device reads the descriptor at the head, as it reads any bytes of the load of the ring's memory
+-- ring_step: the device reads the descriptor at the head like any bytes of the load of the ring's memory, and does what
+-- it says
 abbrev pub ring_step : ℕ → LaneState → Asking Outcome
 ring_step k l =
     unless_absent (get l.rings k) l (λ r. unless_unread r.mem (head_at r) 16 l (fetch k r (head_of r l) l))
 
--- What a step works on, where it is done
+-- What a step that is done works on
 
--- what stands for a ring that does not exist
+-- the ring taken for one that does not exist
 abbrev pub no_ring : LaneRing
 no_ring = record { mem = 0; slots = 0; head = 0 }
 
+-- the ring that was made at this place of the script
 abbrev pub ring_of : LaneState → ℕ → LaneRing
 ring_of l k = unwrap_or (get l.rings k) no_ring
 
--- the candidate that is used
+-- the candidate that a step uses: the first that allows the access
 abbrev pub used_candidate : LaneRing → LaneState → Candidate
 used_candidate r l =
     unwrap_or (slice_get (allowed (head_of r l) l (candidates r l)) 0) (record { map = 0; off = 0 })

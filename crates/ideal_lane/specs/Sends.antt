@@ -1,5 +1,5 @@
--- Sends: a chain that has too many segments is copied to clusters and loaded from there once more. After the drivers
--- that gather such a chain with m_defrag(9) and load it again; the clusters are this project's own.
+-- Sends: a chain that has too many segments is copied to clusters, and these are loaded instead. After the drivers that
+-- gather such a chain with m_defrag(9) and load it again; the clusters are this project's own.
 use Rattle.std.specs.Prelude.{ℕ, Bool, true, false, List, Option, Some, None, IfSome, if◌then◌else◌, slice_get}
 use Rattle.std.specs.List.{AllByRecursion}
 use Rattle.std.specs.Option.{option_and_then}
@@ -31,7 +31,7 @@ pub record Send : Type 0 where
   pub clusters : List Span
   pub items : List Item
 
--- the send of a load of a buffer
+-- the send of a buffer's load, if the buffer is a chain with enough clusters
 abbrev pub send_in : ℕ → List Item → Buffer → Option Send
 send_in m items (buffer.Flat place len) = None
 send_in m items (buffer.Vector spans) = None
@@ -41,7 +41,7 @@ send_in m items (buffer.Send chain None) = None
 send_in m items (buffer.Send chain (Some clusters)) =
     Some (record { map = m; chain = chain; clusters = clusters; items = items })
 
--- that of an operation
+-- the send of an operation, if it is a load of a chain with enough clusters
 abbrev pub send_of : Op → Option Send
 send_of (op.Load map buffer flags items) = send_in map items buffer
 send_of (op.Tag name parent limits) = None
@@ -65,15 +65,15 @@ send_of (op.Kick ring steps) = None
 abbrev pub send_at : List Op → ℕ → Option Send
 send_at script place = option_and_then send_of (slice_get script place)
 
--- each send of a script has the clusters that the rules on scripts want
+-- each send of a script has the clusters that the rules on scripts require
 abbrev pub HaveClusters : List Op → Type 0
 HaveClusters script = AllByRecursion (λ o. IfSome (about o).loads HasClusters) script
 
--- the send whose resend is due
+-- the send whose resend is due, if one is: it is at the place of the script
 abbrev pub due_send : LaneState → Option Send
 due_send l = if l.due then send_at l.script l.place else None
 
--- a load is refused since it has too many segments
+-- the errno of a load that has too many segments
 abbrev pub is_efbig : Errno → Bool
 is_efbig errno.EFBIG = true
 is_efbig errno.EINVAL = false
@@ -81,6 +81,7 @@ is_efbig errno.ENOMEM = false
 is_efbig errno.EINPROGRESS = false
 is_efbig errno.EBUSY = false
 
+-- the answer is that a load has too many segments
 abbrev pub is_too_big : Answer → Bool
 is_too_big (answer.Refused e) = is_efbig e
 is_too_big _ = false
@@ -90,31 +91,32 @@ abbrev pub is_kept : Option Send → Answer → Bool
 is_kept None a = false
 is_kept (Some s) a = is_too_big a
 
--- where the bytes of its chain lie, and those of its clusters
+-- the physical addresses of the bytes of a send's chain, in order
 abbrev pub chain_bytes : Send → LaneState → List ℕ
 chain_bytes s l = load_addresses l (Vector s.chain)
 
+-- the physical addresses of the bytes of a send's clusters, in order
 abbrev pub cluster_bytes : Send → LaneState → List ℕ
 cluster_bytes s l = load_addresses l (Vector s.clusters)
 
--- the driver with these bytes
+-- the driver with this ideal memory
 abbrev pub with_bytes : IdealMemory → LaneState → LaneState
 with_bytes memory l = record l { memory = memory }
 
--- the outcome with these bytes of the driver
+-- the outcome whose driver has this ideal memory
 abbrev pub outcome_with : IdealMemory → Outcome → Outcome
 outcome_with memory o = record { lane = with_bytes memory o.lane; answer = o.answer }
 
--- the clusters have the bytes of the chain, in order
+-- the driver after the bytes of a send's chain were copied to its clusters, in order
 abbrev pub copied : Send → LaneState → LaneState
 copied s l = with_bytes (written (cluster_bytes s l) (values l (chain_bytes s l)) l.memory) l
 
--- the load of the clusters, which never waits
+-- the load of a send's clusters, which never waits
 abbrev pub load_again : Send → LaneState → Asking Outcome
 load_again s l = load s.map (asked s.map (Vector s.clusters) true s.items l) l
 
--- the resend: unless the clusters cannot be loaded, the chain cannot be read or the clusters cannot be written, they
--- become the chain's bytes, and then are loaded
+-- the resend of a send: the chain's bytes are copied to the clusters, and these are loaded. It is refused if the
+-- clusters must not be loaded, the chain must not be read or the clusters must not be written.
 abbrev pub resend : Send → LaneState → Asking Outcome
 resend s l =
     unless_busy s.map l (λ o.

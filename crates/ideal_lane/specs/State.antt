@@ -1,5 +1,5 @@
--- The ideal state of a driver. Its memory has one byte for each physical address of its own, and its bounce pages hold
--- none. This project's own.
+-- The ideal state of a driver. Its ideal memory has one byte for each physical address of its own; its bounce pages
+-- hold no bytes of their own. This project's own.
 use Rattle.std.specs.Prelude.{ℕ, Bool, List, [], Option}
 use Rattle.std.specs.Ordering.{nat_cmp}
 use Rattle.std.specs.FinMap.{FinMap}
@@ -24,31 +24,31 @@ pub record LaneTag : Type 0 where
   pub device : Bool
 
 -- a load that waits for pages: its place in the script, its bytes, the items that its callback appends, and how many
--- pages it needs; as the map of bus_dma(9) keeps the memory and the callback of a load that is deferred
+-- pages it needs. After the map of bus_dma(9), which keeps the memory and the callback of a deferred load.
 pub record WaitingLoad : Type 0 where
   pub load_at : ℕ
   pub bio : Bio
   pub items : List Item
   pub need : ℕ
 
--- where a map stands: with no load; with a load that waits; with a load, its bounced chunks, its segments and its
--- bounce pages in the order of the chunks; or with pages on their way back
+-- the stage of a map: it has no load; its load waits; it is loaded, with the bounced chunks, the segments, and the
+-- bounce pages in the order of the chunks; or its pages are on their way back
 pub data Stage : Type 0 where
   Idle : Stage
   Waiting : WaitingLoad → Stage
   Loaded : (bounced : List Chunk) → (segments : List Segment) → (pages : List ℕ) → Stage
   Returning : Stage
 
--- a map: the place of its tag, the zone of its bounce pages where its tag could bounce, whether a load of it has
--- called or stored a callback, and where it stands
+-- a map: the place of its tag, the zone of its bounce pages if its tag could bounce, whether a load of it has called or
+-- stored a callback, and its stage
 pub record LaneMap : Type 0 where
   pub tag : ℕ
   pub zone : Option ℕ
   pub tried : Bool
   pub stage : Stage
 
--- a dmamem memory: the place of its tag, the physical address of its first byte, how many frames it has, how many
--- bytes the driver reaches, and whether driver and device see the same bytes with no sync
+-- a dmamem memory: the place of its tag, the physical address of its first byte, how many frames it has, how many bytes
+-- the driver reaches, and whether driver and device see the same bytes without a sync
 pub record LaneMemory : Type 0 where
   pub tag : ℕ
   pub first : ℕ
@@ -63,11 +63,11 @@ pub record LaneRing : Type 0 where
   pub slots : ℕ
   pub head : ℕ
 
--- A driver: its number, the end of the machine's memory in frames, its script and the place in it, whether the resend of
--- the send at this place is due, and its pages; its tags, maps, memories and rings by the places that made them, where
--- the map of a memory has the memory's place; its ideal memory and what its loaded maps lend; its transfer queue and its
+-- A driver: its number, the end of the machine's memory in frames, its script and the place in it, whether the resend
+-- of the send at this place is due, and its pages; its tags, maps, memories and rings by the places that made them (the
+-- map of a memory has the memory's place); its ideal memory and what its loaded maps lend; its transfer queue and its
 -- return queue; its share of each zone's total_bounced; and the address space of each IOMMU tag, by the place that made
--- it.
+-- the tag.
 pub record LaneState : Type 0 where
   pub id : ℕ
   pub maxmem : ℕ
@@ -90,6 +90,6 @@ pub record LaneState : Type 0 where
 abbrev pub named : LaneState → ℕ → MapId
 named l k = record { lane = record { 0 = l.id }; made_at = k }
 
--- the address space of a tag that has none
+-- the address space taken for a tag that has none: no page and no run
 abbrev pub no_space : Space
 no_space = record { pages = 0; runs = [] }

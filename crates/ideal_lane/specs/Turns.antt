@@ -54,11 +54,11 @@ pub record Turned : Type 0 where
   pub lane : LaneState
   pub turn : Turn
 
--- a turn that is no step
+-- a turn that is no step: the driver stays as it was
 abbrev pub stays : Turn → LaneState → Turned
 stays t l = record { lane = l; turn = t }
 
--- a step of a side
+-- the step of a side: its outcome, with the journal's entry of what was done
 abbrev pub stepped : Side → Did → Outcome → Turned
 stepped s d o = record {
   lane = o.lane;
@@ -67,11 +67,11 @@ stepped s d o = record {
 
 -- The script
 
--- the `len` bytes from a virtual address on, as a bio
+-- the bio of the `len` bytes from a virtual address on
 abbrev pub flat_bio : ℕ → ℕ → Bio
 flat_bio len va = bio.Mapped (record { va = record { 0 = va }; len = len })
 
--- the bytes of a buffer as those of a bio, unless the memory of its place does not exist
+-- the bytes of a buffer as a bio, or None if the memory of its place does not exist
 abbrev pub bio_at : LaneState → Buffer → Option Bio
 bio_at l (buffer.Flat place len) = option_map (flat_bio len) (virtual_at l place)
 bio_at l (buffer.Vector spans) = Some (bio.Vector spans)
@@ -79,7 +79,7 @@ bio_at l (buffer.Mbuf chain) = Some (bio.Vector chain)
 bio_at l (buffer.Bio b) = Some b
 bio_at l (buffer.Send chain clusters) = Some (bio.Vector chain)
 
--- the load of a buffer with these flags is refused where it would have to wait, as those of chains always are
+-- the load of a buffer with these flags never waits: the flags forbid it, or the buffer is a chain
 abbrev pub never_waits : Buffer → ℕ → Bool
 never_waits (buffer.Flat place len) flags = load_nowait flags
 never_waits (buffer.Vector spans) flags = load_nowait flags
@@ -87,7 +87,7 @@ never_waits (buffer.Mbuf chain) flags = true
 never_waits (buffer.Bio b) flags = load_nowait flags
 never_waits (buffer.Send chain clusters) flags = true
 
--- a load of a buffer
+-- the load of a buffer
 abbrev pub load_buffer : ℕ → Buffer → ℕ → List Item → LaneState → Asking Outcome
 load_buffer m x flags items l =
     unless_absent (bio_at l x) l (λ b. loads.load m (loads.asked m b (never_waits x flags) items l) l)
@@ -112,7 +112,7 @@ operation (op.Ring name mem slots) l = rings.ring mem slots l
 operation (op.RingPost ring slot map off len kind fill) l = rings.ring_post ring slot map off len kind fill l
 operation (op.Kick ring steps) l = rings.kick ring steps l
 
--- a map that stands so has a load that waits
+-- a map at this stage has a load that waits
 abbrev pub waits_in : Stage → Bool
 waits_in Idle = false
 waits_in (Waiting w) = true
@@ -124,7 +124,7 @@ abbrev pub is_waiting : Option LaneMap → Bool
 is_waiting None = false
 is_waiting (Some o) = waits_in o.stage
 
--- an operation cannot step: it awaits a map that exists and whose load waits, or that an item of the queue names
+-- an operation cannot step: it awaits a map that exists, and whose load waits or which an item of the queue names
 abbrev pub waits : Op → LaneState → Bool
 waits (op.Await m) l = contains_key l.maps m && (is_waiting (get l.maps m) || queue_names m l.queue)
 waits (op.Tag name parent limits) l = false
@@ -144,45 +144,45 @@ waits (op.Ring name mem slots) l = false
 waits (op.RingPost ring slot map off len kind fill) l = false
 waits (op.Kick ring steps) l = false
 
--- the script goes on to its next place, where no resend is due
+-- the driver whose script has gone on to the place after this one; no resend is due there
 abbrev pub at_next : ℕ → LaneState → LaneState
 at_next place l = record l { place = place + 1; due = false }
 
--- so it does after an operation
+-- the step of an operation, after which the script goes on
 abbrev pub advanced : ℕ → Outcome → Turned
 advanced place o =
     stepped side.Script (did.Op place) (record { lane = at_next place o.lane; answer = o.answer })
 
--- the script stays at a send whose callback is kept, since its resend is due
+-- the step of a send whose callback is kept: the script stays at it, and its resend is due
 abbrev pub kept : ℕ → Outcome → Turned
 kept place o =
     stepped side.Script (did.Op place) (record { lane = record o.lane { due = true }; answer = o.answer })
 
--- after any other operation it goes on
+-- the step of an operation: the script stays at a send whose callback is kept, and goes on after any other
 abbrev pub went_on : Op → ℕ → Outcome → Turned
 went_on op place o = if sends.is_kept (sends.send_of op) o.answer then kept place o else advanced place o
 
--- the next operation of the script, if there is one
+-- the turn of the next operation, if there is one and it need not wait
 abbrev pub next_operation : Option Op → LaneState → Asking Turned
 next_operation None l = Gives (stays Ended l)
 next_operation (Some o) l = if waits o l then Gives (stays Blocked l) else goes_on (went_on o l.place) (operation o l)
 
--- the script goes on behind a send whose resend was made
+-- the step of a resend, after which the script goes on
 abbrev pub resent : ℕ → Outcome → Turned
 resent place o =
     stepped side.Script (did.Again place) (record { lane = at_next place o.lane; answer = o.answer })
 
--- the resend that is due, or else the next operation
+-- the turn of the resend that is due, or else of the next operation
 abbrev pub due_turn : Option sends.Send → LaneState → Asking Turned
 due_turn None l = next_operation (slice_get l.script l.place) l
 due_turn (Some s) l = goes_on (resent l.place) (sends.resend s l)
 
--- how many maps a release made complete
+-- how many maps a release has completed, by its reply
 abbrev pub maps_completed : HubReply → ℕ
 maps_completed (reply.Served n) = n
 maps_completed _ = 0
 
--- the first page of the return queue goes back to its zone
+-- the step by which the first page of the return queue goes back to its zone
 abbrev pub release : Return → List Return → LaneState → Asking Turned
 release r rest l =
     let page : Pa = record { 0 = r.page } in
@@ -190,7 +190,7 @@ release r rest l =
     stepped side.Script (did.Release (named l r.map) page)
     (record { lane = unloads.given_back r rest l; answer = answer.Served (maps_completed got) }))
 
--- the turn of the script: pages go back first, and a resend stands before the next operation
+-- the turn of the script: pages go back first, then a resend that is due is made, then the next operation
 abbrev pub script_turn : List Return → LaneState → Asking Turned
 script_turn [] l = due_turn (sends.due_send l) l
 script_turn (r ∷ rest) l = release r rest l
@@ -207,52 +207,52 @@ transfer (item.DevReadAt tag addr len) l = accesses.dev_read_at tag addr len l
 transfer (item.DevWriteAt tag addr bytes) l = accesses.dev_write_at tag addr (bytes_of bytes) l
 transfer (item.RingStep ring) l = rings.ring_step ring l
 
--- an item has left the queue
+-- the step of an item, after which it has left the queue
 abbrev pub left_queue : QueuedItem → List QueuedItem → Outcome → Turned
 left_queue q rest o =
     stepped side.Transfer (did.Item q.load_at q.place)
     (record { lane = record o.lane { queue = rest }; answer = o.answer })
 
--- the first item of the transfer queue, if there is one
+-- the turn of the transfer queue: its first item is done, if there is one
 abbrev pub transfer_turn : List QueuedItem → LaneState → Asking Turned
 transfer_turn [] l = Gives (stays Blocked l)
 transfer_turn (q ∷ rest) l = goes_on (left_queue q rest) (transfer q.item l)
 
 -- Callbacks
 
--- the load that waited has its pages, and its callback is called; its bytes are where they were when it began to wait
+-- the load that waited has its pages, and its callback is called; its bytes have not moved while it waited
 abbrev pub called_at : ℕ → LaneMap → WaitingLoad → List ℕ → LaneState → Outcome
 called_at m o w pages l =
     let x : loads.Asked = loads.asked m w.bio false w.items l in
     loads.finished m o w.load_at x (loads.chunks_for l o (contains_key l.mems m) x.entries) pages l
 
--- nothing was called: a reply has only the maps that wait
+-- no callback was called: the account replies only with maps that wait, so this does not come about
 abbrev pub uncalled : LaneState → Outcome
 uncalled l = record { lane = l; answer = answer.Done }
 
--- a map that stands so has the pages of its load
+-- the callback of a map at this stage, which has the pages of its load
 abbrev pub called_in : ℕ → LaneMap → Stage → List ℕ → LaneState → Outcome
 called_in m o Idle pages l = uncalled l
 called_in m o (Waiting w) pages l = called_at m o w pages l
 called_in m o (Loaded bounced segments held) pages l = uncalled l
 called_in m o Returning pages l = uncalled l
 
--- a map whose load waited has its pages
+-- the callback of a map, if it exists, with the pages of its load
 abbrev pub called : ℕ → Option LaneMap → List ℕ → LaneState → Outcome
 called m None pages l = uncalled l
 called m (Some o) pages l = called_in m o o.stage pages l
 
--- the turn by the reply to the taking of a callback
+-- the turn of the callbacks by the reply to its call: a step if a callback came, and else Blocked
 abbrev pub called_back : LaneState → HubReply → Turned
 called_back l (reply.Called m pages) =
     stepped side.Callback (did.Callback m) (called m.made_at (get l.maps m.made_at) (addresses_of_pages pages) l)
 called_back l _ = stays Blocked l
 
--- the turn of the callbacks: the head of the callback list, where it is this driver's
+-- the turn of the callbacks: the callback at the head of the callback list is called, if it is this driver's
 abbrev pub callback_turn : LaneState → Asking Turned
 callback_turn l = Asks hold.TakeCallback (called_back l)
 
--- the turn of a side
+-- the turn of a side: the script, the device or the callbacks
 abbrev pub lane_step : LaneState → Side → Asking Turned
 lane_step l side.Script = script_turn l.returns l
 lane_step l side.Transfer = transfer_turn l.queue l

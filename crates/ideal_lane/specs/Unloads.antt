@@ -13,33 +13,33 @@ use Rattle.ideal_lane.specs.Outcomes.{Outcome, gives, unless_unloaded}
 use Rattle.ideal_lane.specs.Loads.{unpaged}
 use Rattle.ideal_lane.specs.Tags.{with_space}
 
--- the bounce pages that a map holds, in order
+-- the bounce pages that a map at this stage holds, in the order of its chunks
 abbrev pub pages_of : Stage → List ℕ
 pages_of Idle = []
 pages_of (Waiting w) = []
 pages_of (Loaded bounced segments pages) = pages
 pages_of Returning = []
 
--- the map lends nothing any more, and what it lent to write is Unknown
+-- the driver after a map has stopped lending: what the map lent to write is Unknown
 abbrev pub loan_forgotten : ℕ → LaneState → LaneState
 loan_forgotten m l = record l {
   loans = remove l.loans m;
   memory = forgotten (lost_by_forgetting l.loans m) l.memory;
 }
 
--- the segments of a map's load
+-- the segments of the load of a map at this stage
 abbrev pub segments_in : Stage → List Segment
 segments_in Idle = []
 segments_in (Waiting w) = []
 segments_in (Loaded bounced segments pages) = segments
 segments_in Returning = []
 
--- the first device page of a load of these segments; a load of no byte has none, and no run begins at page 0
+-- the first device page of a load with these segments; it is 0 for a load of no byte, and no run begins at page 0
 abbrev pub first_of : List Segment → ℕ
 first_of [] = 0
 first_of (s ∷ ss) = s.addr.0 / 4096
 
--- the live run of a map's load ends, where it has one
+-- the driver after the live run of a map's load has ended, if it has one
 abbrev pub unmapped : LaneMap → LaneState → LaneState
 unmapped o l =
     record l { spaces = with_space o.tag (run_unmapped (first_of (segments_in o.stage)) (l.spaces o.tag)) l.spaces }
@@ -48,15 +48,15 @@ unmapped o l =
 abbrev pub unload : ℕ → LaneState → Asking Outcome
 unload m l = unless_unloaded m l (λ o. gives (unmapped o (unpaged m o (pages_of o.stage) (loan_forgotten m l))) Done)
 
--- where a map stands of which a page left the return queue
+-- the stage of a map after a page of it left the return queue: idle if `rest` has none of its pages
 abbrev pub after_return : ℕ → List Return → Stage
 after_return m rest = if returning m rest == 0 then Idle else Returning
 
--- the map with that stage, where there is one
+-- the driver with this map at another stage, if the map exists
 abbrev pub restaged : ℕ → Option LaneMap → Stage → LaneState → LaneState
 restaged m None s l = l
 restaged m (Some o) s l = record l { maps = insert l.maps m (record o { stage = s }) }
 
--- the first page of the return queue has left it
+-- the driver after the first page of the return queue has left it
 abbrev pub given_back : Return → List Return → LaneState → LaneState
 given_back r rest l = record (restaged r.map (get l.maps r.map) (after_return r.map rest) l) { returns = rest }

@@ -41,8 +41,9 @@ ghost use Rattle.ideal_lane.specs.Rings.{Candidate, allowed, candidates, head_of
 ghost use Rattle.ideal_lane.specs.State.{LaneRing, LaneState};
 ghost use Rattle.ideal_lane.specs.Turns.{Turned, is_waiting, lane_step, operation, waits, went_on};
 
-/// Where a driver stands and agrees with the account, the account allows the call of the driver's step,
-/// and by the account's reply they agree after it. The account is one that a sound history leads to.
+/// The account allows the call of each step of a driver that agrees with it, and after the account's reply
+/// they agree again. The driver's invariant (`Stands`) holds before the step, and the account is one that a
+/// sound history leads to.
 pub fn step_keeps_agreement()
     ensures allowed { (l : LaneState) (s : Side) (a : Account) → Stands l → AgreesWith l a →
         IsAllowed l.id a (lane_step l s) }
@@ -50,47 +51,47 @@ pub fn step_keeps_agreement()
         KeepsAgreement l.id a (lane_step l s) }
 {}
 
-/// A step leaves a driver standing that stands, whatever the reply to its call.
+/// Each step keeps the driver's invariant (`Stands`), whatever the reply to its call.
 pub fn step_keeps_standing()
     ensures { (l : LaneState) (s : Side) → Stands l → KeepsStanding (lane_step l s) }
 {}
 
-/// Where a driver stands and agrees with the account, a turn that is a step by the account's reply
-/// leaves it less to do, and any other leaves it as it was. The account is one that a sound history
-/// leads to, and the sends of the script have the clusters that the rules on scripts want.
+/// Each step leaves its driver less to do, by the account's reply; a turn that is no step leaves the driver
+/// as it was. It is so if the driver's invariant holds, the sends of its script have the clusters that the
+/// rules on scripts require, and the driver agrees with an account that a sound history leads to.
 pub fn each_step_falls()
     ensures { (l : LaneState) (s : Side) (a : Account) → Stands l → HaveClusters l.script → IsFit a →
         AgreesWith l a → FallsOrStays l a (lane_step l s) }
 {}
 
-/// A driver opens standing; and a driver of a valid scenario agrees with the account with which the
-/// scenario opens.
+/// The invariant (`Stands`) holds of each driver at its opening, and each driver of a valid scenario agrees
+/// with the account with which the scenario opens.
 pub fn opening_stands()
     ensures stands { (id maxmem : ℕ) (driver : Driver) → Stands (opening_lane id maxmem driver) }
     ensures agrees { (s : Scenario) (i : ℕ) (driver : Driver) → IsValid s → slice_get s.drivers i ≡ Some driver →
         AgreesWith (opening_lane i (maxmem_of s.frames) driver) (opening s) }
 {}
 
-/// While the resend of a send is due, its map exists and has no load, and is idle once the return queue has none of its
-/// pages; and its tag allows loads of as many bytes as the chain has. So it opens, and so it stays with each turn,
-/// whatever the reply to its call.
+/// While the resend of a send is due, the send's map exists and has no load. The map is idle once none of its
+/// pages is in the return queue, and its tag allows loads of as many bytes as the chain has. This holds at
+/// the opening and after each turn, whatever the reply to the turn's call.
 pub fn due_sends_stand()
     ensures opens { (id maxmem : ℕ) (driver : Driver) → DueStands (opening_lane id maxmem driver) }
     ensures stays { (l : LaneState) (s : Side) (r : HubReply) → DueStands l →
         DueStands (by_reply (lane_step l s) r).lane }
 {}
 
-/// Where a send whose resend is due stands so, and the sends of the script have the clusters that the rules on
-/// scripts want, the answer of the resend is no report that its map does not exist or is busy, and never EINVAL,
-/// whatever the reply to its call.
+/// The answer of a resend is never the report that its map does not exist or is busy, and never `EINVAL`,
+/// whatever the reply to its call. It is so if `DueStands` holds of the driver, and the sends of its script
+/// have the clusters that the rules on scripts require.
 pub fn resends_find_their_map()
     ensures { (l : LaneState) (s : Send) (r : HubReply) → DueStands l → HaveClusters l.script →
         due_send l ≡ Some s → is_unfit_turn (by_reply (lane_step l Script) r).turn ≡ false }
 {}
 
-/// In each run of a driver from its opening, whatever the replies to its calls, the callback of the
-/// load at each place of the script is called at most once: in the load's own step, or in a later
-/// step that takes it.
+/// In each run of a driver from its opening, whatever the replies to its calls, the callback of the load at
+/// each place of the script is called at most once: in the load's own step, in its resend, or in the later
+/// step that takes the callback.
 pub fn each_load_is_called_once()
     ensures { (place id maxmem : ℕ) (driver : Driver) (steps : List Made) →
         IsRun (opening_lane id maxmem driver) steps →
@@ -106,8 +107,8 @@ pub fn no_send_has_a_third_load()
         IsRun (opening_lane id maxmem driver) steps → times_done (is_resend place) steps ≤ 1 }
 {}
 
-/// A load looks at no byte of the driver: over a driver with other bytes it is judged as before, has the same
-/// entries, makes the same call, and leaves the same driver but for these bytes, whatever the reply.
+/// A load looks at no byte of the driver's memory. If the driver has other bytes, the judgement, the entries
+/// and the call are the same, and the driver after the load differs only in these bytes, whatever the reply.
 pub fn loads_look_at_no_byte()
     ensures judged { (map : ℕ) (bio : Bio) (memory : IdealMemory) (l : LaneState) →
         load_judged (with_bytes memory l) map bio ≡ load_judged l map bio }
@@ -118,9 +119,10 @@ pub fn loads_look_at_no_byte()
         ≡ goes_on (outcome_with memory) (load map (asked map bio nowait items l) l) }
 {}
 
-/// The turn of a side looks at no operation of the script but the one at its place: over a driver with another script
-/// that has the same one there it makes the same call and the same step, and leaves the same driver but for the script.
-/// A driver whose script has ended, and that then gets one more operation, does it next.
+/// The turn of a side looks at no operation of the script but the one at its place. If the driver has another
+/// script with the same operation there, the call and the step are the same, and the driver after it differs
+/// only in the script. A driver whose script has ended, and that then gets one more operation, does it next,
+/// if no page is to go back, no resend is due and the operation need not wait.
 pub fn steps_look_at_one_operation()
     ensures turn { (l : LaneState) (s : Side) (script : List Op) → LooksSame s script l →
         lane_step (with_script script l) s ≡ goes_on (turned_under script) (lane_step l s) }
@@ -129,9 +131,9 @@ pub fn steps_look_at_one_operation()
         lane_step longer Script ≡ goes_on (went_on o l.place) (operation o longer) }
 {}
 
-/// A run of a driver, of which no turn finds the script at its end, is a run of the driver with more operations behind
-/// its own, whatever they are. Back, steps of the driver with more operations are a run of the one without them, as long
-/// as none of them does an operation of the further ones.
+/// A run of a driver in which no turn finds the end of the script is also a run of the driver with more
+/// operations after its own, whatever they are. Conversely, a run of the driver with more operations is a run
+/// of the driver without them, if each turn is a step and none does an added operation.
 pub fn runs_go_on_behind_more()
     ensures longer { (l : LaneState) (more : List Op) (steps : List Made) → IsRun l steps → NoneEnded steps →
         IsRun (with_script (l.script ++ more) l) (map (made_under (l.script ++ more)) steps) }
@@ -140,9 +142,9 @@ pub fn runs_go_on_behind_more()
         IsRun l (map (made_under l.script) steps) }
 {}
 
-/// A step whose answer is a report makes no call, whatever the reply would be. It leaves the driver's memory,
-/// loans, maps, tags, memories, shares and pages to return as they were: the script is at its next place, or
-/// the item has left the transfer queue.
+/// A step whose answer is a report makes no call, and leaves the driver as it was, except that the script
+/// goes on to its next place or the item leaves the transfer queue. Memory, loans, maps, tags, memories,
+/// shares and pages to return are unchanged.
 pub fn reports_change_nothing()
     ensures call { (l : LaneState) (s : Side) (r : HubReply) → is_reported (by_reply (lane_step l s) r).turn ≡ true →
         call_of (lane_step l s) ≡ None }
@@ -151,24 +153,24 @@ pub fn reports_change_nothing()
 {}
 
 /// After each turn, whatever the reply to its call, the transfer queue has the items that it had, but for the
-/// one that a step of the device took, and behind them the items of a load whose callback was called with
-/// segments, in the load's own step or in a later one that takes its callback, or those of a kick that was done.
+/// one that a step of the device took, and after them the items that join. An item joins if it is of a load
+/// whose callback is called with segments, in the load's own step or in a later one, or of a kick that is
+/// done.
 pub fn items_join_with_segments()
     ensures { (l : LaneState) (s : Side) (r : HubReply) →
         let after : Turned = by_reply (lane_step l s) r in
         after.lane.queue ≡ remaining s after.turn l.queue ++ joining l after.turn }
 {}
 
-/// Where a driver agrees with an account that a sound history leads to, a callback that the account's reply
-/// brings is that of a map of the driver that waits.
+/// If a driver agrees with an account that a sound history leads to, each callback that the account's reply
+/// brings is for a map of the driver whose load waits.
 pub fn each_callback_was_awaited()
     ensures { (l : LaneState) (a : Account) (m : MapId) (pages : List Pa) → IsFit a → AgreesWith l a →
         (account_step l.id TakeCallback a).reply ≡ Called m pages → is_waiting (get l.maps m.made_at) ≡ true }
 {}
 
-/// The candidate that a step of a ring uses is one of the candidates for the descriptor at the head. The rules
-/// of lending allow the access there, and each candidate at which they allow it has a map that was made at the
-/// same place of the script or later.
+/// The candidate that a step of a ring uses is one of the candidates for the descriptor at the head, and the
+/// rules of lending allow the access there. Of all candidates at which they allow it, its map was made first.
 pub fn ring_steps_use_the_first()
     ensures candidate { (r : LaneRing) (l : LaneState) (c : Candidate) →
         slice_get (allowed (head_of r l) l (candidates r l)) 0 ≡ Some c → Contains (candidates r l) c }
@@ -179,8 +181,8 @@ pub fn ring_steps_use_the_first()
         Contains (candidates r l) o → judged_at (head_of r l) l o ≡ Fine → c.map ≤ o.map }
 {}
 
-/// The items that stand in the transfer queue and those that may still join it never become more,
-/// whatever the reply to a step's call: room for those at the opening is room for all.
+/// The items in the transfer queue and those that may still join it never become more, whatever the reply to
+/// a step's call. So room for all items of the script is enough.
 pub fn items_stay_few()
     ensures opens { (id maxmem : ℕ) (driver : Driver) →
         items_ahead (opening_lane id maxmem driver) ≡ script_items driver.script }

@@ -1,5 +1,5 @@
-//! The ideal driver over the bounce lock: what each turn makes of its state, and the laws of its
-//! steps. Each law is the contract of a function that does nothing.
+//! The ideal driver, which calls the account under the bounce lock: what each turn makes of its state, and
+//! the laws of its steps. Each law is the contract of a function with an empty body.
 #![tactic(auto)]
 
 mod laws;

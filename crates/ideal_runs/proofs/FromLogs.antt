@@ -1,4 +1,4 @@
--- Runs that logs tell: the merged journal leads to their world, is legal and keeps their order.
+-- Runs by logs: the merged journal leads to their world, is legal and keeps their order.
 use Rattle.std.proofs.Common.{◌<◌, List, [], ◌∷◌, length, All, sym, subst, arith, map}
 use Rattle.std.proofs.lemmas.List.Elements.{All-weaker}
 use Rattle.std.proofs.lemmas.List.{length-map}
@@ -20,7 +20,7 @@ use Rattle.ideal_runs.specs.Runs.{Log}
 use Rattle.ideal_runs.proofs.Leading.{merged-leads, opening-numbered}
 use Rattle.ideal_runs.proofs.Ordering.{merged-ordered}
 
--- entries lead from a well-formed world to one
+-- entries lead from a well-formed world to a well-formed one
 leads-keep : (s : Scenario) (w : WorldState) (es : List JournalEntry) (end : WorldState) → IsWellFormed s w →
     Leads w es end → IsWellFormed s end
 leads-keep s w [] end well h = subst (IsWellFormed s) h well
@@ -36,7 +36,7 @@ module _ (s : Scenario) (logs : List Log) (history : List HoldEntry) (w : WorldS
         (merged-leads (opening s) history logs (opening_world s).lanes w.lanes (opening-numbered s) run.sound
         run.drivers)
 
-    -- which is well formed
+    -- that world is well formed
     pub run-well : IsValid s → IsWellFormed s w
     run-well valid = leads-keep s (opening_world s) (merged history logs) w (opens-well s valid) run-leads
 

@@ -1,4 +1,4 @@
--- The turn of a driver whose step is known is that of the world.
+-- The turn of a driver whose step is known is the turn of the world.
 use Rattle.std.proofs.Common.{◌≡◌, ℕ, List, ◌∷◌, Some, sym, ap, ◌∙◌, subst, slice_get, slice_set, unwrap_or}
 use Rattle.busdma_machine.specs.declared.bounce.hold.HoldEntry.{HoldEntry}
 use Rattle.busdma_machine.specs.declared.bounce.hold.HubReply.{HubReply}
@@ -27,7 +27,7 @@ pub leads-first : (w v end : WorldState) (e : JournalEntry) (es : List JournalEn
 leads-first w v end e es is more =
     (ap (λ (x : WorldTurned). entry_of x.turn) is, subst (λ (x : WorldTurned). Leads x.world es end) (sym is) more)
 
--- the turn of a driver by a reply to its call, where that is the account's
+-- the turn of a driver by a reply to its call that is the account's
 replied-by : (w : WorldState) (i : ℕ) (l : LaneState) (h : HoldEntry) (t : Turned) (x : Asking Turned) →
     call_of x ≡ Some h.call → by_reply x h.reply ≡ t → h.reply ≡ (account_step l.id h.call w.account).reply →
     replied w i l x ≡ turned w i (account_step l.id h.call w.account).account t
@@ -56,7 +56,7 @@ module _ (l m : LaneState) (e : JournalEntry) where
   by-owned h by = owned h.reply by.turned
 
   module _ (w : WorldState) (i : ℕ) (number : l.id ≡ i) (there : slice_get w.lanes i ≡ Some l) where
-    -- the turn of the entry's actor is that of the driver
+    -- the turn of the entry's actor is the driver's turn
     actors-turn : IsOwnEntry → step w e.actor ≡ replied w i l (lane_step l e.actor.side)
     actors-turn own =
         let at : e.actor.lane.0 ≡ i = own.lane ∙ number in

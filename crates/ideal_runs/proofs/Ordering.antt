@@ -23,7 +23,7 @@ use Rattle.ideal_runs.proofs.Seams.{length-slice_set}
 
 -- ---- logs
 
--- a log is a driver's, and as many of its steps held as these
+-- the steps of a log are this driver's, and as many of them held as there are holds
 abbrev Fits : ℕ → Log → List HoldEntry → Type 0
 Fits i [] [] = Unit {0}
 Fits i [] (h ∷ hs) = ⊥
@@ -42,7 +42,7 @@ runs-fit i (Held e ∷ log) (h ∷ hs) l m number run =
     let own = by-owned l run.0 e h run.1 in
     (own.lane ∙ number, runs-fit i log hs run.0 m (own.same ∙ number) run.2)
 
--- the steps of a log up to the first that held, and those of all logs
+-- the steps of a log up to the first that held, and that step
 abbrev through : Log → Log
 through [] = []
 through (Local e ∷ log) = Local e ∷ through log
@@ -102,7 +102,7 @@ own-here i s steps e = rw (eq-eqb (driver_of s) i e) refl
 own-other : (i : ℕ) (s : LoggedStep) (steps : Log) → driver_of s ≢ i → own i (s ∷ steps) ≡ own i steps
 own-other i s steps e = rw (ne_eqb (driver_of s) i e) refl
 
--- a part of a log that is a driver's is its own, and none of another's
+-- the first part of a driver's log has only this driver's steps
 own-through : (i : ℕ) (log : Log) (hs : List HoldEntry) → Fits i log hs → own i (through log) ≡ through log
 own-through i [] hs fit = refl
 own-through i (Local e ∷ log) hs fit =
@@ -128,7 +128,7 @@ others-log i k (Local e ∷ log) off fit =
     own-other i (Local e) log (λ is. off (sym fit.0 ∙ is)) ∙ others-log i k log off fit.1
 others-log i k (Held e ∷ log) off fit = absurd fit
 
--- logs without a hold, the first of which is of the driver of this number
+-- logs without a hold; the first is the log of the driver of this number
 abbrev FitFrom : ℕ → List Log → Type 0
 FitFrom n logs = (k : ℕ) → k < length logs → Fits (n + k) (log_of logs k) []
 
@@ -186,14 +186,14 @@ held-through i [] h hs fit = absurd fit
 held-through i (Local e ∷ log) h hs fit = held-through i log h hs fit.1
 held-through i (Held e ∷ log) h hs fit = ap (λ j. j ∷ []) fit.0
 
--- ---- where a step stands that held nothing
+-- ---- where the steps are that held nothing
 
 -- the next step is this driver's
 abbrev IsFollowed : ℕ → Log → Type 0
 IsFollowed i [] = ⊥
 IsFollowed i (s ∷ steps) = driver_of s ≡ i
 
--- it is, or nothing holds any more, and drivers of lower numbers have no step
+-- the next step is this driver's; or nothing holds any more, and drivers of lower numbers have no step
 abbrev GoesOn : ℕ → Log → Type 0
 GoesOn i steps = IsFollowed i steps ⊎ All (IsRest i) steps
 
@@ -233,7 +233,7 @@ last-from i (Local e ∷ after) (inl here) stand none =
     All-cons (IsRest i) (Local e) after (record { unheld = refl; driver = omega (arith, here) })
     (last-from i after (subst (λ j. GoesOn j after) here stand.0) stand.1 (All-tail (HoldsNot i) (Local e) after none))
 
--- the steps up to a hold stand before others
+-- the steps up to a hold come before others
 followed : (i : ℕ) (log : Log) (h : HoldEntry) (hs : List HoldEntry) (rest : Log) → Fits i log (h ∷ hs) →
     IsFollowed i (through log ++ rest)
 followed i [] h hs rest fit = absurd fit
@@ -249,7 +249,7 @@ through-stands i (Local e ∷ log) h hs rest fit stand = (
 )
 through-stands i (Held e ∷ log) h hs rest fit stand = stand
 
--- steps of logs without a hold are at the end
+-- the steps of logs without a hold are at the end
 rest-log : (i n : ℕ) (log rest : Log) → i ≤ n → Fits n log [] → All (IsRest i) rest → All (IsRest i) (log ++ rest)
 rest-log i n [] rest low fit all = all
 rest-log i n (Local e ∷ log) rest low fit all =
@@ -300,7 +300,7 @@ log-here logs i log below = get_or-set_same logs i log [] below
 log-other : (logs : List Log) (i j : ℕ) (log : Log) → i ≢ j → log_of (slice_set logs i log) j ≡ log_of logs j
 log-other logs i j log off = get_or-set_other logs i j log [] (λ e. off (sym e))
 
--- one hold's part
+-- the part of one hold
 module _ (h : HoldEntry) (hs : List HoldEntry) (logs : List Log) (below : h.lane.0 < length logs)
     (fit : AllFit (h ∷ hs) logs) where
   abbrev k : ℕ
@@ -409,7 +409,7 @@ merged-ordered hs logs firsts lasts numbers all =
     runs-fit i (log_of logs i) (of_lane i hs) first.0 last.0 (numbers i first.0 first.1)
     (all.each i first.0 last.0 first.1 last.1))
 
--- a log whose steps are a driver's, of which so many held
+-- a log whose steps are this driver's, and as many of them held as there are holds
 counted-fit : (i : ℕ) (log : Log) (hs : List HoldEntry) → All (λ s. driver_of s ≡ i) log →
     count_by has_held log ≡ length hs → Fits i log hs
 counted-fit i [] [] all count = tt

@@ -23,7 +23,7 @@ one-entry k j e f same = by (ap (λ (t : Turned). t.turn) same)
     by : Stepped e ≡ Stepped f → e ≡ f
     by h = cc
 
--- a step without a call makes none
+-- a step that makes no call is no step that holds
 no-call : (l : LaneState) (e f : JournalEntry) (k j : LaneState) (h : HoldEntry) → e.actor.side ≡ f.actor.side →
     StepsAlone l e k → StepsBy h l f j → ⊥
 no-call l e f k j h same alone by =

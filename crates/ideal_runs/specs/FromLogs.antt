@@ -10,15 +10,16 @@ use Rattle.ideal_world.specs.World.{WorldState, opening_world, zone_counts}
 use Rattle.ideal_runs.specs.Merged.{AllRun, merged}
 use Rattle.ideal_runs.specs.Runs.{Log}
 
--- from a scenario's opening a sound history of the bounce lock leads to a world's account, and the log of each driver
--- runs it to its state in that world, by its own entries of the history, which has entries of drivers alone
+-- the logs run to a world: from a scenario's opening, a sound history of the bounce lock leads to the world's account,
+-- and the log of each driver runs it to its state there by its own entries of the history, which has only entries of
+-- the scenario's drivers
 pub record RunsTo (s : Scenario) (logs : List Log) (history : List HoldEntry) (w : WorldState) : Type 0 where
   pub sound : IsSound (opening s) history
   pub account : account_of (opening s) history ≡ w.account
   pub drivers : AllRun (opening_world s).lanes logs history w.lanes
 
--- a journal has the logs of all drivers, merged by the one history of the bounce lock that they shared, with the counts
--- and the end of the world that they lead to, in which no actor can step
+-- a journal is from logs: it has the logs of all drivers, merged by the one history of the bounce lock that they
+-- shared, and the counts and the end of the world that they run to, in which no actor can step
 pub record IsFromLogs (s : Scenario) (j : Journal) : Type 0 where
   pub logs : List Log
   pub history : List HoldEntry

@@ -1,4 +1,4 @@
--- The one journal that the logs of drivers and the history of the bounce lock, which they shared, are merged to.
+-- The one journal to which the logs of drivers are merged by the history of the bounce lock that they shared.
 use Rattle.std.specs.Prelude.{◌≡◌, ℕ, ◌<◌, Bool, List, [], ◌∷◌, ◌++◌, map, length, All, Some, if◌then◌else◌}
 use Rattle.std.specs.Prelude.{slice_get, slice_set, slice_index_or}
 use Rattle.busdma_machine.specs.declared.bounce.hold.HoldEntry.{HoldEntry}
@@ -15,7 +15,7 @@ use Rattle.ideal_runs.specs.declared.logged_step.LoggedStep.{LoggedStep}
 use Rattle.ideal_runs.specs.declared.logged_step.LoggedStep.TheVariants.{Local, Held}
 use Rattle.ideal_runs.specs.Runs.{Log, Runs}
 
--- a step of this entry, with whether it held
+-- the step with this entry, which held the bounce lock or not
 abbrev pub logged : JournalEntry → Bool → LoggedStep
 logged e held = if held then Held e else Local e
 
@@ -24,17 +24,17 @@ abbrev pub logged_entry : LoggedStep → JournalEntry
 logged_entry (Local e) = e
 logged_entry (Held e) = e
 
--- the entries of a log
+-- the entries of a log, in order
 abbrev pub entries_of : Log → List JournalEntry
 entries_of log = map logged_entry log
 
--- its entries up to the first step that held, with that one
+-- the entries of a log up to the first step that held, and that step's
 abbrev pub through_hold : Log → List JournalEntry
 through_hold [] = []
 through_hold (Local e ∷ log) = e ∷ through_hold log
 through_hold (Held e ∷ log) = e ∷ []
 
--- what comes after that step
+-- the log after its first step that held
 abbrev pub past_hold : Log → Log
 past_hold [] = []
 past_hold (Local e ∷ log) = past_hold log
@@ -49,7 +49,8 @@ abbrev pub all_entries : List Log → List JournalEntry
 all_entries [] = []
 all_entries (log ∷ logs) = entries_of log ++ all_entries logs
 
--- for each hold the next entries of its driver up to the one that held, and at the end the rest, driver by driver
+-- the merged journal: for each hold the next entries of its driver, up to the one that held; and at the end the rest,
+-- driver by driver
 abbrev pub merged : List HoldEntry → List Log → List JournalEntry
 merged [] logs = all_entries logs
 merged (h ∷ hs) logs =
@@ -60,8 +61,8 @@ merged (h ∷ hs) logs =
 abbrev pub AreNumbered : List LaneState → Type 0
 AreNumbered lanes = (i : ℕ) (l : LaneState) → slice_get lanes i ≡ Some l → l.id ≡ i
 
--- each driver has a log, which runs it from the first to the last of these states by its own entries of the history,
--- and each entry is a driver's
+-- each driver has a log that runs it from the first to the last of these states by its own entries of the history, and
+-- each entry of the history is of one of these drivers
 pub record AllRun (firsts : List LaneState) (logs : List Log) (history : List HoldEntry) (lasts : List LaneState) :
     Type 0 where
   pub logged : length logs ≡ length firsts
@@ -70,11 +71,11 @@ pub record AllRun (firsts : List LaneState) (logs : List Log) (history : List Ho
   pub each : (i : ℕ) (l m : LaneState) → slice_get firsts i ≡ Some l → slice_get lasts i ≡ Some m →
       Runs l (log_of logs i) (of_lane i history) m
 
--- a world of these drivers and this account
+-- the world of these drivers and this account
 abbrev pub world_of : List LaneState → Account → WorldState
 world_of lanes a = record { lanes = lanes; account = a }
 
--- the run of a scenario whose entries are merged, and whose drivers end so
+-- the run of a scenario with these logs merged, at the end of which the drivers are in these states
 abbrev pub merged_run : Scenario → List HoldEntry → List Log → List LaneState → Run
 merged_run s history logs lasts =
     record { world = world_of lasts (account_of (opening s) history); entries = merged history logs }

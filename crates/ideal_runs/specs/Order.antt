@@ -18,8 +18,8 @@ abbrev pub has_held : LoggedStep → Bool
 has_held (Local e) = false
 has_held (Held e) = true
 
--- each hold is of a driver that has a log; each step of a log is its driver's, and as many of them held as its driver has
--- holds
+-- the logs are of these holds' drivers: each hold is of a driver that has a log, each step of a log is of the log's
+-- driver, and as many of its steps held as its driver has holds
 pub record AreOfDrivers (holds : List HoldEntry) (logs : List Log) : Type 0 where
   pub within : All (λ h. h.lane.0 < length logs) holds
   pub own : (i : ℕ) → i < length logs → All (λ s. driver_of s ≡ i) (log_of logs i)
@@ -34,9 +34,9 @@ pub record IsRest (i : ℕ) (s : LoggedStep) : Type 0 where
   pub unheld : has_held s ≡ false
   pub driver : i ≤ driver_of s
 
--- steps stand in order: those of each driver are its log; those that held are, one by one, of the drivers of the
--- holds; between a step that held nothing and its driver's next hold stand steps of this driver alone; and behind one
--- after which its driver does not hold again nothing holds, and no driver of a lower number has a step
+-- steps are in order: the steps of each driver are its log; the steps that held are, one by one, of the drivers of the
+-- holds; between a step that held nothing and its driver's next hold there are only steps of this driver; and after a
+-- step whose driver does not hold again, nothing holds and no driver of a lower number has a step
 pub record IsInOrder (holds : List HoldEntry) (logs : List Log) (steps : Log) : Type 0 where
   pub each : (i : ℕ) → i < length logs → filter (λ s. driver_of s == i) steps ≡ log_of logs i
   pub held : map driver_of (filter has_held steps) ≡ map (λ h. h.lane.0) holds
@@ -46,7 +46,7 @@ pub record IsInOrder (holds : List HoldEntry) (logs : List Log) (steps : Log) : 
   pub last : (before after : Log) (e : JournalEntry) → steps ≡ before ++ (Local e ∷ after) →
       All (HoldsNot e.actor.lane.0) after → All (IsRest e.actor.lane.0) after
 
--- entries are those of steps that stand so
+-- entries are in order: they are the entries of steps that are in order
 pub record AreOrdered (holds : List HoldEntry) (logs : List Log) (entries : List JournalEntry) : Type 0 where
   pub steps : Log
   pub order : IsInOrder holds logs steps

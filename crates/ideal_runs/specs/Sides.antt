@@ -1,4 +1,4 @@
--- What of the logs and the holds of a driver the schedule and the other drivers decide: whose turn it was, and replies.
+-- What of a driver's log and holds the schedule and the other drivers decide: whose turn it was, and the replies.
 use Rattle.std.specs.Prelude.{List, map}
 use Rattle.busdma_machine.specs.declared.bounce.hold.HoldEntry.{HoldEntry}
 use Rattle.busdma_machine.specs.declared.bounce.hold.HubCall.{HubCall}
@@ -11,9 +11,10 @@ use Rattle.ideal_runs.specs.Runs.{Log}
 abbrev pub sides_of : Log → List Side
 sides_of log = map (λ x. (logged_entry x).actor.side) log
 
--- the calls of holds, and the replies to them, in order
+-- the calls of these holds, in order
 abbrev pub calls_of : List HoldEntry → List HubCall
 calls_of hs = map (λ h. h.call) hs
 
+-- the replies of these holds, in order
 abbrev pub replies_of : List HoldEntry → List HubReply
 replies_of hs = map (λ h. h.reply) hs

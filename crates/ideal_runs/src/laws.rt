@@ -17,33 +17,37 @@ ghost use Rattle.ideal_runs.specs.Order.{AreOfDrivers, AreOrdered};
 ghost use Rattle.ideal_runs.specs.Runs.{Log, Runs};
 ghost use Rattle.ideal_runs.specs.Sides.{calls_of, replies_of, sides_of};
 
-/// Where each driver has the number of its place, a history is sound from an account on and has entries
-/// of these drivers alone, and the log of each runs it by its own, the merged journal leads from the world
-/// where the drivers begin, with that account, to the world where their logs end, with the account that
-/// the history leads to.
+/// The merged journal leads from the world where the drivers begin to the world where their logs end, if each
+/// log runs its driver by the driver's own entries of the history.
+///
+/// Each driver has the number of its place, the history has entries of these drivers only, and it is sound
+/// from the account of the first world on. It leads to the account of the last.
 pub fn merged_journals_lead()
     ensures { (a : Account) (history : List HoldEntry) (logs : List Log) (firsts lasts : List LaneState) →
         AreNumbered firsts → IsSound a history → AllRun firsts logs history lasts →
         Leads (world_of firsts a) (merged history logs) (world_of lasts (account_of a history)) }
 {}
 
-/// Where that is so of the drivers and their logs, the merged journal keeps each log and the holds in order.
-/// A step that held nothing stands before its driver's next hold, with no other driver's step between; or, where
-/// its driver does not hold again, at the end by driver.
+/// The merged journal keeps each log and the holds in order, if each log runs its driver by the driver's own
+/// entries of the history.
+///
+/// Between a step that held nothing and its driver's next hold there are only steps of this driver. The steps
+/// after which their driver does not hold again are at the end, driver by driver.
 pub fn merged_journals_are_ordered()
     ensures { (history : List HoldEntry) (logs : List Log) (firsts lasts : List LaneState) →
         AreNumbered firsts → AllRun firsts logs history lasts → AreOrdered history logs (merged history logs) }
 {}
 
-/// So it is of all logs whose steps are their drivers', and of which as many held as the history has holds of the driver,
-/// whatever the steps did.
+/// The merged journal keeps each log and the holds in order, whatever the steps did, if each log has only
+/// steps of its own driver, and as many of them held as the history has holds of the driver.
 pub fn merged_logs_are_ordered()
     ensures { (history : List HoldEntry) (logs : List Log) → AreOfDrivers history logs →
         AreOrdered history logs (merged history logs) }
 {}
 
-/// Where that is so of the drivers and the account of a scenario's opening, and no actor can step in the
-/// world where their logs end, the merged journal with the counts and the end of that world is legal.
+/// The merged journal is legal, with the counts and the end of the world where the logs end, if the history
+/// is sound from the scenario's opening on, each log runs its driver from there by the driver's own entries
+/// of the history, and no actor can step in the world where the logs end.
 pub fn merged_journals_are_legal()
     ensures { (s : Scenario) (history : List HoldEntry) (logs : List Log) (lasts : List LaneState) →
         IsSound (opening s) history → AllRun (opening_world s).lanes logs history lasts →
@@ -51,7 +55,7 @@ pub fn merged_journals_are_legal()
         IsLegal s (journal_of (merged_run s history logs lasts)) }
 {}
 
-/// A driver learns of the other drivers by the replies to its own calls alone. Where two logs run it from one
+/// A driver learns of the other drivers only by the replies to its own calls. If two logs run it from one
 /// state, by turns of the same sides in one order and by holds with the same replies, they have the same
 /// entries, the driver makes the same calls, and it ends in the same state.
 pub fn drivers_see_replies_alone()
@@ -60,9 +64,10 @@ pub fn drivers_see_replies_alone()
         replies_of hs ≡ replies_of ks → (log ≡ other) × (calls_of hs ≡ calls_of ks) × (m ≡ n) }
 {}
 
-/// A journal of a run's logs is legal, and keeps each log and the holds in order. A step that held nothing
-/// stands before its driver's next hold, with no other driver's step between; or, where its driver does not
-/// hold again, at the end by driver.
+/// A journal of a run's logs is legal, and keeps each log and the holds in order.
+///
+/// Between a step that held nothing and its driver's next hold there are only steps of this driver. The steps
+/// after which their driver does not hold again are at the end, driver by driver.
 pub fn runs_are_ordered()
     ensures legal { (s : Scenario) (j : Journal) → IsFromLogs s j → IsLegal s j }
     ensures ordered { (s : Scenario) (j : Journal) (h : IsFromLogs s j) → AreOrdered h.history h.logs j.entries }

@@ -1,5 +1,5 @@
-//! Drivers that run at once: their logs, the one history of the bounce lock that they share, and the journal that both are
-//! merged to.
+//! Drivers that run at the same time: their logs, the one history of the bounce lock that they share, and the
+//! journal that logs and history are merged to.
 #![tactic(auto)]
 
 mod laws;

@@ -6,7 +6,7 @@ ghost use Rattle.ideal_runs.specs.Merged.{logged};
 use busdma_base::JournalEntry;
 use std::alloc::AllocError;
 
-/// A step of a driver, by its entry of the journal.
+/// A step of a driver, with its entry of the journal, and whether it added an entry to the history.
 #[derive(Debug, Drop)]
 pub enum LoggedStep {
     /// It added no entry to the history of the bounce lock.
@@ -16,7 +16,7 @@ pub enum LoggedStep {
 }
 
 impl LoggedStep {
-    /// The step of an entry, with whether it held.
+    /// Returns the step with this entry; `held` says whether it added an entry to the history.
     pub fn new(entry: JournalEntry, held: bool) -> LoggedStep
         ensures { result ≡ logged entry held }
     {

@@ -25,7 +25,7 @@ same-put : (ls : List LaneState) (i : ℕ) (l n m : LaneState) → slice_get ls 
     slice_get (slice_set ls i n) i ≡ Some m → n ≡ m
 same-put ls i l n m there h = let found : Some n ≡ Some m = sym (set-here ls i n (within ls i l there)) ∙ h in cc
 
--- of a turn that is a step
+-- the segments that a turn answers, if it is a step
 of-turn : (l n m : LaneState) (t : Turn) (e : JournalEntry) → n ≡ m → AnswersIn l n t → entry_of t ≡ Some e →
     IfSegments e.answer (AreOf l m e.did)
 of-turn l n m (Stepped entry) e same h is =
@@ -35,7 +35,7 @@ of-turn l n m (Stepped entry) e same h is =
 of-turn l n m Blocked e same h is = absurd (cc)
 of-turn l n m Ended e same h is = absurd (cc)
 
--- of a step by the account's reply
+-- the segments that a step answers, by the account's reply
 of-step : (w : WorldState) (i : ℕ) (l m : LaneState) (x : Asking Turned) (e : JournalEntry) →
     slice_get w.lanes i ≡ Some l → AnswersLoads l w.account x →
     slice_get (replied w i l x).world.lanes i ≡ Some m → entry_of (replied w i l x).turn ≡ Some e →

@@ -26,14 +26,15 @@ use Rattle.ideal_world.specs.World.{WorldState, step, step_of, entry_of, step_en
 use Rattle.ideal_world.proofs.Lanes.{opening_at}
 use Rattle.ideal_world.proofs.Turns.{OwnStep, own-step, other-step, still}
 
--- a run of a driver that calls a callback as often as entries do, and does as often what a test chooses
+-- the entries follow a run of this driver: it calls a callback as often as they do, and does what a test chooses as
+-- often as they do
 record Follows (i p : ℕ) (chosen : Did → Bool) (w : WorldState) (es : List JournalEntry) (l : LaneState) : Type 0 where
   made : List Made
   run : IsRun l made
   times : times_called i p w es ≡ own.times_called p l made
   done : times_done chosen i es ≡ runs.times_done chosen made
 
--- the call of a turn that is a step is that of its entry
+-- a turn that is a step calls the callback that its entry calls
 counted : (p : ℕ) (l : LaneState) (t : Turn) (e : JournalEntry) → entry_of t ≡ Some e →
     own.called_by p l t ≡ (if calls p l e.did e.answer then 1 else 0)
 counted p l (Stepped entry) e h =
@@ -41,7 +42,7 @@ counted p l (Stepped entry) e h =
 counted p l Blocked e h = absurd (cc)
 counted p l Ended e h = absurd (cc)
 
--- so it is of what it did
+-- a turn that is a step does what its entry did
 did-counted : (chosen : Did → Bool) (t : Turn) (e : JournalEntry) → entry_of t ≡ Some e →
     runs.done_by chosen t ≡ (if chosen e.did then 1 else 0)
 did-counted chosen (Stepped entry) e h =
@@ -78,7 +79,7 @@ nobody-did i chosen w (e ∷ es) end h none =
         absurd (cc)
 
 module _ (i p : ℕ) (chosen : Did → Bool) where
-  -- an entry of the driver's
+  -- an entry of the driver
   mine : (w : WorldState) (e : JournalEntry) (es : List JournalEntry) (l : LaneState) (o : OwnStep w e.actor l) →
       step_entry w e.actor ≡ Some e → slice_get w.lanes i ≡ Some l → (e.actor.lane.0 == i) ≡ true →
       Follows i p chosen (step w e.actor).world es (by_reply (lane_step l e.actor.side) o.reply).lane →
@@ -107,7 +108,7 @@ module _ (i p : ℕ) (chosen : Did → Bool) where
             );
       }
 
-  -- another's
+  -- an entry of another driver
   others : (w : WorldState) (e : JournalEntry) (es : List JournalEntry) (l : LaneState) →
       slice_get w.lanes i ≡ Some l → (e.actor.lane.0 == i) ≡ false → Follows i p chosen (step w e.actor).world es l →
       Follows i p chosen w (e ∷ es) l
@@ -156,7 +157,7 @@ called-at-most-once s es end i p h = by (slice_get (opening_world s).lanes i) re
         let same = ap (λ k. own.times_called p k f.made) o.opens in
         omega (arith, f.times, once, same)
 
--- what each run of a driver does at most once, its entries do
+-- what each run of a driver does at most once, its entries do at most once
 module _ (chosen : Did → Bool) (once : (id maxmem : ℕ) (driver : Driver) (made : List Made) →
     IsRun (opening_lane id maxmem driver) made → runs.times_done chosen made ≤ 1) where
   done-at-most-once : (s : Scenario) (es : List JournalEntry) (end : WorldState) (i : ℕ) →

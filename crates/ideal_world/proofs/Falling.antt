@@ -76,7 +76,7 @@ module _ (w : WorldState) (i : ℕ) (l : LaneState) (there : slice_get w.lanes i
   stay-keeps NothingLeft is = refl
   stay-keeps (NoneCalled u) is = missed w.account.ready l.id w.account (subst IsUncalled (sym is) u)
 
-  -- of all turns only one that stays has no entry
+  -- the only turns without an entry are those that stay
   steps-rest : {s : Side} {c : Option HubCall} {r : HubReply} {t : Turned} → Steps l s c r t →
       IsReplyOf l.id w.account c r → entry_of t.turn ≡ None → (turned w i (after c) t).world ≡ w
   steps-rest (Stays t e) is h =

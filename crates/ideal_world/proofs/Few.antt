@@ -1,4 +1,4 @@
--- Little is left to do where a valid scenario opens, so the syncs that are counted stay below 2^64.
+-- Little is left to do in the opening world of a valid scenario, so the syncs that are counted stay below 2^64.
 use Rattle.std.proofs.Common.{◌≡◌, ℕ, ◌+◌, ◌*◌, ◌^◌, ◌<◌, ◌≤◌, List, [], ◌∷◌, ◌++◌, length, arith}
 use Rattle.std.proofs.lemmas.List.Sums.{sum_by-cons}
 use Rattle.std.specs.List.{sum_by}

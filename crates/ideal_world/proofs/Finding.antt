@@ -35,7 +35,7 @@ resends p (Stepped e) = is_resend p e.did
 resends p Blocked = false
 resends p Ended = false
 
--- such a turn is of the script, and of a send that is due
+-- a turn that is a resend is of the script, and of a send whose resend is due
 record IsDueNow (l : LaneState) (s : Side) : Type 0 where
   side : s ≡ side.Script
   send : Send
@@ -57,7 +57,7 @@ resends-now l p (Leaves q rest is t) h = absurd (cc)
 resends-now l p (Releases q rest is y there) h = absurd (cc)
 resends-now l p (Calls m pages k) h = absurd (cc)
 
--- what stands of each driver's send while its resend is due
+-- while the resend of a send is due, the send's map is without a load, of each driver
 abbrev AllDue : WorldState → Type 0
 AllDue w = (i : ℕ) (l : LaneState) → slice_get w.lanes i ≡ Some l → DueStands l
 
@@ -71,7 +71,7 @@ module _ (s : Scenario) (w : WorldState) (well : IsWellFormed s w) (all : AllDue
   abbrev i : ℕ
   i = e.actor.lane.0
 
-  -- the turn of which the entry is
+  -- the turn with this entry
   of-turn : (t : Turn) → entry_of t ≡ Some e → t ≡ Stepped e
   of-turn (Stepped entry) h = let same : entry ≡ e = cc in ap (λ x. Stepped x) same
   of-turn Blocked h = absurd (cc)

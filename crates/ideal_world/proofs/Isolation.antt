@@ -1,4 +1,4 @@
--- Each byte is held by at most one driver, by one thing of it, and a device finds bytes alone that its driver holds.
+-- Each byte is held by at most one driver, by one thing of it, and a device finds only bytes that its driver holds.
 use Rattle.std.proofs.Common.{◌≡◌, ℕ, true, [], Some, slice_get, sym, ap, ◌∙◌}
 use Rattle.std.specs.FinMap.{get}
 use Rattle.busdma_base.specs.declared.scenarios.scenario.Scenario.{Scenario}
@@ -34,7 +34,7 @@ module _ (s : Scenario) (w : WorldState) (well : IsWellFormed s w) where
         (one-owner byte) by other h g in
         (sym x.number ∙ r.0 ∙ y.number, r.1)
 
-    -- what the device of a driver's map finds is none that another driver holds
+    -- the device of a driver's map finds no byte that another driver holds
     pub own-finding : (m : ℕ) (o : LaneMap) → get l.maps m ≡ Some o → (n bus byte : ℕ) (other : Holder) →
         slice_get (bus_addresses o) n ≡ Some bus → found_at l o bus ≡ Some byte → holds k other byte ≡ true → i ≡ j
     own-finding m o at n bus byte other place found h =

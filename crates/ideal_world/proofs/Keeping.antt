@@ -37,7 +37,7 @@ use Rattle.ideal_world.proofs.Lanes.{within, length-slice_set, each_set, sum_set
 use Rattle.ideal_lane.proofs.Own.{IsLater, IsOwn, IsOwnBy, actor_of, turn-own}
 use Rattle.ideal_world.proofs.Reached.{entry, given-to, reached-on, reached-fits, reached-whole, others-agree}
 
--- a driver has no more left, with what it counted of each zone
+-- a driver has no more left to do, together with the syncs that it counted for each zone
 abbrev SpendsNoMore : LaneState → LaneState → Type 0
 SpendsNoMore l m = (z : ℕ) → m.shares z + left m ≤ l.shares z + left l
 
@@ -58,7 +58,7 @@ module _ (s : Scenario) (w : WorldState) (well : IsWellFormed s w) where
     pub below : l.id < length s.drivers
     below = omega (arith, within w.lanes i l there, own.number, well.count)
 
-    -- the driver's state after its step, with the account after it
+    -- the driver's state after its step, and the account after it
     record IsAfter (a : Account) (m : LaneState) : Type 0 where
       later : IsLater l m
       spends : SpendsNoMore l m
@@ -70,7 +70,7 @@ module _ (s : Scenario) (w : WorldState) (well : IsWellFormed s w) where
       mapped : AreMapped m
       served : AreServed m a
 
-    -- the driver is after its step, and the others agree with the account too, whose zones serve them
+    -- the driver has made its step, the others agree with the account too, and the zones of it serve their tags
     changed : (a : Account) (m : LaneState) → IsAfter a m →
         ((j : ℕ) (n : LaneState) → j ≢ i → slice_get w.lanes j ≡ Some n → AgreesWith n a × AreServed n a) →
         IsReached s a →
@@ -194,7 +194,7 @@ module _ (s : Scenario) (w : WorldState) (well : IsWellFormed s w) where
   step-allowed i l side e =
       turn-allowed l side w.account (well.each i l e).stands (well.each i l e).agrees
 
-  -- an entry is its actor's
+  -- an entry names its actor
   named : (id : ℕ) (actor : Actor) (t : Turn) (e : JournalEntry) → id ≡ actor.lane.0 → IsOwnBy id actor.side t →
       entry_of t ≡ Some e → e.actor ≡ actor
   named id actor (Stepped entry) e same own h =

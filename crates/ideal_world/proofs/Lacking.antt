@@ -90,7 +90,7 @@ some-page p y z (q ∷ ps) some = by ((q == p) && (y == z)) refl (λ k. some-pag
         (rest.0, omega arith)
 
 module _ (s : Scenario) (w : WorldState) (well : IsWellFormed s w) (awaits : OnlyAwaits w) (z : ℕ) where
-  -- ---- a page that is held is that of a loaded map
+  -- ---- a page that is held is a page of a loaded map
 
   module _ (m : MapId) (p : ℕ) (some : 1 ≤ times_held m z p w.account) where
     module _ (l : LaneState) (there : slice_get w.lanes m.lane.0 ≡ Some l) where

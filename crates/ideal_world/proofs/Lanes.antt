@@ -1,4 +1,4 @@
--- The drivers of a world: where each stands, and what a change of one leaves of the others.
+-- The drivers of a world: at which place each is, and what a change of one leaves of the others.
 use Rattle.std.proofs.Common.{◌≡◌, ◌≢◌, ℕ, zero, suc, ◌+◌, ◌<◌, List, [], ◌∷◌, length, Some, refl}
 use Rattle.std.proofs.Common.{sym, ap, ◌∙◌, arith, subst, slice_get, slice_set}
 use Rattle.std.proofs.lemmas.List.Sums.{sum_by-cons}
@@ -50,7 +50,7 @@ length-slice_set [] k m = refl
 length-slice_set (x ∷ ls) zero m = refl
 length-slice_set (x ∷ ls) (suc k) m = ap suc (length-slice_set ls k m)
 
--- a driver that is there stands below the end
+-- a driver that is there has a number below the end
 pub within : (ls : List LaneState) (k : ℕ) (l : LaneState) → slice_get ls k ≡ Some l → k < length ls
 within [] k l h = absurd (cc)
 within (x ∷ ls) zero l h = omega arith
@@ -82,7 +82,7 @@ set-here [] k m lt = absurd (omega (arith, lt))
 set-here (x ∷ ls) zero m lt = refl
 set-here (x ∷ ls) (suc k) m lt = set-here ls k m (omega (arith, lt))
 
--- and the others stay
+-- a driver at another place stays
 pub set-other : (ls : List LaneState) (k j : ℕ) (m : LaneState) → j ≢ k →
     slice_get (slice_set ls k m) j ≡ slice_get ls j
 set-other [] k j m off = refl
@@ -98,7 +98,7 @@ set_same [] k l m e same = refl
 set_same (x ∷ ls) zero l m e same = let q : x ≡ l = cc in ap (λ y. y ∷ ls) (same ∙ sym q)
 set_same (x ∷ ls) (suc k) l m e same = ap (λ t. x ∷ t) (set_same ls k l m e same)
 
--- what one driver has less or more of, all together have
+-- what one driver has less or more of, all together have less or more of
 pub sum_set : (f : LaneState → ℕ) (ls : List LaneState) (k : ℕ) (l m : LaneState) → slice_get ls k ≡ Some l →
     sum_by f (slice_set ls k m) + f l ≡ sum_by f ls + f m
 sum_set f [] k l m e = absurd (cc)

@@ -21,7 +21,7 @@ use Rattle.ideal_world.proofs.Rest.{round_rests, in_round}
 use Rattle.ideal_world.proofs.Rounds.{Leads-push}
 use Rattle.ideal_world.proofs.Stuck.{only-awaits}
 
--- entries lead from a well-formed world to one
+-- entries lead from a well-formed world to a well-formed one
 leads-keep : (s : Scenario) (w : WorldState) (es : List JournalEntry) (end : WorldState) → IsWellFormed s w →
     Leads w es end → IsWellFormed s end
 leads-keep s w [] end well h = subst (IsWellFormed s) h well

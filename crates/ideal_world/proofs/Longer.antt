@@ -83,7 +83,7 @@ module _ (more : More) where
         }) (sym is)
         ∙ ap (λ ls. record { world = record { lanes = ls; account = a }; turn = t.turn }) (set-here w.lanes k t.lane)
 
-    -- steps of a driver, with its further operations or without them
+    -- the steps of a driver are the same with its further operations and without them
     replied-same : (x : Asking Turned) → ((r : HubReply) → (by_reply x r).lane.script ≡ l.script) →
         replied (world_with more w) k (lane_with (more k) l) (goes_on (turned_under script) x)
         ≡ turned_with (replied w k l x)
@@ -91,7 +91,7 @@ module _ (more : More) where
     replied-same (Asks c f) h =
         let o = account_step l.id c w.account in turned-same o.account (f o.reply) (h o.reply)
 
-  -- the turn of an actor whose driver looks at nothing behind its script
+  -- the turn of an actor whose driver looks at nothing after its script
   step-same : (w : WorldState) (actor : Actor) →
       ((l : LaneState) → slice_get w.lanes actor.lane.0 ≡ Some l → LooksSame actor.side (l.script ++ more actor.lane.0) l) →
       step (world_with more w) actor ≡ turned_with (step w actor)
@@ -111,7 +111,7 @@ module _ (more : More) where
           ∙ (replied-same w k l (lane_step l actor.side) (λ r. (turn-own l actor.side r).later.same_script)
           ∙ sym (ap (λ q. turned_with (step_of w actor q)) e)))
 
-  -- the entry of a step is that of a turn that does not find the script at its end
+  -- the entry of a step is of a turn that does not find the end of the script
   unended : (t : Turn) (e : JournalEntry) → entry_of t ≡ Some e → is_ended t ≡ false
   unended (Stepped x) e h = refl
   unended Blocked e h = refl
@@ -147,7 +147,7 @@ module _ (more : More) where
   abbrev HaveScripts : List Driver → WorldState → Type 0
   HaveScripts ds w = (i : ℕ) (l : LaneState) → slice_get w.lanes i ≡ Some l → HasScript ds i l
 
-  -- what leads on from a longer world, with entries of the shorter scripts alone, leads on from the shorter one
+  -- entries of only the shorter scripts that lead on from a longer world lead on from the shorter one
   record LeadsShorter (w : WorldState) (es : List JournalEntry) (end : WorldState) : Type 0 where
     last : WorldState
     leads : Leads w es last

@@ -20,7 +20,7 @@ use Rattle.ideal_world.specs.WellFormed.{IsDriverOf, IsWellFormed}
 use Rattle.ideal_world.specs.World.{opening_world}
 use Rattle.ideal_world.proofs.Lanes.{OpensAt, opening_at, length-opening_lanes, none-bounced}
 
--- no map is there at an opening
+-- there is no map at an opening
 nothing : (m : ℕ) (o : LaneMap) → get (empty {X = LaneMap} {R = nat_cmp}) m ≡ Some o → ⊥
 nothing m o e = let none : get (empty {X = LaneMap} {R = nat_cmp}) m ≡ None = get-empty nat_cmp m in absurd (cc)
 

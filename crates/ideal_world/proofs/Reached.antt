@@ -66,7 +66,7 @@ entered lane c a may = by (is_kept c (account_step lane c a).reply) refl
     by true e = inl (record { may = may; kept = e; reply = refl })
     by false e = inr (unkept lane c a e)
 
--- one entry more
+-- a history with one more entry
 sound-push : (a : Account) (es : List HoldEntry) (e : HoldEntry) → IsSound a es → IsSoundEntry e (account_of a es) →
     IsSound a (es ++ e ∷ [])
 sound-push a [] e s h = (h, tt)
@@ -109,17 +109,17 @@ pub reached-fits : (s : Scenario) (a : Account) → IsValid s → IsReached s a 
 reached-fits s a valid r =
     subst IsFit r.leads (fit-reached (opening s) r.history (opening-may_begin s valid) r.sound)
 
--- its zones' pages lie low
+-- the pages of the zones of an account that is reached lie low
 pub reached-low : (s : Scenario) (a : Account) → IsValid s → IsReached s a → PagesLieLow a
 reached-low s a valid r =
     subst PagesLieLow r.leads (pages-low (opening s) r.history (opening-may_begin s valid) r.sound)
 
--- its frames are whole ones
+-- each frame of an account that is reached begins at a multiple of 4096
 pub reached-whole : (s : Scenario) (a : Account) → IsValid s → IsReached s a → EachFrame IsFrame a
 reached-whole s a valid r =
     subst (EachFrame IsFrame) r.leads (whole-history (opening s) r.history (opening-may_begin s valid) r.sound)
 
--- and they lie below the end of memory
+-- the frames of an account that is reached lie below the end of memory
 pub reached-below : (s : Scenario) (a : Account) → IsValid s → IsReached s a → LiesBelowMaxmem a
 reached-below s a valid r =
     subst LiesBelowMaxmem r.leads

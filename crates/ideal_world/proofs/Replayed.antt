@@ -15,7 +15,7 @@ abbrev Rests : List Actor → Run → Type 0
 Rests round r = (end : Run) × ComesToRest round r end
 
 module _ (s : Scenario) (round : List Actor) where
-  -- a run comes to rest where a round leaves it as it is, or leaves less to do and comes to rest from there
+  -- a run comes to rest if a round leaves it as it is, or leaves less to do and comes to rest from there
   rests-by : (r : Run) → IsWellFormed s r.world →
       (left_of (turns r round).world < left_of r.world → Rests round (turns r round)) → Rests round r
   rests-by r well next = by (rests-or-falls s round r well)

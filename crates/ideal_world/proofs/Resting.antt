@@ -1,4 +1,4 @@
--- Where each script has ended or awaits a map that waits, and no callback is to be called, no actor can step.
+-- If each script has ended or awaits a map that waits, and no callback is to be called, no actor can step.
 use Rattle.std.proofs.Common.{◌≡◌, ℕ, Bool, true, false, Option, Some, None, if◌then◌else◌, refl, ap, sym, ◌∙◌, subst}
 use Rattle.std.proofs.Common.{slice_get}
 use Rattle.std.specs.Option.{option_and_then}
@@ -27,7 +27,7 @@ module _ (w : WorldState) (only : OnlyAwaits w) where
     awaited : (a : IsAwaiting w.account l) → waits (op.Await a.map) l ≡ true
     awaited a = rw (a.there, a.stage) refl
 
-    -- no send stands where the script has ended or awaits
+    -- there is no send at the place of a script that has ended or awaits
     nothing-due : (q : Option Op) → slice_get l.script l.place ≡ q → option_and_then send_of q ≡ None →
         due_send l ≡ None
     nothing-due q e none = by l.due

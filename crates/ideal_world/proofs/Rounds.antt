@@ -7,7 +7,7 @@ use Rattle.busdma_base.specs.declared.scenarios.scenario.Scenario.{Scenario}
 use Rattle.ideal_world.specs.World.{WorldState, step, step_entry}
 use Rattle.ideal_world.specs.Legal.{Run, Leads, turns, rounds, round_of, opening_run, IsReplay, IsReplayed, journal_of}
 
--- after a round that makes no step no round does
+-- after a round that makes no step, no round makes one
 rounds_stuck : (n : ℕ) (round : List Actor) (r : Run) → turns r round ≡ r → rounds n round r ≡ r
 rounds_stuck zero round r h = refl
 rounds_stuck (suc n) round r h = ap (rounds n round) h ∙ rounds_stuck n round r h
@@ -39,7 +39,7 @@ one_replay s x y h k =
 pub one_replayed : (s : Scenario) (j k : Journal) → IsReplayed s j → IsReplayed s k → j ≡ k
 one_replayed s j k h g = h.journal ∙ ap journal_of (one_replay s h.run g.run h.replay g.replay) ∙ sym g.journal
 
--- entries that lead on
+-- entries that lead on, with one more
 pub Leads-push : (w m : WorldState) (es : List JournalEntry) (e : JournalEntry) → Leads w es m →
     step_entry m e.actor ≡ Some e → Leads w (es ++ e ∷ []) (step m e.actor).world
 Leads-push w m [] e h is = (ap (λ x. step_entry x e.actor) h ∙ is, ap (λ x. (step x e.actor).world) h)

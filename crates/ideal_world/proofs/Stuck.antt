@@ -1,5 +1,4 @@
--- Where no actor can step, each script has ended or awaits a map that waits for pages, and no callback is to be
--- called.
+-- If no actor can step, each script has ended or awaits a map that waits for pages, and no callback is to be called.
 use Rattle.std.proofs.Common.{◌≡◌, ℕ, zero, suc, ◌<◌, ◌≤◌, ◌==◌, ◌&&◌, ◌||◌, Bool, true, false, List, [], ◌∷◌}
 use Rattle.std.proofs.Common.{length, Option, Some, None, if◌then◌else◌, refl, sym, ap, ◌∙◌, subst, arith, slice_get}
 use Rattle.std.proofs.Common.{nat_lt}
@@ -39,7 +38,7 @@ use Rattle.ideal_world.proofs.Keeping.{fits}
 use Rattle.ideal_world.proofs.Lanes.{found}
 use Rattle.ideal_world.proofs.Waiters.{in-zone, unlisted, head-listed}
 
--- where an operation is missing, the script has ended
+-- if there is no operation at the place, the script has ended
 past-end : (script : List Op) (place : ℕ) → slice_get script place ≡ None → length script ≤ place
 past-end [] place h = omega arith
 past-end (o ∷ script) zero h = absurd (cc)
@@ -173,7 +172,7 @@ module _ (s : Scenario) (w : WorldState) (well : IsWellFormed s w) (rest : IsAtR
     returns : l.returns ≡ []
     returns = no-returns l.returns (no-turn side.Script)
 
-    -- no resend is due, as it would be a step
+    -- no resend is due, because it would be a step
     none-due : (q : Option Send) → entry_of (replied w i l (due_turn q l)).turn ≡ None →
         entry_of (replied w i l (next_operation (slice_get l.script l.place) l)).turn ≡ None
     none-due None h = h
@@ -184,7 +183,7 @@ module _ (s : Scenario) (w : WorldState) (well : IsWellFormed s w) (rest : IsAtR
         none-due (due_send l)
         (subst (λ rs. entry_of (replied w i l (script_turn rs l)).turn ≡ None) returns (no-turn side.Script))
 
-    -- the map that is awaited stands in its zone's waiting list
+    -- the map that is awaited is in its zone's waiting list
     in-list : (m : ℕ) → slice_get l.script l.place ≡ Some (op.Await m) → (x : WaitsWith (get l.maps m)) →
         (zone : Option ℕ) → x.map.zone ≡ zone → IsAwaiting w.account l
     in-list m at x None e =

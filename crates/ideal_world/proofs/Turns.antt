@@ -1,5 +1,5 @@
--- What an actor's turn makes of each driver: its own does a step, by the account's reply to its call, and each other
--- stays.
+-- What an actor's turn makes of each driver: the actor's own driver makes a step, by the account's reply to its call,
+-- and every other driver stays as it was.
 use Rattle.std.proofs.Common.{◌≡◌, ◌≢◌, ◌⊎◌, inl, inr, ℕ, Option, Some, None, refl, sym, ap, ◌∙◌, slice_get, slice_set}
 use Rattle.busdma_machine.specs.declared.bounce.hold.HubCall.{HubCall}
 use Rattle.busdma_machine.specs.declared.bounce.hold.HubReply.{HubReply}
@@ -16,7 +16,7 @@ use Rattle.ideal_world.proofs.Lanes.{each_set, set-here, set-other, within}
 abbrev pub IsGiven : WorldState → LaneState → HubReply → Type 0
 IsGiven w l r = (r ≡ Nothing) ⊎ ((c : HubCall) × (r ≡ (account_step l.id c w.account).reply))
 
--- the world after the turn of a driver: the driver is that of the turn, by the account's reply to its call
+-- the world after the turn of a driver: the driver is as the turn leaves it, by the account's reply to its call
 record Turns (w : WorldState) (i : ℕ) (l : LaneState) (x : Asking Turned) (after : WorldTurned) : Type 0 where
   reply : HubReply
   given : IsGiven w l reply
@@ -94,7 +94,7 @@ each-step P w actor mine others i n h = by (slice_get w.lanes actor.lane.0) refl
         each_set P w.lanes k (by_reply (lane_step l actor.side) o.reply).lane (mine l o e) others i n
         (sym (ap (λ ls. slice_get ls i) o.lanes) ∙ h)
 
--- a driver that is not there does not come
+-- a driver that is not there stays away
 pub still : (w : WorldState) (actor : Actor) (i : ℕ) → slice_get w.lanes i ≡ None →
     slice_get (step w actor).world.lanes i ≡ None
 still w actor i none = by (slice_get w.lanes actor.lane.0) refl

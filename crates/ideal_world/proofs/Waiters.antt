@@ -1,4 +1,4 @@
--- Where a map that waits stands in an account, and that nobody but the scenario's drivers stands in its lists.
+-- In which list of an account a map that waits is, and that only maps of the scenario's drivers are in its lists.
 use Rattle.std.proofs.Common.{◌≡◌, ◌≢◌, ℕ, zero, suc, ◌+◌, ◌<◌, ◌≤◌, ◌==◌, ◌&&◌, Bool, true, false, List, [], ◌∷◌}
 use Rattle.std.proofs.Common.{length, refl, sym, ap, ◌∙◌, subst, arith, slice_index_or, All}
 use Rattle.std.proofs.lemmas.Bool.{ne_eqb}
@@ -42,7 +42,7 @@ module _ (m : MapId) (z need : ℕ) where
       by x true c e = ap (λ d. d && c) e
       by x false c e = refl
 
-  -- each waiter of zones stands in its own, where the first of the zones has this number
+  -- each waiter of these zones is in its own zone's list, if the first of the zones has this number
   abbrev Own : ℕ → List Zone → Type 0
   Own first zs = (j : ℕ) → All (Lacks (first + j)) (slice_index_or zs j no_zone).wait
 
@@ -81,7 +81,7 @@ module _ (m : MapId) (z need : ℕ) where
         one-there (first + 1) i zs (omega (arith, e)) (own-tail first k zs h),
       )
 
-  -- where the callback list is empty, those that wait so stand in the waiting list of their zone
+  -- if the callback list is empty, the maps that wait for pages of a zone are in its waiting list
   pub in-zone : (a : Account) → IsWellFormed a → a.ready ≡ [] → count_by test (zone_at a z).wait ≡ waiters test a
   in-zone a well none =
       let whole : sum_by waiting a.zones ≡ waiting (zone_at a z) =
@@ -89,7 +89,7 @@ module _ (m : MapId) (z need : ℕ) where
       subst (λ y. All (Lacks y) (zone_at a j).wait) e (well.waits j)) in
       omega (arith, whole, ap (count_by test) none)
 
--- nobody else's map is in a list
+-- no map but those of the scenario's drivers is in a list
 pub unlisted : (s : Scenario) (a : Account) (m : MapId) → IsReached s a → length s.drivers ≤ m.lane.0 →
     times_listed m a ≡ 0
 unlisted s a m r past =

@@ -22,7 +22,7 @@ use Rattle.ideal_world.proofs.Turns.{OwnStep, each-step}
 -- ---- the opening
 
 module _ (s : Scenario) (valid : IsValid s) where
-  -- what holds of each driver that opens
+  -- a property holds of each driver at its opening
   opens : (P : ℕ → LaneState → Type 0) →
       ((i : ℕ) (l : LaneState) (o : OpensAt 0 (maxmem_of s.frames) s.drivers i l) →
       slice_get (opening_world s).lanes i ≡ Some l → P i (opening_lane i (maxmem_of s.frames) o.driver)) →

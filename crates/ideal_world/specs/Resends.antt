@@ -6,11 +6,11 @@ use Rattle.busdma_base.specs.declared.journals.journal.JournalEntry.{JournalEntr
 use Rattle.ideal_lane.specs.Due.{is_unfit}
 use Rattle.ideal_lane.specs.Resends.{is_resend}
 
--- how often an entry is one of this driver's, and does what a test chooses
+-- how often an entry is of this driver and does what a test chooses: 1 if it is, and else 0
 abbrev pub done_by : (Did → Bool) → ℕ → JournalEntry → ℕ
 done_by chosen i e = if (e.actor.lane.0 == i) && chosen e.did then 1 else 0
 
--- how often entries are
+-- how many of these entries are of this driver and do what a test chooses
 abbrev pub times_done : (Did → Bool) → ℕ → List JournalEntry → ℕ
 times_done chosen i entries = sum_by (λ e. done_by chosen i e) entries
 
@@ -18,6 +18,6 @@ times_done chosen i entries = sum_by (λ e. done_by chosen i e) entries
 abbrev pub FindsMap : JournalEntry → Type 0
 FindsMap e = (place : ℕ) → is_resend place e.did ≡ true → is_unfit e.answer ≡ false
 
--- so it is of all entries
+-- no resend among these entries answers EINVAL, Absent or MapBusy
 abbrev pub FindMaps : List JournalEntry → Type 0
 FindMaps entries = AllByRecursion FindsMap entries

@@ -18,9 +18,9 @@ use Rattle.ideal_wire.specs.Spaced.{AreSpaced}
 use Rattle.ideal_world.specs.Left.{left_of}
 use Rattle.ideal_world.specs.World.{WorldState, bounced, opening_world}
 
--- the state of the scenario's driver of this number: it has its script and its pages, stands, agrees with the account,
--- lies in its machine, has its loads laid, the address spaces of its IOMMU tags in order and the loads of their maps in
--- their runs, and has maps of zones that serve their tags
+-- this is the state of the scenario's driver of this number: it has the driver's script and pages, its invariant holds,
+-- it agrees with the account, it lies in the machine, its loads are laid, the address spaces of its IOMMU tags are in
+-- order, the loads of their maps are in their runs, and the zones of its maps serve their tags
 pub record IsDriverOf (s : Scenario) (a : Account) (i : ℕ) (l : LaneState) : Type 0 where
   pub driver : Driver
   pub there : slice_get s.drivers i ≡ Some driver
@@ -42,12 +42,13 @@ pub record IsReached (s : Scenario) (a : Account) : Type 0 where
   pub own : All (λ e. e.lane.0 < length s.drivers) history
   pub leads : account_of (opening s) history ≡ a
 
--- what is left, with the syncs that copied bytes of the zone's maps, is at most what was left at the opening
+-- what is left to do, together with the syncs that copied bytes of the zone's maps, is at most what was left at the
+-- opening
 abbrev pub CountsFew : Scenario → WorldState → ℕ → Type 0
 CountsFew s w z = bounced w z + left_of w ≤ left_of (opening_world s)
 
--- the world of a valid scenario: it has a state of each of the scenario's drivers, and an account that their calls led
--- to; and so many syncs may still be counted as there is left to do
+-- a world of a valid scenario is well formed: it has a state of each of the scenario's drivers, the calls of these
+-- drivers led to its account, and the syncs counted for a zone are few enough
 pub record IsWellFormed (s : Scenario) (w : WorldState) : Type 0 where
   pub valid : IsValid s
   pub count : length w.lanes ≡ length s.drivers

@@ -12,11 +12,11 @@ use Rattle.ideal_world.specs.World.{WorldState, step}
 abbrev pub Wires : Type 0
 Wires = ℕ → Wire
 
--- each driver has this, with its number
+-- this holds of each driver of a world, with its number
 abbrev pub EachDriver : (ℕ → LaneState → Type 0) → WorldState → Type 0
 EachDriver P w = (i : ℕ) (l : LaneState) → slice_get w.lanes i ≡ Some l → P i l
 
--- the pages of each driver hold zeros
+-- the wire of each driver has zeros in all pages of the driver
 abbrev pub AreZero : Wires → WorldState → Type 0
 AreZero wires w = EachDriver (λ i l. (a : ℕ) → is_own l.pages a ≡ true → wires i a ≡ 0) w
 
@@ -24,8 +24,8 @@ AreZero wires w = EachDriver (λ i l. (a : ℕ) → is_own l.pages a ≡ true �
 abbrev pub AllFaithful : Wires → WorldState → Type 0
 AllFaithful wires w = EachDriver (λ i l. IsFaithful l (wires i)) w
 
--- what an actor's turn makes of the wires: its driver's follows the turn, with pages and frames of memories that come
--- and go, and each other's stays
+-- what an actor's turn makes of the wires: the wire of its driver follows the turn, with pages and frames of memories
+-- that come and go, and every other wire stays
 pub record WiresFollow (w : WorldState) (actor : Actor) (before after : Wires) : Type 0 where
   pub own : (l m : LaneState) → slice_get w.lanes actor.lane.0 ≡ Some l →
       slice_get (step w actor).world.lanes actor.lane.0 ≡ Some m →

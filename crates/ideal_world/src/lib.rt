@@ -1,5 +1,5 @@
-//! The ideal world: all ideal drivers on one account of the bounce lock, the journals of their
-//! steps, and the laws of both. Each law is the contract of a function that does nothing.
+//! The ideal world: all ideal drivers on one account of bounce pages, the journals of their steps, and the
+//! laws of both. Each law is the contract of a function with an empty body.
 #![tactic(auto)]
 
 mod laws;

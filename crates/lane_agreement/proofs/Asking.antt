@@ -1,4 +1,4 @@
--- Where a lane and an account agree, the condition of each call of the lane holds.
+-- If a driver and the account agree, the account allows each call that the driver's state allows.
 use Rattle.std.proofs.Common.{◌≡◌, ℕ, ◌≤◌, true, List, [], ◌∷◌, refl, ap, subst, arith, eqb, ◌==◌, Some, None, IsTrue}
 use Rattle.std.proofs.lemmas.Bool.{eq-eqb}
 use Rattle.busdma_machine.specs.declared.name.MapId.{MapId}
@@ -18,7 +18,7 @@ use Rattle.lane_agreement.specs.Agreement.{Agrees}
 use Rattle.lane_agreement.specs.After.{MayAsk, IsFront}
 use Rattle.lane_agreement.proofs.Own.{count-one, count-less}
 
--- what the account has of a name, where the lane's map there is known
+-- what the account has of a name, if the driver's map there is known
 pub known : (l : View) (a : Account) (m : MapId) (o : _) → Agrees l a → m.lane.0 ≡ l.id → l.map_at m.made_at ≡ o →
     Same (share_of m.made_at o (l.mem_at m.made_at) l.returns) (share m a)
 known l a m o agrees own here =

@@ -1,4 +1,4 @@
--- What is left falls where pages come as asked, and where one goes back.
+-- What is left falls if pages come as asked, and if a page goes back.
 use Rattle.std.proofs.Common.{◌≡◌, ℕ, ◌+◌, ◌≤◌, Bool, true, false, List, [], ◌∷◌, length, refl, sym, ap, ◌∙◌, arith}
 use Rattle.std.proofs.Common.{if◌then◌else◌, ◌==◌, Option, Some, None}
 use Rattle.std.proofs.lemmas.Bool.{eq-eqb}
@@ -68,7 +68,7 @@ bare-left items None b = refl
 bare-left items (Some m) true = refl
 bare-left items (Some m) false = refl
 
--- so does the return of a page
+-- the return of a page lowers what is left
 pub back-left : (l : View) (r : Return) (rs : List Return) (items : ℕ) → l.returns ≡ r ∷ rs →
     left_of_map items (given_back l (r ∷ rs)) r.map + 1 ≤ left_of_map items l r.map
 back-left l r rs items is =
@@ -76,7 +76,7 @@ back-left l r rs items is =
     rw (eq-eqb r.map r.map refl) (bare-left items (l.map_at r.map) (returning r.map rs == 0)) in
     omega (arith, here, ap length is)
 
--- lanes that are alike agree with the same accounts
+-- drivers that are alike agree with the same accounts
 pub agrees-like : (l k : View) (a : Account) → IsLike l k → Agrees l a → Agrees k a
 agrees-like l k a like agrees = record {
   apart = λ f e. agrees.apart f (sym (like.own_frame f) ∙ e);

@@ -1,4 +1,4 @@
--- Sound entries of other lanes keep the agreement.
+-- Sound entries of other drivers keep the agreement.
 use Rattle.std.proofs.Common.{◌≢◌, List, sym, ◌∙◌, arith, ◌==◌, All}
 use Rattle.busdma_machine.specs.declared.bounce.hold.HoldEntry.{HoldEntry}
 use Rattle.busdma_machine.specs.Bounce.Account.{Account}

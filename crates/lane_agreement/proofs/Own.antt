@@ -1,4 +1,4 @@
--- What a call makes of what the account has of the call's own name.
+-- How a call changes what the account has of the call's own name.
 use Rattle.std.proofs.Common.{◌≡◌, ◌≢◌, ℕ, suc, ◌+◌, ◌<◌, Bool, true, false, cond, not, ◌&&◌, List, [], ◌∷◌, ◌++◌, map}
 use Rattle.std.proofs.Common.{take, drop, length, refl, sym, ap, ◌∙◌, subst, arith, eqb, ne_eqb, if◌then◌else◌, ◌==◌}
 use Rattle.std.proofs.Common.{inl, inr}
@@ -32,7 +32,7 @@ pub count-one : {X : Type 0} (test : X → Bool) (x : X) (xs : List X) →
     count_by test (x ∷ xs) ≡ one_if (test x) + count_by test xs
 count-one test x xs = omega (arith, sum_by-cons (λ y. one_if (test y)) x xs)
 
--- a count of what a function made
+-- a count over a mapped list
 pub count-map : {X Y : Type 0} (test : X → Bool) (f : Y → X) (ys : List Y) →
     count_by test (map f ys) ≡ count_by (λ y. test (f y)) ys
 count-map test f [] = refl
@@ -48,7 +48,7 @@ pub count-all : {X : Type 0} (p : X → Bool) (xs : List X) → ((x : X) → p x
 count-all p [] all = refl
 count-all p (x ∷ xs) all = omega (arith, count-all p xs all, count-one p x xs, ap one_if (all x))
 
--- what a filter takes out
+-- a filter lowers a count by what it takes out
 pub count-less : {X : Type 0} (q p : X → Bool) (xs : List X) → ((x : X) → q x ≡ true → p x ≡ true) →
     count_by p (filter (λ x. not (q x)) xs) + count_by q xs ≡ count_by p xs
 count-less q p [] h = refl
@@ -100,7 +100,7 @@ module _ (a : Account) (n : MapId) (z need : ℕ) where
             ∙ ap (λ b. (q == p) && b) (and-true (z == y))),
       )
 
-  -- all else is as it was
+  -- what the account has of a name does not depend on the free pages of a zone
   pub handed-zones : Same (share n a) (share n
       (with_zone a z (record (zone_at a z) { avail = drop need (zone_at a z).avail })))
   handed-zones = name-with_zone n a z _ refl (λ test on. refl)
@@ -143,7 +143,7 @@ module _ (a : Account) (n : MapId) (z page : ℕ) (held : times_held n z page a 
       (with_zone a z (record (zone_at a z) { avail = page ∷ (zone_at a z).avail })))
   returned-zones = name-with_zone n a z _ refl (λ test on. refl)
 
--- a map waits: one waiter more
+-- a map waits: the zone has one more waiter
 module _ (a : Account) (n : MapId) (z need : ℕ) (inside : z < length a.zones) where
   abbrev pub joined : Waiter
   joined = record { map = n; zone = record { 0 = z }; need = need; have = free a z }
@@ -243,7 +243,7 @@ zone_of-inside t (z ∷ zs) =
       | false ↦ omega (arith, zone_of-inside t zs)
     ]
 
--- memories
+-- memories join and leave the account
 module _ (n : MapId) where
   none_of : (xs : List Memory) → count_by (λ (x : Memory). same_map n x.mem) xs ≡ 0 → frames_of n xs ≡ []
   none_of [] e = refl

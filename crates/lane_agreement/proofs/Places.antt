@@ -1,4 +1,4 @@
--- What a lane has of a place, after each change.
+-- What a driver has of a place, after each change.
 use Rattle.std.proofs.Common.{◌≡◌, ◌≢◌, ℕ, ◌+◌, ◌≤◌, ◌<◌, Bool, true, false, not, ◌&&◌, List, [], ◌∷◌, ◌++◌, take}
 use Rattle.std.proofs.Common.{length, refl, sym, ap, ◌∙◌, subst, arith, eqb, ne_eqb, if◌then◌else◌, ◌==◌, Option, Some}
 use Rattle.std.proofs.Common.{None, inl, inr}
@@ -32,7 +32,7 @@ and_first : (a b : Bool) → a ≡ false → (a && b) ≡ false
 and_first true b e = cc
 and_first false b e = refl
 
--- two return queues have the same of all places but one
+-- two return queues have the same of every place but this one
 pub record OtherReturns (k : ℕ) (rs qs : List Return) : Type 0 where
   pub count : (j : ℕ) → j ≢ k → returning j qs ≡ returning j rs
   pub pages : (j z p : ℕ) → j ≢ k → count_by (is_return j z p) qs ≡ count_by (is_return j z p) rs
@@ -65,7 +65,7 @@ apart_place lane m n own here off =
     λ e. (let same : same_map m n ≡ true =
     rw (eq-eqb m.lane.0 n.lane.0 (own ∙ sym here), eq-eqb m.made_at n.made_at e) refl in false≢true (sym off ∙ same))
 
--- one place changes, of lane and account
+-- the driver and the account change at one place
 pub names-changed : (l : View) (n : MapId) (o : Option OwnMap) (x : Option (List ℕ))
     (qs : List Return) (a b : Account) → n.lane.0 ≡ l.id
     → ((m : MapId) → same_map m n ≡ false → Same (share m a) (share m b)) → OtherReturns n.made_at l.returns qs
@@ -154,7 +154,7 @@ share-shorter k x rs w ws a is g = record {
 abbrev own : ℕ → Stage → OwnMap
 own z s = record { zone = z; stage = s }
 
--- a map that waits by the account waits by the lane
+-- a map that waits in the account's view waits in the driver's
 pub waits-tells : (o : Option OwnMap) (z need : ℕ) → 1 ≤ waits_for z need o →
     o ≡ Some (record { zone = z; stage = Waiting need })
 waits-tells None z need h = absurd (omega (arith, h))

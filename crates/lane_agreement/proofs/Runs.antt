@@ -50,7 +50,7 @@ none : (k : ℕ) (gs : List ℕ) → filter (in_run k 0) gs ≡ []
 none k [] = refl
 none k (g ∷ gs) = rw (none_in k g) (none k gs)
 
--- past its first frame a run is the run of the frames behind it
+-- after its first frame, a run is the run of the following frames
 behind : (k n j : ℕ) (gs : List ℕ) → k + 4096 ≤ j → Spaced j gs →
     filter (in_run k (suc n)) gs ≡ filter (in_run (k + 4096) n) gs
 behind k n j [] past all = refl
@@ -111,7 +111,7 @@ lowest-frames len boundary limit j first (g ∷ gs) all e =
           ∙ lowest-frames len boundary limit (g + 4096) first gs all.1 u)
     ]) refl e
 
--- a rising bank of whole frames
+-- the lowest run of a rising bank, whose frames begin at multiples of 4096
 pub lowest_run-frames : (len boundary limit first : ℕ) (bank : List ℕ) → IsRising bank →
     count_by (λ f. not (f % 4096 == 0)) bank ≡ 0 → lowest_run len boundary limit bank ≡ Some first
     → filter (in_run first (frames_for len)) bank ++ [] ≡ frames_from (frames_for len) first

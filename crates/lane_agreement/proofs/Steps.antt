@@ -1,4 +1,4 @@
--- After a call of the lane with the account's reply, the lane as the step leaves it agrees with the new account.
+-- After a driver's call with the account's reply, the driver that has followed the reply agrees with the new account.
 use Rattle.std.proofs.Common.{◌≡◌, ℕ, ◌≤◌, ◌<◌, Bool, true, false, not, ◌||◌, List, [], ◌∷◌, ◌++◌, take, length, refl}
 use Rattle.std.proofs.Common.{sym, ap, ◌∙◌, subst, arith, eqb, leb, if◌then◌else◌, ◌==◌, Option, Some, None}
 use Rattle.std.proofs.lemmas.Bool.{false≢true, eqb-true, eq-eqb}
@@ -93,7 +93,7 @@ agrees-changed l n o x qs a b agrees own s others returns same none straight = r
       ]) refl;
 }
 
--- no return of a place, and none with a wrong zone
+-- without a return of a place, none has a wrong zone
 straight_none : (k z : ℕ) (rs : List Return) → returning k rs ≡ 0 → count_by (is_astray k z) rs ≡ 0
 straight_none k z rs none =
     omega (arith, none, count-less (is_astray k z) (λ (r : Return). r.map == k) rs (λ r e. and_left (eqb r.map k) _ e))

@@ -1,4 +1,4 @@
--- All calls of a lane, and what its replies bring.
+-- All calls of a driver, and what its replies bring.
 use Rattle.std.proofs.Common.{◌≡◌, ℕ, ◌%◌, Bool, true, false, not, List, [], ◌∷◌, take, length, refl, sym, ap, ◌∙◌}
 use Rattle.std.proofs.Common.{subst, arith, eqb, leb, if◌then◌else◌, ◌==◌, Option, Some, None, All}
 use Rattle.std.proofs.lemmas.Bool.{eqb-true, eq-eqb, leb-true}
@@ -71,7 +71,7 @@ allocate l m len boundary limit (Some first) a fit agrees own here is s =
     agrees-with_memory l m first (frames_for len) _ a agrees own here
     (lowest_run-frames len boundary limit first a.bank fit.rising whole is) s
 
--- after an own call the lane as the reply leaves it agrees with the new account
+-- after its own call, the driver that has followed the reply agrees with the new account
 pub agrees-step : (fits : Bool) (l : View) (c : HubCall) (a : Account) → IsFit a → Agrees l a → MayAsk l c →
     Agrees (after fits l c (account_step l.id c a).reply) (account_step l.id c a).account
 agrees-step fits l c a fit agrees asks =
@@ -132,7 +132,7 @@ agrees-loaded l k z a agrees here =
     }) (λ h. agrees.returns k (rw here refl))
     (subst (λ o. count_by (is_astray k (zone_in o)) l.returns ≡ 0) here (agrees.zones k))
 
--- a fresh lane agrees with an opening that has none of its frames
+-- a fresh driver agrees with an opening that has none of its frames
 pub agrees-opening : (l : View) (a : Account) → IsFresh l → IsOpening a → l.maxmem ≡ a.maxmem →
     ((f : ℕ) → l.own_frame f ≡ true → times f a.bank ≡ 0) → Agrees l a
 agrees-opening l a fresh opening maxmem off = record {

@@ -1,4 +1,4 @@
--- When a lane and an account agree.
+-- When a driver and the account agree.
 use Rattle.std.specs.Prelude.{◌≡◌, ℕ, ◌%◌, ◌≤◌, true, false, not, ◌==◌}
 use Rattle.std.specs.List.{count_by}
 use Rattle.busdma_machine.specs.declared.name.MapId.{MapId}
@@ -10,10 +10,12 @@ use Rattle.lane_agreement.specs.View.{View, is_returning, returning, is_astray, 
 use Rattle.busdma_machine.specs.Bounce.Share.{Same, share}
 use Rattle.lane_agreement.specs.OwnShare.{own_share}
 
--- of each name of the lane the account has what the lane has of it
+-- the account has of each name of the driver what the driver has of it
 abbrev pub ShareNames : View → Account → Type 0
 ShareNames l a = (m : MapId) → m.lane.0 ≡ l.id → Same (own_share l m.made_at) (share m a)
 
+-- a driver and the account agree: the driver's own frames are nowhere in the account, each frame is there at most once,
+-- maxmem and all names are the same, and each page in the return queue is of a returning map and of the map's zone
 pub record Agrees (l : View) (a : Account) : Type 0 where
   pub apart : (f : ℕ) → l.own_frame f ≡ true → places f a ≡ 0
   pub one : (f : ℕ) → places f a ≤ 1
@@ -22,7 +24,7 @@ pub record Agrees (l : View) (a : Account) : Type 0 where
   pub returns : (k : ℕ) → is_returning (l.map_at k) ≡ false → returning k l.returns ≡ 0
   pub zones : (k : ℕ) → count_by (is_astray k (zone_in (l.map_at k))) l.returns ≡ 0
 
--- what holds of every account that a sound history of an opening leads to, whatever the lanes
+-- an account fits: what holds of each account that a sound history leads to from an opening, whatever the drivers
 pub record IsFit (a : Account) : Type 0 where
   pub well : IsWellFormed a
   pub rising : IsRising a.bank

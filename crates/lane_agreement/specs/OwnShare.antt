@@ -1,9 +1,10 @@
--- What a lane has of one name.
+-- What a driver has of one name, in numbers that can be compared with the account's.
 use Rattle.std.specs.Prelude.{ℕ, ◌+◌, Bool, ◌&&◌, List, [], length, Option, Some, None, ◌==◌, if◌then◌else◌}
 use Rattle.std.specs.List.{count_by}
 use Rattle.busdma_machine.specs.Bounce.Share.{Share}
 use Rattle.lane_agreement.specs.View.{View, OwnMap, Return, Stage, Idle, Waiting, Loaded, Returning, returning}
 
+-- 1 if this is so, and else 0
 abbrev pub one_if : Bool → ℕ
 one_if b = if b then 1 else 0
 
@@ -11,50 +12,60 @@ one_if b = if b then 1 else 0
 abbrev pub is_return : ℕ → ℕ → ℕ → Return → Bool
 is_return k z page r = (r.page == page) && ((r.zone == z) && (r.map == k))
 
--- what a map of a lane has by itself
+-- 1 if the map exists and is of this zone, and else 0
 abbrev pub zone_is : ℕ → Option OwnMap → ℕ
 zone_is z None = 0
 zone_is z (Some m) = one_if (m.zone == z)
 
+-- 1 if the map exists, and else 0
 abbrev pub some : Option OwnMap → ℕ
 some None = 0
 some (Some m) = 1
 
+-- the pages that a map at this stage holds
 abbrev pub pages_in : Stage → List ℕ
 pages_in s = (elim s [ Idle ↦ [] | Waiting n ↦ [] | Loaded ps ↦ ps | Returning ↦ [] ])
 
+-- how many pages the map holds, if it exists
 abbrev pub loaded : Option OwnMap → ℕ
 loaded None = 0
 loaded (Some m) = length (pages_in m.stage)
 
+-- how often the map, if it exists, holds this page of this zone
 abbrev pub loaded_page : ℕ → ℕ → Option OwnMap → ℕ
 loaded_page z page None = 0
 loaded_page z page (Some m) = count_by (λ p. (p == page) && (m.zone == z)) (pages_in m.stage)
 
+-- 1 if a map of the zone y, at this stage, waits for `need` pages of the zone z, and else 0
 abbrev pub waits_in : ℕ → ℕ → ℕ → Stage → ℕ
 waits_in y z need s =
     (elim s [ Idle ↦ 0 | Waiting n ↦ one_if ((n == need) && (y == z)) | Loaded ps ↦ 0 | Returning ↦ 0 ])
 
+-- 1 if the map exists and waits for so many pages of this zone, and else 0
 abbrev pub waits_for : ℕ → ℕ → Option OwnMap → ℕ
 waits_for z need None = 0
 waits_for z need (Some m) = waits_in m.zone z need m.stage
 
+-- 1 if a map at this stage waits for pages, and else 0
 abbrev pub listed_in : Stage → ℕ
 listed_in s = (elim s [ Idle ↦ 0 | Waiting n ↦ 1 | Loaded ps ↦ 0 | Returning ↦ 0 ])
 
+-- 1 if the map exists and waits for pages, and else 0
 abbrev pub listed : Option OwnMap → ℕ
 listed None = 0
 listed (Some m) = listed_in m.stage
 
+-- 1 if the memory exists, and else 0
 abbrev pub some_mem : Option (List ℕ) → ℕ
 some_mem None = 0
 some_mem (Some fs) = 1
 
+-- the frames of the memory, if it exists
 abbrev pub mem_frames : Option (List ℕ) → List ℕ
 mem_frames None = []
 mem_frames (Some fs) = fs
 
--- what a lane has of a place, by the map and the memory there and its return queue
+-- what a driver has of a place, by the map and the memory there and by its return queue
 abbrev pub share_of : ℕ → Option OwnMap → Option (List ℕ) → List Return → Share
 share_of k o m rs = record {
   made = λ z. zone_is z o;
@@ -67,5 +78,6 @@ share_of k o m rs = record {
   frames = mem_frames m;
 }
 
+-- what a driver has of one of its places
 abbrev pub own_share : View → ℕ → Share
 own_share l k = share_of k (l.map_at k) (l.mem_at k) l.returns

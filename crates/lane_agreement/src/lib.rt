@@ -1,5 +1,5 @@
-//! How what a driver has and what all drivers share agree, name by name, in numbers. Each law is the
-//! contract of a function that does nothing.
+//! How the state of one driver and the account that all drivers share agree, name by name, in numbers. Each
+//! law is the contract of a function with an empty body.
 #![tactic(auto)]
 
 ghost use Rattle.std.specs.Prelude.{◌≡◌, ◌≢◌, ◌+◌, ◌≤◌, ℕ, Bool, true, List, [], ◌∷◌, Option, Some, None, All, IsTrue};
@@ -21,20 +21,22 @@ ghost use Rattle.busdma_machine.specs.declared.bounce.hold.HubReply.{HubReply};
 ghost use Rattle.lane_agreement.specs.Agreement.{Agrees, IsFit};
 ghost use Rattle.lane_agreement.specs.After.{after, after_callback, MayAsk, IsFresh, IsLike, left_of_map, brought};
 
-/// A lane that has nothing agrees with an opening of the same maxmem that has none of its driver's frames.
+/// A driver that has made nothing agrees with an opening account of the same maxmem, if none of the driver's
+/// own frames is in the account's bank.
 pub fn opening_agrees()
     ensures { (l : View) (a : Account) → IsFresh l → IsOpening a → l.maxmem ≡ a.maxmem →
         ((f : ℕ) → l.own_frame f ≡ true → times f a.bank ≡ 0) → Agrees l a }
 {}
 
-/// Sound entries of other lanes keep the agreement with an account whose lists fit together.
+/// Sound history entries of other drivers keep a driver's agreement with the account. The account is well
+/// formed before them.
 pub fn agreement_stays()
     ensures { (l : View) (a : Account) (es : List HoldEntry) → IsWellFormed a → Agrees l a → IsSound a es →
         All (λ e. e.lane.0 ≢ l.id) es → Agrees l (account_of a es) }
 {}
 
-/// Over a door that serves the lane, what comes between keeps the agreement, and a call that the lane's own
-/// state allows leads to it.
+/// At a door that serves a driver, the calls of other drivers keep the agreement. So does a call that the
+/// driver's own state allows: the driver that has followed the reply agrees with the account after it.
 pub fn doors_keep_agreement()
     ensures passes { (l : View) (d : Seen) (others : List HoldEntry) (e : Seen) → Agrees l (account d) →
         IsTrue (d.serves l.id) → Passes d others e → Agrees l (account e) }
@@ -43,14 +45,14 @@ pub fn doors_keep_agreement()
         IsTrue (d.serves l.id) → Holds d l.id c r e → MayAsk l c → Agrees (after fits l c r) (account e) }
 {}
 
-/// A lane that agrees with the account may make each call that its own state allows.
+/// The account allows each call that a driver's own state allows, if the driver agrees with the account.
 pub fn agreement_allows()
     ensures { (l : View) (a : Account) (c : HubCall) → Agrees l a → MayAsk l c → MayCall l.id c a }
 {}
 
-/// Where a lane agrees with an account that fits, and makes a call that its own state allows, the lane that the
-/// account's reply makes of it agrees with the new account. A lane that unloads a map, or loads an idle one without a
-/// page, makes no call, and still agrees with the account.
+/// If a driver agrees with an account that fits, and makes a call that its own state allows, the driver that
+/// has followed the account's reply agrees with the account after the call. A driver that unloads a map, or
+/// loads an idle map without a page, makes no call and still agrees with the account.
 pub fn agreement_follows()
     ensures step { (fits : Bool) (l : View) (c : HubCall) (a : Account) → IsFit a → Agrees l a → MayAsk l c →
         Agrees (after fits l c (account_step l.id c a).reply) (account_step l.id c a).account }
@@ -65,7 +67,7 @@ pub fn history_fits()
     ensures { (a : Account) (es : List HoldEntry) → IsOpening a → IsSound a es → IsFit (account_of a es) }
 {}
 
-/// A load that gets pages, at its wish or with its callback, gets as many as it needs.
+/// A load that gets pages, at once or with its callback, gets as many as it needs.
 pub fn loads_get_their_need()
     ensures granted { (m : MapId) (z need : ℕ) (nowait : Bool) (a : Account) (pages : List Pa) →
         (grabbed m z need nowait a).reply ≡ Granted pages → length pages ≡ need }
@@ -75,7 +77,7 @@ pub fn loads_get_their_need()
         × (l.map_at m.made_at ≡ Some (record { zone = z; stage = Waiting need })) × (length pages ≡ need) }
 {}
 
-/// A callback lowers what is left of its map, and so does the return of a page.
+/// A callback lowers what is left to do for its map, and so does the return of a page.
 pub fn left_falls()
     ensures callback { (fits : Bool) (l : View) (a : Account) (m : MapId) (pages : List Pa) (items : ℕ) →
         IsWellFormed a → Agrees l a →
@@ -85,7 +87,7 @@ pub fn left_falls()
         left_of_map items (given_back l (r ∷ rs)) r.map + 1 ≤ left_of_map items l r.map }
 {}
 
-/// Lanes that are alike agree with the same accounts.
+/// Drivers that are alike agree with the same accounts.
 pub fn alike_lanes_agree()
     ensures { (l k : View) (a : Account) → IsLike l k → Agrees l a → Agrees k a }
 {}

@@ -1,6 +1,6 @@
 //! The commands of the program.
 
-/// A command of the program.
+/// A command of the program, with what its words give.
 #[derive(Clone, Copy, Debug, PartialEq, Eq)]
 pub enum Command {
     /// Reads a scenario, replays its order and writes the report.

@@ -1,5 +1,6 @@
-//! What the program writes and how it ends, as definitions: the text of a journal, storms and their summaries, the verdict on
-//! a text, the command line, and what a call of the program keeps. It has the types of which they speak, and no code.
+//! What the program writes and how it ends, as definitions: the text of a journal, storms and their
+//! summaries, the verdict on a text, the command line, and what a call of the program keeps. The crate has
+//! the types that these definitions are about, and no code.
 #![tactic(auto)]
 
 mod command;

@@ -1,5 +1,6 @@
-//! Which bytes are which scenario, or which refusal, as definitions: JSON values and their places, the fields of operations
-//! and items, scripts, scenarios. It has the types of which they speak, and no code.
+//! Which bytes are which scenario, or which refusal, as definitions: JSON values and their places, the fields
+//! of operations and items, scripts, and scenarios. The crate has the types that these definitions are about,
+//! and no code.
 #![tactic(auto)]
 
 mod bio_kind;

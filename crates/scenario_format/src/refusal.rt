@@ -9,7 +9,7 @@ pub enum LimitName {
     Frames,
     /// The number of a frame.
     FrameNumber,
-    /// The pages up to which a zone grows for further maps.
+    /// The number of pages up to which a zone grows for further maps.
     MaxBpages,
     /// The drivers.
     Drivers,
@@ -34,7 +34,7 @@ pub enum LimitName {
 pub enum RefusalKind {
     /// The bytes are no JSON value.
     NotJson,
-    /// A key is not known, a field is missing, or its value is none that it may have.
+    /// A key is not known, a field is missing, or its value is not allowed.
     BadField,
     /// A word of a set of flags is not known.
     BadFlag,
@@ -44,21 +44,25 @@ pub enum RefusalKind {
     Limit(LimitName),
     /// A frame is given twice.
     FrameTwice,
-    /// A page has a frame that the machine has not, or a bio one that the driver's pages have not.
+    /// A page has a frame that the machine does not have, or a bio has a frame that the driver's pages do not
+    /// have.
     FrameAbsent,
-    /// A name is used that no operation before made as a thing that can be used so.
+    /// A name is used that no earlier operation made, or made as a thing that cannot be used here.
     UnknownName,
-    /// The input of a check does not begin with the number of a scenario's bytes, or has fewer.
+    /// The input of a check does not begin with the number of a scenario's bytes, or has fewer bytes than
+    /// that.
     BadHeader,
 }
 
 /// The text of a path.
 pub type PathText = Text;
 
-/// The first thing that is wrong, and where it stands. The path is empty where the whole document
-/// is wrong.
+/// The first thing in a document that is wrong, and its place. The path is empty if the document itself is
+/// wrong.
 #[derive(Debug, Drop)]
 pub struct Refusal {
+    /// What is wrong.
     pub kind: RefusalKind,
+    /// The text of the place that is wrong.
     pub path: PathText,
 }

@@ -13,7 +13,7 @@ use Rattle.program_rules.specs.Verdicts.Verdict.{IsVerdict}
 use Rattle.program_rules.specs.declared.program_end.ProgramEnd.{ProgramEnd}
 use Rattle.program_rules.specs.Commands.Edges.{StreamEdges, ReadAll, WriteFailed, WroteAll, WrotePart}
 
--- the input has a header, and behind it a scenario, and this is the verdict on the text behind that
+-- the verdict on an input: it has a header, then a scenario, and this is the verdict on the text that follows
 pub record HasVerdict (input : List ℕ) (v : Verdict) : Type 0 where
   pub cut : Cut
   pub is_cut : cut_of input ≡ Some cut
@@ -27,23 +27,23 @@ abbrev pub verdict_line : Verdict → List ℕ
 verdict_line (Yes journal) = codes "yes\n"
 verdict_line (No number) = codes "no " ++ (decimal number ++ codes "\n")
 
--- its status
+-- the status of a verdict: 0 for yes, 1 for no
 abbrev pub verdict_status : Verdict → ℕ
 verdict_status (Yes journal) = 0
 verdict_status (No number) = 1
 
--- its journal
+-- the journal of a verdict, if it is yes
 abbrev pub verdict_journal : Verdict → Option Journal
 verdict_journal (Yes journal) = Some journal
 verdict_journal (No number) = None
 
--- all the bytes were read, and this is the verdict on them
+-- a check judged its input: all the bytes were read, and this is the verdict on them
 pub record Checked (e : StreamEdges) (v : Verdict) : Type 0 where
   pub bytes : List ℕ
   pub read : ReadAll bytes e
   pub judged : HasVerdict bytes v
 
--- its line was written whole, and the status and the journal are the verdict's
+-- a check wrote its verdict: the complete line was written, and the status and the journal are the verdict's
 pub record CheckedAndWrote (e : StreamEdges) (o : ProgramEnd) : Type 0 where
   pub verdict : Verdict
   pub checked : Checked e verdict
@@ -51,7 +51,7 @@ pub record CheckedAndWrote (e : StreamEdges) (o : ProgramEnd) : Type 0 where
   pub status : o.status ≡ verdict_status verdict
   pub journal : o.journal ≡ verdict_journal verdict
 
--- the sink failed, and a front of the line was written, and not the whole
+-- a check could not write its verdict: the sink failed after only a front of the line
 pub record CheckedUnwritten (e : StreamEdges) (o : ProgramEnd) : Type 0 where
   pub verdict : Verdict
   pub checked : Checked e verdict

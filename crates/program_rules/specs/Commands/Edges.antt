@@ -1,12 +1,12 @@
--- What a call did to its source and its sink. Where they do not tell their bytes, nothing is said
--- of bytes.
+-- What a call did to its source and its sink. If a source or a sink does not report its bytes, nothing is said about
+-- them.
 use Rattle.std.specs.Prelude.{◌≡◌, ℕ, ◌+◌, ◌≤◌, List, length, Option}
 use Rattle.std.specs.Io.KnownBytes.{Appends}
 use Rattle.io_edge.specs.Faults.{Rose}
 use Rattle.io_edge.specs.Reading.{Takes, TakesAtMost, TakesAll}
 use Rattle.io_edge.specs.Writing.{WritesPart}
 
--- how many bytes an input has at the most
+-- the greatest number of bytes that an input may have
 abbrev pub input_limit : ℕ
 input_limit = 16777216
 
@@ -61,23 +61,23 @@ pub record WroteNothing (e : StreamEdges) : Type 0 where
   pub bytes : e.held_after ≡ e.held
   pub faults : NoWriteFailed e
 
--- these bytes, which are not too many, were all that was left, and nothing is left
+-- these bytes were all that was left, and nothing is left now; they are not too many for an input
 pub record ReadAll (bytes : List ℕ) (e : StreamEdges) : Type 0 where
   pub all : TakesAll bytes e.left e.left_after
   pub short : length bytes ≤ input_limit
 
--- one byte too many was given
+-- one byte more than an input may have was taken from the source
 abbrev pub ReadTooMany : StreamEdges → Type 0
 ReadTooMany e = Takes (input_limit + 1) e.left e.left_after
 
--- at most one byte too many was taken
+-- at most one byte more than an input may have was taken from the source
 abbrev pub ReadAtMost : StreamEdges → Type 0
 ReadAtMost e = TakesAtMost (input_limit + 1) e.left e.left_after
 
--- the whole text was written
+-- the complete text was written
 abbrev pub WroteAll : List ℕ → StreamEdges → Type 0
 WroteAll text e = Appends e.held e.held_after text
 
--- a front of the text was written, and not the whole
+-- only a front of the text was written
 abbrev pub WrotePart : List ℕ → StreamEdges → Type 0
 WrotePart text e = WritesPart text e.held e.held_after

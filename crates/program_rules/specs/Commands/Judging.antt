@@ -14,11 +14,11 @@ use Rattle.program_rules.specs.declared.command.Command.TheVariants.{Replay, Run
 abbrev pub bad_header : Refusal
 bad_header = record { kind = BadHeader; path = [] }
 
--- the scenario behind the header of an input, or the first refusal: the header is judged before the scenario
+-- the scenario after the header of an input, or the first refusal; the header is judged before the scenario
 abbrev pub scenario_behind_header : List ℕ → Reading
 scenario_behind_header input = option_map_or (λ cut. scenario_of cut.scenario) (cut_of input) (Bad bad_header)
 
--- what a command judges the bytes of its input to be; a storm has none
+-- what a command judges the bytes of its input to be; a storm has no input
 abbrev pub command_reading : Command → List ℕ → Reading
 command_reading Replay input = scenario_of input
 command_reading Run input = scenario_of input

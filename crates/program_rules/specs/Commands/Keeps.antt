@@ -26,19 +26,18 @@ IsDoneStatus n = (n ≡ 0) ⊎ ((n ≡ 1) ⊎ (n ≡ 2))
 abbrev pub HasWritten : ℕ → Type 0
 HasWritten n = IsDoneStatus n ⊎ (n ≡ 73)
 
--- the statuses of outcomes with a journal
+-- the statuses with which the outcome of a command has a journal
 abbrev pub KeepsJournal : Command → ℕ → Type 0
 KeepsJournal Replay n = HasWritten n
 KeepsJournal Run n = HasWritten n
 KeepsJournal (Storm rounds seed) n = HasWritten n
 KeepsJournal Check n = n ≡ 0
 
--- every status
+-- the statuses of the program
 abbrev pub IsStatus : ℕ → Type 0
 IsStatus n = IsDoneStatus n ⊎ ((n ≡ 64) ⊎ ((n ≡ 65) ⊎ ((n ≡ 66) ⊎ ((n ≡ 71) ⊎ ((n ≡ 73) ⊎ (n ≡ 74))))))
 
--- The run of a command: its scenario is valid, and the journal of the outcome is one that the command
--- may make of it.
+-- a command ran: its scenario is valid, and the journal of the outcome is one that the command may make of the scenario
 pub record Ran (c : Command) (e : StreamEdges) (o : ProgramEnd) : Type 0 where
   pub scenario : Scenario
   pub journal : Journal
@@ -47,33 +46,33 @@ pub record Ran (c : Command) (e : StreamEdges) (o : ProgramEnd) : Type 0 where
   pub kept : o.journal ≡ Some journal
   pub made : IsMadeOf c scenario journal
 
--- its text was written whole, and the status is its journal's
+-- a command ran and wrote: its complete text was written, and the status is its journal's
 pub record RanAndWrote (c : Command) (e : StreamEdges) (o : ProgramEnd) : Type 0 where
   pub ran : Ran c e o
   pub wrote : WroteAll (text_of c ran.scenario ran.journal) e
   pub status : o.status ≡ status ran.journal
 
--- the sink failed, and a front of the text was written, and not the whole
+-- a command ran and could not write: the sink failed after only a front of the text
 pub record RanUnwritten (c : Command) (e : StreamEdges) (o : ProgramEnd) : Type 0 where
   pub ran : Ran c e o
   pub wrote : WrotePart (text_of c ran.scenario ran.journal) e
   pub cause : WriteFailed e
 
--- how a command ends that did its work and wrote
+-- how a command ends that did its work and wrote its text
 abbrev pub Done : Command → StreamEdges → ProgramEnd → Type 0
 Done Replay e o = RanAndWrote Replay e o
 Done Run e o = RanAndWrote Run e o
 Done (Storm n seed) e o = RanAndWrote (Storm n seed) e o
 Done Check e o = CheckedAndWrote e o
 
--- how a command ends that did its work and could not write
+-- how a command ends that did its work and could not write its text
 abbrev pub EndsUnwritten : Command → StreamEdges → ProgramEnd → Type 0
 EndsUnwritten Replay e o = RanUnwritten Replay e o
 EndsUnwritten Run e o = RanUnwritten Run e o
 EndsUnwritten (Storm n seed) e o = RanUnwritten (Storm n seed) e o
 EndsUnwritten Check e o = CheckedUnwritten e o
 
--- all the bytes were read, and they are refused, for the reason that the outcome has
+-- the input was refused: all the bytes were read, and the outcome has the reason
 pub record WasRefused (c : Command) (e : StreamEdges) (o : ProgramEnd) : Type 0 where
   pub bytes : List ℕ
   pub refusal : Refusal
@@ -81,17 +80,18 @@ pub record WasRefused (c : Command) (e : StreamEdges) (o : ProgramEnd) : Type 0 
   pub bad : command_reading c bytes ≡ Bad refusal
   pub kept : o.fault ≡ Some refusal
 
--- memory may run out at any time
+-- this holds, or memory ran out and the status is 71
 abbrev pub OrNoMemory : ProgramEnd → Type 0 → Type 0
 OrNoMemory o P = P ⊎ (o.status ≡ 71)
 
--- what comes of the bytes that were left
+-- the outcome that a reading gives: a scenario ends with a status of a run, and a refusal with 65 and the refusal
 abbrev pub AnswersReading : ProgramEnd → Reading → Type 0
 AnswersReading o (Good s) = IsDoneStatus o.status
 AnswersReading o (Bad r) = (o.status ≡ 65) × (o.fault ≡ Some r)
 
--- What comes of the bytes that were left, where there was memory: where neither source nor sink failed, the outcome
--- that they give; where the source did not fail, 66 for too many, and 65 with the refusal for bytes that are refused.
+-- The outcome for the bytes that were left, unless memory ran out. If neither source nor sink failed, it is the one
+-- that they give. If the source did not fail, too many bytes end with 66, and bytes that are refused with 65 and the
+-- refusal.
 pub record AnswersInput (c : Command) (e : StreamEdges) (o : ProgramEnd) : Type 0 where
   pub short : (input : List ℕ) → e.left ≡ Some input → length input ≤ input_limit
       → (ReadFailed e → ⊥) → (WriteFailed e → ⊥)
@@ -102,25 +102,25 @@ pub record AnswersInput (c : Command) (e : StreamEdges) (o : ProgramEnd) : Type 
       → command_reading c input ≡ Bad r → (ReadFailed e → ⊥)
       → OrNoMemory o ((o.status ≡ 65) × (o.fault ≡ Some r))
 
--- where nothing failed that the command calls, and there was memory, the outcome is that of the command
+-- the outcome is the command's own, if nothing that the command uses failed, and unless memory ran out
 abbrev pub IsComplete : Command → StreamEdges → ProgramEnd → Type 0
 IsComplete Replay e o = AnswersInput Replay e o
 IsComplete Run e o = AnswersInput Run e o
 IsComplete (Storm n seed) e o = (WriteFailed e → ⊥) → OrNoMemory o (IsDoneStatus o.status)
 IsComplete Check e o = AnswersInput Check e o
 
--- the statuses that no command has but one that reads
+-- the statuses that only a command that reads can have
 abbrev pub IsOfReading : ℕ → Type 0
 IsOfReading n = (n ≡ 65) ⊎ ((n ≡ 66) ⊎ (n ≡ 74))
 
--- more bytes were taken than an input may have
+-- more bytes were taken from the source than an input may have
 abbrev pub GaveTooMany : StreamEdges → Type 0
 GaveTooMany e =
     (input : List ℕ) × (rest : List ℕ) × (e.left ≡ Some input) × (e.left_after ≡ Some rest)
     × (length rest + input_limit < length input)
 
--- What a call of the program with these words keeps. Words are judged before reading, reading is
--- done before judging and judging before the work, and all memory is taken before the first write.
+-- What a call of the program with these words keeps. The words are judged before anything is read, reading is done
+-- before judging, judging before the work, and all memory is taken before the first write.
 pub record Keeps (words : List (List ℕ)) (e : StreamEdges) (o : ProgramEnd) : Type 0 where
   pub known : IsStatus o.status
   pub no_command : o.status ≡ 64 → command words ≡ None

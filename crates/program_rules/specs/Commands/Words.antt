@@ -6,20 +6,20 @@ use Rattle.std.specs.Str.Parse.{digits_value}
 use Rattle.program_rules.specs.declared.command.Command.{Command}
 use Rattle.program_rules.specs.declared.command.Command.TheVariants.{Replay, Run, Storm, Check}
 
--- the word has 1 to 20 decimal digits and nothing else
+-- a word has 1 to 20 decimal digits and nothing else
 abbrev pub is_numeral : List ℕ → Bool
 is_numeral word = nat_lt 0 (length word) && (nat_le (length word) 20 && all_ascii_digits word)
 
--- the word writes a number of 1 to `most`
+-- a word is a number from 1 to `most`
 abbrev pub writes_number : ℕ → List ℕ → Bool
 writes_number most word =
     is_numeral word && (nat_le 1 (digits_value 10 word) && nat_le (digits_value 10 word) most)
 
--- the number that the word writes, where it is 1 to `most`
+-- the number that a word is, if it is from 1 to `most`
 abbrev pub number : ℕ → List ℕ → Option ℕ
 number most word = if writes_number most word then Some (digits_value 10 word) else None
 
--- the storm of these rounds and this seed
+-- the storm of these rounds and this seed, if both are given
 abbrev pub storm_of : Option ℕ → Option ℕ → Option Command
 storm_of (Some n) (Some seed) = Some (Storm n seed)
 storm_of (Some n) None = None
@@ -29,7 +29,7 @@ storm_of None seed = None
 abbrev pub storm_command : List ℕ → List ℕ → Option Command
 storm_command n seed = storm_of (number 256 n) (number (2 ^ 64 - 1) seed)
 
--- the command of one word
+-- the command that one word asks for
 abbrev pub alone : List ℕ → Option Command
 alone word =
     if bytes_eq word (codes "replay") then Some Replay

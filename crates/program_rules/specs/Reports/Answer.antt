@@ -1,4 +1,4 @@
--- What a step answered, as a line of a report says it.
+-- How a line of a report says what a step answered.
 use Rattle.std.specs.Prelude.{ℕ, ◌/◌, ◌%◌, List, [], ◌∷◌, ◌++◌, true, false, codes, Bool}
 use Rattle.std.specs.List.{flat_map}
 use Rattle.std.specs.Fmt.{decimal, digit_glyph}
@@ -52,26 +52,26 @@ segment_text segment = codes " " ++ (hex segment.addr.0 ++ (codes "+" ++ decimal
 abbrev pub byte_text : ℕ → List ℕ
 byte_text byte = digit_glyph false (byte / 16) ∷ digit_glyph false (byte % 16) ∷ []
 
--- the digits of all bytes, after a space where there is a byte
+-- the digits of these bytes, after a space if there is a byte
 abbrev pub bytes_text : List ℕ → List ℕ
 bytes_text [] = []
 bytes_text (byte ∷ bytes) = codes " " ++ flat_map byte_text (byte ∷ bytes)
 
--- whether a tag or map was made
+-- the word for whether a tag or map was made
 abbrev pub made_text : Bool → List ℕ
 made_text true = codes "ok"
 made_text false = codes "ENOMEM"
 
--- what came to a zone
+-- what an answer says of a zone that grew: whether the tag or map was made, the zone, and how many pages came
 abbrev pub grown_text : Grown → List ℕ
 grown_text grown =
     made_text grown.made ++ (codes " zone" ++ (decimal grown.zone.0 ++ (codes " +" ++ decimal grown.added)))
 
--- a report: its name and its offset
+-- the text of a report: its name and its offset
 abbrev pub report_text : Report → List ℕ
 report_text report = codes "report " ++ (report_name report.name ++ (codes " " ++ decimal report.at))
 
--- an answer
+-- the text of an answer
 abbrev pub answer_text : Answer → List ℕ
 answer_text answer.Done = codes "ok"
 answer_text (answer.Grown grown) = grown_text grown

@@ -1,4 +1,4 @@
--- What a step did, as a line of a report says it.
+-- How a line of a report says what a step did.
 use Rattle.std.specs.Prelude.{ℕ, List, [], ◌++◌, codes, Option, Some, None, slice_get, unwrap_or}
 use Rattle.std.specs.Option.{option_map, option_map_or}
 use Rattle.program_rules.specs.Reports.Text.{hex}
@@ -13,11 +13,11 @@ use Rattle.busdma_base.specs.Scenarios.Operations.{Object, Makes, Uses, about, a
 use Rattle.busdma_base.specs.Scenarios.Operations.{object_of}
 use Rattle.busdma_base.specs.Scenarios.Words as word
 
--- the script of a driver; it is empty where there is no such driver
+-- the script of a driver; it is empty if there is no such driver
 abbrev pub script_of : Scenario → LaneId → List Op
 script_of scenario lane = option_map_or (λ driver. driver.script) (slice_get scenario.drivers lane.0) []
 
--- the name that an operation makes; it is empty where it makes none
+-- the name that an operation makes; it is empty if the operation makes none
 abbrev pub made_name : Op → List ℕ
 made_name o = unwrap_or (name_made_by o) []
 
@@ -34,16 +34,16 @@ abbrev pub object_name : List Op → Object → List ℕ
 object_name script (Makes made) = made.name
 object_name script (Uses used) = name_made_at script used.made_at
 
--- an object, after a space
+-- the text of an object, after a space, if there is one
 abbrev pub object_text : Option (List ℕ) → List ℕ
 object_text None = []
 object_text (Some name) = codes " " ++ name
 
--- an operation: its word and its object
+-- the text of an operation: its word and its object
 abbrev pub op_text : List Op → Op → List ℕ
 op_text script o = word.op_word_text (about o).word ++ object_text (option_map (object_name script) (object_of (about o)))
 
--- the resend of a send: its word and the object of the send
+-- the text of a resend: its word and the object of the send
 abbrev pub again_text : List Op → Op → List ℕ
 again_text script o = codes "resend" ++ object_text (option_map (object_name script) (object_of (about o)))
 
@@ -51,23 +51,23 @@ again_text script o = codes "resend" ++ object_text (option_map (object_name scr
 abbrev pub item_of_load : List Op → ℕ → ℕ → Option Item
 item_of_load script load_at place = option_map_or (λ op. slice_get (items_of op) place) (slice_get script load_at) None
 
--- an item: its word and the name that it uses
+-- the text of an item: its word and the name that it uses
 abbrev pub item_text : List Op → Item → List ℕ
 item_text script i = word.item_word_text (about_item i).word ++ (codes " " ++ name_made_at script (about_item i).uses.made_at)
 
--- the operation at this place of a script; it is empty where there is none
+-- the text of the operation at this place of a script; it is empty if there is none
 abbrev pub op_text_at : List Op → ℕ → List ℕ
 op_text_at script place = option_map_or (op_text script) (slice_get script place) []
 
--- the resend of the send at this place of a script; it is empty where there is none
+-- the text of the resend of the send at this place of a script; it is empty if there is none
 abbrev pub again_text_at : List Op → ℕ → List ℕ
 again_text_at script place = option_map_or (again_text script) (slice_get script place) []
 
--- the item at this place of the load or the kick at `load_at`; it is empty where there is none
+-- the text of the item at this place of the load or the kick at `load_at`; it is empty if there is none
 abbrev pub item_text_at : List Op → ℕ → ℕ → List ℕ
 item_text_at script load_at place = option_map_or (item_text script) (item_of_load script load_at place) []
 
--- what a step for the driver with this number did
+-- the text of what a step of the driver with this number did
 abbrev pub did_text : Scenario → LaneId → Did → List ℕ
 did_text scenario lane (did.Op place) = op_text_at (script_of scenario lane) place
 did_text scenario lane (did.Again place) = again_text_at (script_of scenario lane) place

@@ -21,7 +21,7 @@ side_letter Script = codes "s"
 side_letter Transfer = codes "d"
 side_letter Callback = codes "c"
 
--- an actor: its letter and the number of its driver
+-- the text of an actor: its letter and the number of its driver
 abbrev pub actor_text : Actor → List ℕ
 actor_text actor = side_letter actor.side ++ decimal actor.lane.0
 
@@ -36,7 +36,7 @@ entry_line scenario number entry =
 abbrev pub report_count : List JournalEntry → ℕ
 report_count entries = count_by (λ entry. is_report entry.answer) entries
 
--- how a run ended
+-- the word for how a run ended
 abbrev pub end_word : End → List ℕ
 end_word Finished = codes "finished"
 end_word Stuck = codes "stuck"
@@ -47,8 +47,7 @@ journal_end_line journal =
     codes "end " ++ (end_word journal.end ++ (codes ", " ++ (decimal (length journal.entries)
     ++ (codes " entries, " ++ (decimal (report_count journal.entries) ++ codes " reports\n")))))
 
--- the text of a run: a line for each entry, which are numbered from 0, the lines of the zones, and
--- the last line
+-- the text of a run: a line for each entry, numbered from 0, the lines of the zones, and the last line
 abbrev pub report : Scenario → Journal → List ℕ
 report scenario journal =
     numbered (entry_line scenario) 0 journal.entries ++ (zone_lines journal.zones ++ journal_end_line journal)

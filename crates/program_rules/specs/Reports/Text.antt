@@ -6,7 +6,7 @@ use Rattle.std.specs.Fmt.{digits}
 abbrev pub hex : ℕ → List ℕ
 hex n = codes "0x" ++ digits 16 false n
 
--- the texts of some things, one after the other, where the first is numbered n
+-- the texts of these things, one after the other; the first is numbered n
 abbrev pub numbered : {A : Type 0} → (ℕ → A → List ℕ) → ℕ → List A → List ℕ
 numbered text n [] = []
 numbered text n (x ∷ xs) = text n x ++ numbered text (n + 1) xs

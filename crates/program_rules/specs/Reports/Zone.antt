@@ -1,4 +1,4 @@
--- The lines of a bounce zone, as the sysctl values under `hw.busdma` of the x86 bounce code.
+-- The lines of a bounce zone. After the sysctl values under `hw.busdma` of the x86 bounce code.
 use Rattle.std.specs.Prelude.{ℕ, List, ◌++◌, codes}
 use Rattle.std.specs.Fmt.{decimal}
 use Rattle.program_rules.specs.Reports.Text.{hex, numbered}

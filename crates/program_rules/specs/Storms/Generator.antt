@@ -14,7 +14,7 @@ mixed_right by x = bit_xor x (x / 2 ^ by)
 unfoldable pub next : ℕ → ℕ
 next x = mixed_left 17 (mixed_right 7 (mixed_left 13 x))
 
--- the number that is drawn last of k, and the seed where none is drawn
+-- the last of k drawn numbers, or the seed if none is drawn
 abbrev pub drawn : ℕ → ℕ → ℕ
 drawn zero seed = seed
 drawn (suc k) seed = next (drawn k seed)

@@ -16,7 +16,7 @@ use Rattle.program_rules.specs.Storms.Transfer.{round}
 abbrev pub round_after : ℕ → List Op
 round_after x = round (next x) (next (next x))
 
--- the operations of the round with this number, where each of those before it draws two numbers after x
+-- the operations of the round with this number; each round before it draws two numbers after x
 abbrev pub round_at : ℕ → ℕ → List Op
 round_at x number = round_after (drawn (2 * number) x)
 
@@ -53,11 +53,11 @@ driver_after number n x = record { pages = pages number; script = storm_setup ++
 abbrev pub driver : ℕ → ℕ → ℕ → Driver
 driver n seed number = driver_after number n (drawn (2 * n * number) seed)
 
--- the machine: 32 frames that a device reaches, and 64 that none reaches
+-- the frames of the machine: 32 that a device reaches, and 64 that none reaches
 abbrev pub frames : List FrameRun
 frames = record { first = 16; count = 32 } ∷ record { first = 4096; count = 64 } ∷ []
 
--- a storm of n rounds of each of four drivers, with a seed
+-- the storm of n rounds of each of four drivers, with a seed
 abbrev pub storm_scenario : ℕ → ℕ → Scenario
 storm_scenario n seed = record {
   frames = frames;

@@ -9,22 +9,22 @@ use Rattle.program_rules.specs.Reports.Report.{end_word, report_count}
 abbrev pub deferred : List ZoneCounts → ℕ
 deferred zones = sum_by (λ zone. zone.deferred) zones
 
--- a word and a number, on a line of their own
+-- the line of a word and a number
 abbrev pub count_line : List ℕ → ℕ → List ℕ
 count_line word number = word ++ (codes " " ++ (decimal number ++ codes "\n"))
 
--- the rounds of a driver and the seed, as the command has them
+-- the line of a storm's command: the rounds of each driver, and the seed
 abbrev pub storm_line : ℕ → ℕ → List ℕ
 storm_line n seed = codes "storm " ++ (decimal n ++ (codes " " ++ (decimal seed ++ codes "\n")))
 
--- how many entries there are, how many answers are reports, and how many loads were deferred
+-- the lines of how many entries there are, how many answers are reports, and how many loads were deferred
 abbrev pub count_lines : Journal → List ℕ
 count_lines journal =
     count_line (codes "entries") (length journal.entries)
     ++ (count_line (codes "reports") (report_count journal.entries)
     ++ count_line (codes "deferred") (deferred journal.zones))
 
--- how the run ended
+-- the line of how the run ended
 abbrev pub storm_end_line : Journal → List ℕ
 storm_end_line journal = codes "end " ++ (end_word journal.end ++ codes "\n")
 

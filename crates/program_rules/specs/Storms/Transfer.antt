@@ -26,7 +26,7 @@ storm_transfer p q = record {
   byte = q / 2 % 256;
 }
 
--- the load of a transfer, with the device's work on it between the sync before it and the one after it
+-- the load of a transfer; its items are the device's work, with one sync before it and one after it
 abbrev pub load_with : Transfer → ℕ → Item → ℕ → Op
 load_with t before work after =
     op.Load t.map (Flat (At t.va) t.len) 0 (item.Sync t.map before ∷ work ∷ item.Sync t.map after ∷ [])

@@ -7,11 +7,11 @@ use Rattle.program_rules.specs.Reports.Report.{entry_line, journal_end_line}
 use Rattle.program_rules.specs.Reports.Zone.{zone_lines}
 use Rattle.program_rules.specs.Verdicts.Lines.{lines}
 
--- the line of each entry, the first of which has the number n
+-- the lines of these entries; the first has the number n
 abbrev pub entry_lines : Scenario → ℕ → List JournalEntry → List (List ℕ)
 entry_lines s n [] = []
 entry_lines s n (e ∷ es) = entry_line s n e ∷ entry_lines s (n + 1) es
 
--- the lines behind those of the entries: of the zones, and the last line
+-- the lines that follow the entries: the lines of the zones, and the last line
 abbrev pub closing_lines : Journal → List (List ℕ)
 closing_lines j = lines (zone_lines j.zones ++ journal_end_line j)

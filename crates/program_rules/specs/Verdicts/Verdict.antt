@@ -12,7 +12,8 @@ use Rattle.ideal_world.specs.World.{WorldState, opening_world, step_entry}
 use Rattle.program_rules.specs.declared.verdict.Verdict.{Verdict}
 use Rattle.program_rules.specs.declared.verdict.Verdict.TheVariants.{Yes, No}
 
--- the first lines of a text are those of entries that lead from the opening world to this one, and these are left
+-- a text follows a run: its first lines are the lines of entries that lead from the opening world to this world; the
+-- other lines are left
 pub record FollowsText (s : Scenario) (text : List ℕ) : Type 0 where
   pub entries : List JournalEntry
   pub world : WorldState
@@ -28,30 +29,33 @@ journal_at w entries = journal_of (record { world = w; entries = entries })
 abbrev pub CanGoOn : WorldState → Type 0
 CanGoOn w = (e : JournalEntry) × (step_entry w e.actor ≡ Some e)
 
--- a line is that of the step of an actor that can step, under this number
+-- a line is the next: an actor can step, and this is the line of its step, under this number
 abbrev pub IsNextLine : Scenario → ℕ → WorldState → List ℕ → Type 0
 IsNextLine s n w line = (e : JournalEntry) × (step_entry w e.actor ≡ Some e) × (line ≡ entry_line s n e)
 
--- the next line is not that of a step, or there is none
+-- the next line is wrong: it is the line of no step, or there is none
 abbrev pub IsWrong : Scenario → ℕ → WorldState → List (List ℕ) → Type 0
 IsWrong s n w [] = Unit {0}
 IsWrong s n w (line ∷ rest) = IsNextLine s n w line → ⊥
 
--- no actor can step, and what is left are the lines of the zones and the last line
+-- a text is the complete report of this journal: its entries' lines lead to a world in which no actor can step, and
+-- what is left are the lines of the zones and the last line
 pub record IsWhole (s : Scenario) (text : List ℕ) (j : Journal) : Type 0 where
   pub right : FollowsText s text
   pub still : IsAtRest right.world
   pub journal : j ≡ journal_at right.world right.entries
   pub closing : right.rest ≡ closing_lines j
 
--- an actor can step, and the line with this number, from 1, is not that of a step
+-- a text goes wrong within the run: an actor can step, and the line with this number, counted from 1, is the line of no
+-- step
 pub record StopsWithin (s : Scenario) (text : List ℕ) (number : ℕ) : Type 0 where
   pub right : FollowsText s text
   pub goes_on : CanGoOn right.world
   pub wrong : IsWrong s (length right.entries) right.world right.rest
   pub place : number ≡ length right.entries + 1
 
--- no actor can step, and this is the first line that is not one of the zones or the last line
+-- a text goes wrong at the end: no actor can step, and the line with this number is the first that differs from the
+-- lines of the zones and the last line, or is missing
 pub record StopsAtEnd (s : Scenario) (text : List ℕ) (number : ℕ) : Type 0 where
   pub right : FollowsText s text
   pub still : IsAtRest right.world

@@ -8,7 +8,7 @@ use Rattle.scenario_format.specs.Json.Place.{DocumentPlace, key, item}
 use Rattle.scenario_format.specs.Json.Read.{Read, ◌>>=◌, refuse}
 use Rattle.scenario_format.specs.declared.refusal.RefusalKind.TheVariants.{BadField}
 
--- a value, and where it stands
+-- a value of a document, with its place
 pub record Spot : Type 0 where
   pub place : DocumentPlace
   pub value : Data
@@ -17,11 +17,11 @@ pub record Spot : Type 0 where
 abbrev pub field : List ℕ → Spot → Option Spot
 field name here = option_map (λ d. record { place = key here.place name; value = d }) (get name here.value)
 
--- an item of the list that stands here
+-- an item of the list at this place
 abbrev pub item_of : Spot → ℕ → Data → Spot
 item_of here n d = record { place = item here.place n; value = d }
 
--- the field, which has to be there
+-- the field that was looked up; a missing one is refused
 abbrev pub found_or : DocumentPlace → Option Spot → Read Spot
 found_or place None = refuse BadField place
 found_or place (Some spot) = Ok spot
@@ -30,7 +30,7 @@ found_or place (Some spot) = Ok spot
 unfoldable pub required : List ℕ → Spot → Read Spot
 required name here = found_or (key here.place name) (field name here)
 
--- the members, which have to be there
+-- the members, or a refusal if the value is no object
 abbrev pub object_or : DocumentPlace → Option Members → Read Members
 object_or place None = refuse BadField place
 object_or place (Some ms) = Ok ms
@@ -39,7 +39,7 @@ object_or place (Some ms) = Ok ms
 abbrev pub members_of : Spot → Read Members
 members_of here = object_or here.place (as_object here.value)
 
--- the name is one of these
+-- a name is one of these
 abbrev pub one_of : List (List ℕ) → List ℕ → Bool
 one_of table name = list_any (λ k. bytes_eq k name) table
 
@@ -48,7 +48,7 @@ abbrev pub unknown_key : (List ℕ → Bool) → Members → Option (List ℕ)
 unknown_key known no_members = None
 unknown_key known (member name d more) = if known name then unknown_key known more else Some name
 
--- an unknown key is refused with its place
+-- an unknown key, if there is one, is refused with its place
 abbrev pub no_key_beside : DocumentPlace → Option (List ℕ) → Read ⊤
 no_key_beside place None = Ok tt
 no_key_beside place (Some name) = refuse BadField (key place name)

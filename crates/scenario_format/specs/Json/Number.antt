@@ -1,4 +1,4 @@
--- Numbers: whole ones below 2^64, or a text of hexadecimal digits behind `0x`.
+-- Numbers: integers below 2^64, or texts of hexadecimal digits after `0x`.
 use Rattle.std.specs.Prelude.{ℕ, ◌+◌, ◌*◌, ◌-◌, ◌==◌, ◌&&◌, List, [], ◌∷◌, length, drop, Option, Some, None}
 use Rattle.std.specs.Prelude.{option_and_then, Ok, if◌then◌else◌, nat_le, slice_index}
 use Rattle.serde_json.specs.Data.{Data, null, boolean, number, string, array, object}
@@ -8,7 +8,7 @@ use Rattle.scenario_format.specs.Json.Read.{Read, ◌>>=◌, refuse}
 use Rattle.scenario_format.specs.Json.Field.{Spot, field, required}
 use Rattle.scenario_format.specs.declared.refusal.RefusalKind.TheVariants.{BadField}
 
--- the value of that kind, or else the field is bad
+-- the value, if it is of the right kind; otherwise the field is bad
 abbrev pub of_kind : {A : Type 0} → DocumentPlace → Option A → Read A
 of_kind place None = refuse BadField place
 of_kind place (Some x) = Ok x
@@ -21,18 +21,19 @@ hex_digit b =
     else (if nat_le 97 b && nat_le b 102 then Some (b - 87)
     else None))
 
--- the number that the digits go on to, behind those whose value is high
+-- the number whose first hexadecimal digits have the value `high`, and whose other digits are these
 abbrev pub hex_after : ℕ → List ℕ → Option ℕ
 hex_after high [] = Some high
 hex_after high (b ∷ bs) = option_and_then (λ d. hex_after (16 * high + d) bs) (hex_digit b)
 
--- `0x` and 1 to 16 digits
+-- the number of a text that is `0x` and 1 to 16 hexadecimal digits
 abbrev pub hex_number : List ℕ → Option ℕ
 hex_number s =
     if (slice_index s 0 == 48) && (slice_index s 1 == 120) && nat_le 3 (length s) && nat_le (length s) 18
     then hex_after 0 (drop 2 s) else None
 
--- the number that a value stands for; one with a sign, a fraction or an exponent is negative or a float to JSON
+-- the number that a value is: an integer below 2^64, or a text of hexadecimal digits after `0x`. JSON takes one with a
+-- sign, a fraction or an exponent as negative or as a float.
 abbrev pub number_in : Data → Option ℕ
 number_in null = None
 number_in (boolean b) = None
@@ -41,19 +42,19 @@ number_in (string s) = hex_number s
 number_in (array ds) = None
 number_in (object ms) = None
 
--- a number
+-- the number at this place
 unfoldable pub read_number : Spot → Read ℕ
 read_number here = of_kind here.place (number_in here.value)
 
--- a number at a key, which has to be there
+-- the number at a key; a missing one is refused
 unfoldable pub number_field : List ℕ → Spot → Read ℕ
 number_field name here = required name here >>= read_number
 
--- a number, or its default where there is none
+-- the number of a field, or the default if there is no field
 abbrev pub or_default : ℕ → Option Spot → Read ℕ
 or_default n None = Ok n
 or_default n (Some spot) = read_number spot
 
--- a number at a key, or its default
+-- the number at a key, or the default if there is none
 unfoldable pub number_or : List ℕ → ℕ → Spot → Read ℕ
 number_or name n here = or_default n (field name here)

@@ -22,7 +22,7 @@ limit_text limit.Reads = codes "reads"
 limit_text limit.Buffer = codes "buffer"
 limit_text limit.Loaded = codes "loaded"
 
--- the kind's name, for a limit with the limit's name in round brackets
+-- the name of a refusal's kind; for a limit it is followed by the limit's name in round brackets
 abbrev pub kind_text : RefusalKind → List ℕ
 kind_text NotJson = codes "NotJson"
 kind_text BadField = codes "BadField"
@@ -34,11 +34,11 @@ kind_text FrameAbsent = codes "FrameAbsent"
 kind_text UnknownName = codes "UnknownName"
 kind_text BadHeader = codes "BadHeader"
 
--- a space and the path, where there is one
+-- a space and the path, if the path is not empty
 abbrev pub behind_space : List ℕ → List ℕ
 behind_space [] = []
 behind_space (b ∷ bs) = codes " " ++ b ∷ bs
 
--- the kind, and the path where it is not empty
+-- the text of a refusal: its kind, and its path if that is not empty
 abbrev pub refusal_text : Refusal → List ℕ
 refusal_text r = kind_text r.kind ++ behind_space r.path

@@ -1,4 +1,4 @@
--- Bios, of three kinds: one run of virtual bytes, spans, or frames of the driver's pages.
+-- Bios, of three kinds: one range of virtual bytes, spans, or frames of the driver's pages.
 use Rattle.std.specs.Prelude.{ℕ, List, [], ◌∷◌, Option, Some, None, Ok, if◌then◌else◌, nat_lt, codes}
 use Rattle.std.specs.Str.{bytes_eq}
 use Rattle.busdma_machine.specs.declared.machine.bio.Bio.{Bio}
@@ -28,19 +28,19 @@ read_bio_frame pages here = read_number here >>= own_or pages here.place
 unfoldable pub read_bio_frames : List PageRun → Spot → Read (List ℕ)
 read_bio_frames pages here = read_entries here >>= each (λ _. read_bio_frame pages) here []
 
--- the list in `frames`, which has to be there
+-- the list in `frames`; a missing one is refused
 unfoldable pub read_bio_frames_field : List PageRun → Spot → Read (List ℕ)
 read_bio_frames_field pages here = required (codes "frames") here >>= read_bio_frames pages
 
--- an offset in a frame
+-- an offset below 4096, the bytes of a frame
 abbrev pub off_or : DocumentPlace → ℕ → Read ℕ
 off_or place n = if nat_lt n 4096 then Ok n else refuse BadField place
 
--- where in its first frame a bio begins
+-- the offset in its first frame at which a bio begins
 unfoldable pub read_off : Spot → Read ℕ
 read_off here = number_field (codes "off") here >>= off_or (key here.place (codes "off"))
 
--- the kind that a word stands for
+-- the kind of bio that a word names
 abbrev pub kind_of : List ℕ → Option BioKind
 kind_of word =
     if bytes_eq word (codes "mapped") then Some kind.Mapped
@@ -48,7 +48,7 @@ kind_of word =
     else (if bytes_eq word (codes "unmapped") then Some kind.Unmapped
     else None))
 
--- another word is refused
+-- a kind of bio; a word that names none is refused
 abbrev pub known_kind : DocumentPlace → Option BioKind → Read BioKind
 known_kind place None = refuse BadField place
 known_kind place (Some k) = Ok k
@@ -58,7 +58,7 @@ unfoldable pub read_bio_kind : Spot → Read BioKind
 read_bio_kind here =
     required (codes "kind") here >>= read_text >>= (λ word. known_kind (key here.place (codes "kind")) (kind_of word))
 
--- a bio of one run of virtual bytes
+-- a bio of one range of virtual bytes
 unfoldable pub read_mapped : Spot → Read Bio
 read_mapped here =
     only_keys (one_of (codes "kind" ∷ codes "va" ∷ codes "len" ∷ [])) here >>= (λ _.
@@ -81,7 +81,7 @@ read_unmapped pages here =
     number_field (codes "len") here >>= (λ n.
     Ok (bio.Unmapped frames off n)))))
 
--- the bio of a kind
+-- the bio of this kind
 abbrev pub bio_by : BioKind → List PageRun → Spot → Read Bio
 bio_by kind.Mapped pages here = read_mapped here
 bio_by kind.Vector pages here = read_vector here
@@ -91,6 +91,6 @@ bio_by kind.Unmapped pages here = read_unmapped pages here
 unfoldable pub read_bio : List PageRun → Spot → Read Bio
 read_bio pages here = members_of here >>= (λ _. read_bio_kind here >>= (λ k. bio_by k pages here))
 
--- the bio in `bio`, which has to be there
+-- the bio in `bio`; a missing one is refused
 unfoldable pub bio_field : List PageRun → Spot → Read Bio
 bio_field pages here = required (codes "bio") here >>= read_bio pages

@@ -16,11 +16,11 @@ use Rattle.scenario_format.specs.declared.refusal.RefusalKind.TheVariants.{BadFl
 use Rattle.scenario_format.specs.declared.flag_set.FlagSet.{FlagSet}
 use Rattle.scenario_format.specs.declared.flag_set.FlagSet.TheVariants as set
 
--- WAITOK adds no bit
+-- the bits of a word, or no bit for WAITOK
 abbrev pub waitok_or : Option ℕ → List ℕ → Option ℕ
 waitok_or bits word = if bytes_eq word (codes "WAITOK") then Some 0 else bits
 
--- the bits of a word of the set
+-- the bits of a word of this set of flags
 abbrev pub word_bits : FlagSet → List ℕ → Option ℕ
 word_bits set.Tag word = waitok_or (find_name tag_table word) word
 word_bits set.Load word = waitok_or (find_name load_table word) word
@@ -32,11 +32,12 @@ abbrev pub bits_or : DocumentPlace → Option ℕ → Read ℕ
 bits_or place None = refuse BadFlag place
 bits_or place (Some bits) = Ok bits
 
--- the bits of the word that stands here
+-- the bits of the word at this place
 unfoldable pub read_flag : FlagSet → Spot → Read ℕ
 read_flag kind here = read_text here >>= (λ word. bits_or here.place (word_bits kind word))
 
--- the words from the n-th on add their bits, in any order and as often as they like
+-- the bits of these words, the first of which is the n-th of the list, together with `bits`; the words may come in any
+-- order and more than once
 abbrev pub flags_from : FlagSet → Spot → ℕ → ℕ → List Data → Read ℕ
 flags_from kind here n bits [] = Ok bits
 flags_from kind here n bits (d ∷ ds) =
@@ -46,7 +47,7 @@ flags_from kind here n bits (d ∷ ds) =
 unfoldable pub read_flags : FlagSet → Spot → Read ℕ
 read_flags kind here = read_items here >>= flags_from kind here 0 0
 
--- no bits where there is no list
+-- the bits of the words of a list, or none if there is no list
 abbrev pub flags_or_none : FlagSet → Option Spot → Read ℕ
 flags_or_none kind None = Ok 0
 flags_or_none kind (Some spot) = read_flags kind spot

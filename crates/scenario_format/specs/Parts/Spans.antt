@@ -1,4 +1,4 @@
--- The lists of loads: spans, of which a vector and an mbuf chain have some.
+-- The lists of loads: the spans of a vector or an mbuf chain.
 use Rattle.std.specs.Prelude.{List, [], ◌∷◌, length, Ok, if◌then◌else◌, nat_lt, codes}
 use Rattle.serde_json.specs.Data.{Data}
 use Rattle.busdma_machine.specs.declared.machine.address.Span.{Span}
@@ -11,7 +11,7 @@ use Rattle.scenario_format.specs.Json.Items.{read_items, each}
 use Rattle.scenario_format.specs.declared.refusal.RefusalKind.TheVariants.{Limit}
 use Rattle.scenario_format.specs.declared.refusal.LimitName.TheVariants.{Entries}
 
--- the elements of a load's list are counted before the first of them is read
+-- the elements of a load's list, if they are within the limit; they are counted before the first of them is read
 abbrev pub entries_judged : DocumentPlace → List Data → Read (List Data)
 entries_judged place ds = if nat_lt entries_limit (length ds) then refuse (Limit Entries) place else Ok ds
 
@@ -19,7 +19,7 @@ entries_judged place ds = if nat_lt entries_limit (length ds) then refuse (Limit
 unfoldable pub read_entries : Spot → Read (List Data)
 read_entries here = read_items here >>= entries_judged here.place
 
--- `len` bytes from `va` on
+-- the span of `len` bytes from `va` on
 unfoldable pub read_span_fields : Spot → Read Span
 read_span_fields here =
     number_field (codes "va") here >>= (λ va.
@@ -34,6 +34,6 @@ read_span here = only_keys (one_of (codes "va" ∷ codes "len" ∷ [])) here >>=
 unfoldable pub read_spans : Spot → Read (List Span)
 read_spans here = read_entries here >>= each (λ _. read_span) here []
 
--- the list in `entries`, which has to be there
+-- the list in `entries`; a missing one is refused
 unfoldable pub entries_field : Spot → Read (List Span)
 entries_field here = required (codes "entries") here >>= read_spans

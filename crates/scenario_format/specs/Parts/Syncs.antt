@@ -10,7 +10,7 @@ use Rattle.scenario_format.specs.declared.sync_fields.SyncFields.{SyncFields}
 use Rattle.scenario_format.specs.Parts.Flags.{ops_field}
 use Rattle.scenario_format.specs.Parts.Names.{used_name}
 
--- a sync of the whole load
+-- a sync of all bytes of a map's load
 unfoldable pub read_sync_fields : List Op → Spot → Read SyncFields
 read_sync_fields before here =
     only_keys (one_of (codes "op" ∷ codes "map" ∷ codes "ops" ∷ [])) here >>= (λ _.
@@ -18,7 +18,7 @@ read_sync_fields before here =
     ops_field here >>= (λ ops.
     Ok (record { map = map; ops = ops }))))
 
--- a sync of a range of the load
+-- a sync of a range of a map's load
 unfoldable pub read_range_fields : List Op → Spot → Read RangeFields
 read_range_fields before here =
     only_keys (one_of (codes "op" ∷ codes "map" ∷ codes "off" ∷ codes "len" ∷ codes "ops" ∷ [])) here >>= (λ _.

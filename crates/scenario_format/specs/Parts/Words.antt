@@ -9,7 +9,7 @@ use Rattle.scenario_format.specs.declared.refusal.RefusalKind.TheVariants.{BadOp
 use Rattle.busdma_base.specs.declared.scenarios.words.OpWord.{OpWord}
 use Rattle.busdma_base.specs.declared.scenarios.words.ItemWord.{ItemWord}
 
--- a word that is not known, or not allowed here, is refused
+-- a word; one that is not known, or not allowed here, is refused
 abbrev pub known_word : {W : Type 0} → DocumentPlace → Option W → Read W
 known_word place None = refuse BadOp place
 known_word place (Some w) = Ok w

@@ -17,16 +17,17 @@ use Rattle.scenario_format.specs.Parts.Counts.{counts_after_drivers}
 use Rattle.scenario_format.specs.Scenarios.Pages.{read_pages}
 use Rattle.scenario_format.specs.Scripts.Script.{read_script}
 
--- no pages where there is no list
+-- the pages of a list, or none if there is no list
 abbrev pub pages_or_none : List FrameRun → List Driver → Option Spot → Read (List PageRun)
 pages_or_none frames earlier None = Ok []
 pages_or_none frames earlier (Some spot) = read_pages frames earlier spot
 
--- the script of a driver, which has to be there
+-- the script of a driver; a missing one is refused
 unfoldable pub script_field : List PageRun → Counts → Spot → Read (List Op)
 script_field pages c here = required (codes "script") here >>= read_script pages c
 
--- a driver: its pages, and its script, whose bios are of these pages, counted behind those of the drivers before it
+-- a driver: its pages, and its script. The script's bios are of these pages, and its bytes are counted after those of
+-- the drivers before it.
 unfoldable pub read_driver : List FrameRun → List Driver → Spot → Read Driver
 read_driver frames earlier here =
     only_keys (one_of (codes "pages" ∷ codes "script" ∷ [])) here >>= (λ _.
@@ -34,7 +35,7 @@ read_driver frames earlier here =
     script_field pages (counts_after_drivers earlier) here >>= (λ script.
     Ok (record { pages = pages; script = script }))))
 
--- the drivers are counted before the first of them is read
+-- the drivers of a list, if they are within the limit; they are counted before the first of them is read
 abbrev pub drivers_judged : DocumentPlace → List Data → Read (List Data)
 drivers_judged place ds = if nat_lt drivers_limit (length ds) then refuse (Limit Drivers) place else Ok ds
 

@@ -15,7 +15,7 @@ use Rattle.scenario_format.specs.declared.refusal.RefusalKind.TheVariants.{Limit
 use Rattle.scenario_format.specs.declared.refusal.LimitName.TheVariants as limit
 use Rattle.busdma_base.specs.Scenarios.Limits.{order_limit}
 
--- `s`, `d` or `c`
+-- the side that a letter names: `s`, `d` or `c`
 abbrev pub side_of : ℕ → Option Side
 side_of b =
     if b == 115 then Some side.Script
@@ -27,22 +27,22 @@ side_of b =
 abbrev pub digit : ℕ → Option ℕ
 digit b = if nat_le 48 b && nat_le b 57 then Some (b - 48) else None
 
--- the number that decimal digits go on to, behind those whose value is high
+-- the number whose first decimal digits have the value `high`, and whose other digits are these
 abbrev pub number_after : ℕ → List ℕ → Option ℕ
 number_after high [] = Some high
 number_after high (b ∷ bs) = option_and_then (λ d. number_after (10 * high + d) bs) (digit b)
 
--- a number in decimal without leading zeros; one of more than 9 digits is no driver's
+-- a number in decimal without leading zeros, of at most 9 digits, because a longer one is no driver's
 abbrev pub decimal_number : List ℕ → Option ℕ
 decimal_number s =
     if nat_le 1 (length s) && nat_le (length s) 9 && ((length s == 1) || not (slice_index s 0 == 48))
     then number_after 0 s else None
 
--- a driver by its number, of so many drivers
+-- the number of a driver that a text gives, if it is below the number of drivers
 abbrev pub lane_in_text : ℕ → List ℕ → Option ℕ
 lane_in_text drivers s = option_and_then (λ n. if nat_lt n drivers then Some n else None) (decimal_number s)
 
--- a side and the number of a driver
+-- the actor that a text names, by a side and the number of a driver
 abbrev pub actor_of : ℕ → List ℕ → Option Actor
 actor_of drivers [] = None
 actor_of drivers (b ∷ bs) =
@@ -54,7 +54,7 @@ actor_of drivers (b ∷ bs) =
 unfoldable pub read_actor : ℕ → Spot → Read Actor
 read_actor drivers here = read_text here >>= (λ s. of_kind here.place (actor_of drivers s))
 
--- the actors are counted before the first of them is read
+-- the actors of a list, if they are within the limit; they are counted before the first of them is read
 abbrev pub order_judged : DocumentPlace → List Data → Read (List Data)
 order_judged place ds = if nat_lt order_limit (length ds) then refuse (Limit limit.Order) place else Ok ds
 
@@ -62,11 +62,11 @@ order_judged place ds = if nat_lt order_limit (length ds) then refuse (Limit lim
 unfoldable pub read_order : ℕ → Spot → Read (List Actor)
 read_order drivers here = read_items here >>= (λ ds. order_judged here.place ds >>= each (λ _. read_actor drivers) here [])
 
--- no actors where there is no list
+-- the actors of a list, or none if there is no list
 abbrev pub order_or_none : ℕ → Option Spot → Read (List Actor)
 order_or_none drivers None = Ok []
 order_or_none drivers (Some spot) = read_order drivers spot
 
--- the order of the scenario, empty where there is none
+-- the order of the scenario; it is empty if none is given
 unfoldable pub order_field : ℕ → Spot → Read (List Actor)
 order_field drivers here = order_or_none drivers (field (codes "order") here)

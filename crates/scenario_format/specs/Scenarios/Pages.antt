@@ -14,13 +14,14 @@ use Rattle.scenario_format.specs.Json.Items.{read_items, each}
 use Rattle.scenario_format.specs.declared.refusal.RefusalKind.TheVariants.{BadField, FrameTwice, FrameAbsent}
 use Rattle.scenario_format.specs.Scenarios.Frames.{number_within}
 
--- the run of these numbers, which is one on pages
+-- the run of pages of these numbers; a run without a page is refused, and so is one that does not begin at a multiple
+-- of 4096 or goes past the end of the addresses for pages
 abbrev pub page_run_of : DocumentPlace → ℕ → ℕ → ℕ → Read PageRun
 page_run_of place va frame count =
     if nat_le 1 count && (va % 4096 == 0) && nat_le (va + 4096 * count) pages_end
     then Ok (record { va = record { 0 = va }; frame = frame; count = count }) else refuse BadField place
 
--- a list of three numbers
+-- the run of pages that a list of three numbers gives
 abbrev pub page_run_in : DocumentPlace → List Data → Read PageRun
 page_run_in place [] = refuse BadField place
 page_run_in place (a ∷ []) = refuse BadField place
@@ -32,7 +33,8 @@ page_run_in place (a ∷ b ∷ c ∷ []) =
     page_run_of place va frame count)))
 page_run_in place (a ∷ b ∷ c ∷ d ∷ more) = refuse BadField place
 
--- frames of the machine alone, none that a page before has, and no virtual page that this driver has
+-- a run of pages is refused if it has a frame that the machine does not have, a frame that an earlier page has, or a
+-- virtual page that this driver already has
 abbrev pub page_run_judged : List FrameRun → List Driver → List PageRun → DocumentPlace → PageRun → Read PageRun
 page_run_judged frames earlier before place run =
     if not (all_in frames run.frame run.count) then refuse FrameAbsent place
@@ -40,14 +42,14 @@ page_run_judged frames earlier before place run =
     else (if list_any (share_page run) before then refuse BadField place
     else Ok run))
 
--- a run of pages by itself
+-- a run of pages, read by itself
 unfoldable pub read_page_values : Spot → Read PageRun
 read_page_values here = read_items here >>= page_run_in here.place
 
--- a run of pages behind those before it
+-- a run of pages, judged by the drivers and the runs before it
 unfoldable pub read_page_run : List FrameRun → List Driver → List PageRun → Spot → Read PageRun
 read_page_run frames earlier before here = read_page_values here >>= page_run_judged frames earlier before here.place
 
--- the list of runs
+-- the list of a driver's runs of pages
 unfoldable pub read_pages : List FrameRun → List Driver → Spot → Read (List PageRun)
 read_pages frames earlier here = read_items here >>= each (read_page_run frames earlier) here []

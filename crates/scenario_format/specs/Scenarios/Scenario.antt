@@ -19,23 +19,23 @@ use Rattle.scenario_format.specs.Scenarios.Frames.{read_frame_runs}
 use Rattle.busdma_base.specs.Scenarios.Limits.{bpages_limit}
 use Rattle.scenario_format.specs.Scenarios.Order.{order_field}
 
--- at least one page, and at most the limit
+-- the pages up to which a zone grows; none, or more than the limit, is refused
 abbrev pub bpages_judged : DocumentPlace → ℕ → Read ℕ
 bpages_judged place n = if nat_le 1 n && nat_le n bpages_limit then Ok n else refuse (Limit MaxBpages) place
 
--- the pages up to which a zone grows for further maps
+-- the number of pages up to which a zone grows for further maps
 unfoldable pub bpages_field : Spot → Read ℕ
 bpages_field here = number_or (codes "max_bpages") 8192 here >>= bpages_judged (key here.place (codes "max_bpages"))
 
--- the machine's frames, which have to be there
+-- the machine's frames; a missing list is refused
 unfoldable pub read_frames_field : Spot → Read (List FrameRun)
 read_frames_field here = required (codes "frames") here >>= read_frame_runs
 
--- the drivers, which have to be there
+-- the drivers; a missing list is refused
 unfoldable pub drivers_field : List FrameRun → Spot → Read (List Driver)
 drivers_field frames here = required (codes "drivers") here >>= read_drivers frames
 
--- the top object
+-- the scenario that the top object is
 unfoldable pub read_scenario : Spot → Read Scenario
 read_scenario here =
     only_keys (one_of (codes "frames" ∷ codes "max_bpages" ∷ codes "drivers" ∷ codes "order" ∷ [])) here >>= (λ _.
@@ -45,16 +45,16 @@ read_scenario here =
     order_field (length drivers) here >>= (λ order.
     Ok (record { frames = frames; max_bpages = bpages; drivers = drivers; order = order }))))))
 
--- the value that the bytes are, as JSON has it
+-- the JSON value of these bytes, if they are one
 abbrev pub document : List ℕ → Option Data
 document bytes = if is_utf8 bytes then read bytes else None
 
--- bytes that are no value are refused as a whole
+-- the scenario of a document; bytes that are no JSON value are refused at the top
 abbrev pub read_document : Option Data → Read Scenario
 read_document None = refuse NotJson top
 read_document (Some d) = read_scenario (record { place = top; value = d })
 
--- a scenario is good, and a refusal is bad
+-- the reading of a document: a scenario is good, and a refusal is bad
 abbrev pub reading : Read Scenario → Reading
 reading (Ok s) = Good s
 reading (Err r) = Bad r

@@ -20,11 +20,11 @@ use Rattle.scenario_format.specs.Parts.Names.{used_name}
 use Rattle.scenario_format.specs.Parts.Syncs.{read_sync_fields, read_range_fields}
 use Rattle.scenario_format.specs.Parts.Words.{read_item_word}
 
--- a sync of the whole load
+-- a sync of all bytes of a map's load
 unfoldable pub read_sync_item : List Op → Spot → Read Item
 read_sync_item before here = read_sync_fields before here >>= (λ s. Ok (item.Sync s.map s.ops))
 
--- a sync of a range of the load
+-- a sync of a range of a map's load
 unfoldable pub read_sync_range_item : List Op → Spot → Read Item
 read_sync_range_item before here = read_range_fields before here >>= (λ s. Ok (item.SyncRange s.map s.off s.len s.ops))
 
@@ -70,7 +70,7 @@ read_raw_write before here =
     access_judged (length (bytes_of bytes)) here.place >>= (λ _.
     Ok (item.DevWriteAt tag addr bytes))))))
 
--- the item of a word; the steps of a ring are told by a kick alone, so that their word is refused as no word
+-- the item of a word. Only a kick gives the steps of a ring, so their word is refused like an unknown one.
 abbrev pub item_by : ItemWord → List Op → Counts → Spot → Read Item
 item_by word.Sync before c here = read_sync_item before here
 item_by word.SyncRange before c here = read_sync_range_item before here
@@ -88,15 +88,15 @@ read_item before c here =
     read_item_word here >>= (λ w.
     item_by w before (one_step_counted c) here)))
 
--- the items of a list, each counted behind those before it
+-- the items of a list, each counted after those before it
 unfoldable pub read_then : List Op → Counts → Spot → Read (List Item)
 read_then before c here = read_items here >>= each (λ done. read_item before (with_items c done)) here []
 
--- no items where there is no list
+-- the items of a list, or none if there is no list
 abbrev pub then_or_none : List Op → Counts → Option Spot → Read (List Item)
 then_or_none before c None = Ok []
 then_or_none before c (Some spot) = read_then before c spot
 
--- the items of a load, none where there is no list
+-- the items of a load; it has none if no list is given
 unfoldable pub then_field : List Op → Counts → Spot → Read (List Item)
 then_field before c here = then_or_none before c (field (codes "then") here)

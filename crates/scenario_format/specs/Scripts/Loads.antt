@@ -1,5 +1,5 @@
--- The loads of a map, each read by itself and by the operations before it. They differ in what they load and in
--- the keys that they may have; what they share is told once.
+-- The loads of a map, each read by itself and by the operations before it. They differ in what they load and in the
+-- keys that they may have.
 use Rattle.std.specs.Prelude.{ℕ, List, [], ◌∷◌, Ok, codes}
 use Rattle.busdma_base.specs.declared.scenarios.buffer.Buffer.{Buffer}
 use Rattle.busdma_base.specs.declared.scenarios.buffer.Buffer.TheVariants as buffer
@@ -21,7 +21,7 @@ use Rattle.scenario_format.specs.Parts.Names.{used_name}
 use Rattle.scenario_format.specs.Parts.Places.{loaded_from}
 use Rattle.scenario_format.specs.Parts.Spans.{entries_field}
 
--- `len` bytes from a place on
+-- the buffer of `len` bytes from a place on
 unfoldable pub read_flat : List Op → Spot → Read Buffer
 read_flat before here =
     loaded_from before here >>= (λ place.
@@ -32,7 +32,7 @@ read_flat before here =
 unfoldable pub read_loaded_map : List Op → Spot → Read ℕ
 read_loaded_map before here = used_name use_as.Map (codes "map") before here
 
--- the load of a map with a buffer: its flags; then its bytes are judged, behind all its other fields; then its items
+-- the load of a map with a buffer: its flags; then its bytes are judged, after all its other fields; then its items
 unfoldable pub load_of : List Op → Counts → Spot → ℕ → Buffer → Read Op
 load_of before c here map buffer =
     flags_field set.Load here >>= (λ flags.
@@ -58,7 +58,7 @@ read_load_vector before c here =
     entries_field here >>= (λ spans.
     load_of before c here map (buffer.Vector spans))))
 
--- a load of an mbuf chain, which may not have the key `flags`, and so has no flags
+-- a load of an mbuf chain; it has no flags, because the key `flags` is not allowed
 unfoldable pub read_load_mbuf : List Op → Counts → Spot → Read Op
 read_load_mbuf before c here =
     only_keys (one_of (codes "op" ∷ codes "map" ∷ codes "entries" ∷ codes "then" ∷ [])) here >>= (λ _.

@@ -1,4 +1,4 @@
--- The operations of a script but its loads, each read by itself and by the operations before it.
+-- The operations of a script other than its loads, each read by itself and by the operations before it.
 use Rattle.std.specs.Prelude.{ℕ, ◌-◌, ◌^◌, List, [], ◌∷◌, length, Ok, codes}
 use Rattle.busdma_base.specs.declared.scenarios.script.Op.{Op}
 use Rattle.busdma_base.specs.declared.scenarios.script.Op.TheVariants as op
@@ -20,7 +20,7 @@ use Rattle.scenario_format.specs.Parts.Numbers.{short_or}
 use Rattle.scenario_format.specs.Parts.Places.{read_access}
 use Rattle.scenario_format.specs.Parts.Syncs.{read_sync_fields, read_range_fields}
 
--- the limits of a tag, each with its default where it is not given
+-- the limits of a tag, each with its default if none is given
 unfoldable pub read_limits : Spot → Read TagLimits
 read_limits here =
     number_or (codes "alignment") 1 here >>= (λ alignment.
@@ -54,7 +54,7 @@ read_tag before here =
     read_limits here >>= (λ limits.
     Ok (op.Tag name parent limits)))))
 
--- the limits of an IOMMU tag, each with its default where it is not given
+-- the limits of an IOMMU tag, each with its default if none is given
 unfoldable pub read_space_limits : Spot → Read SpaceLimits
 read_space_limits here =
     number_or (codes "lowaddr") (2 ^ 32 - 1) here >>= (λ lowaddr.
@@ -95,13 +95,13 @@ read_map before here =
     used_name use_as.AnyTag (codes "tag") before here >>= (λ tag.
     Ok (op.Map name tag))))
 
--- the map of an operation that says nothing else
+-- the map of an operation that has no other field
 unfoldable pub read_only_map : NameUse → List Op → Spot → Read ℕ
 read_only_map u before here =
     only_keys (one_of (codes "op" ∷ codes "map" ∷ [])) here >>= (λ _.
     used_name u (codes "map") before here)
 
--- the end of a map, which is no memory's
+-- the end of a map that is no memory's own
 unfoldable pub read_map_destroy : List Op → Spot → Read Op
 read_map_destroy before here = read_only_map use_as.MapAlone before here >>= (λ map. Ok (op.MapDestroy map))
 
@@ -125,11 +125,11 @@ read_dmamem_free before here =
 unfoldable pub read_unload : List Op → Spot → Read Op
 read_unload before here = read_only_map use_as.Map before here >>= (λ map. Ok (op.Unload map))
 
--- a sync of the whole load
+-- a sync of all bytes of a map's load
 unfoldable pub read_sync : List Op → Spot → Read Op
 read_sync before here = read_sync_fields before here >>= (λ s. Ok (op.Sync s.map s.ops))
 
--- a sync of a range of the load
+-- a sync of a range of a map's load
 unfoldable pub read_sync_range : List Op → Spot → Read Op
 read_sync_range before here = read_range_fields before here >>= (λ s. Ok (op.SyncRange s.map s.off s.len s.ops))
 

@@ -40,7 +40,7 @@ read_ring_post before here =
     byte_or (codes "fill") 0 here >>= (λ fill.
     Ok (op.RingPost ring slot map off n kind fill)))))))))
 
--- a kick asks for a step, and for no more than a script has
+-- the number of steps that a kick asks for; none, or more than a script may have, is refused
 abbrev pub count_or : DocumentPlace → ℕ → Read ℕ
 count_or place n = if nat_le 1 n && nat_le n steps_limit then Ok n else refuse BadField place
 
@@ -48,7 +48,7 @@ count_or place n = if nat_le 1 n && nat_le n steps_limit then Ok n else refuse B
 unfoldable pub read_count : Spot → Read ℕ
 read_count here = number_field (codes "count") here >>= count_or (key here.place (codes "count"))
 
--- a kick of a ring's device: so many steps of the ring, which are steps of the script
+-- a kick of a ring's device: so many steps of the ring, each of which is a step of the script
 unfoldable pub read_kick : List Op → Counts → Spot → Read Op
 read_kick before c here =
     only_keys (one_of (codes "op" ∷ codes "ring" ∷ codes "count" ∷ [])) here >>= (λ _.

@@ -1,4 +1,4 @@
--- A script of a driver with these pages: its operations, each counted behind those before it.
+-- A script of a driver with these pages: its operations, each counted after those before it.
 use Rattle.std.specs.Prelude.{List, []}
 use Rattle.busdma_base.specs.declared.scenarios.scenario.PageRun.{PageRun}
 use Rattle.busdma_base.specs.declared.scenarios.script.Op.{Op}

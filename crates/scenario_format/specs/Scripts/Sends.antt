@@ -21,17 +21,18 @@ use Rattle.scenario_format.specs.Parts.Spans.{read_entries, entries_field}
 abbrev pub shares : ℕ → Span → Bool
 shares va s = nat_lt (max va s.va.0) (min (va + 4096) (s.va.0 + s.len))
 
--- the address is that of a cluster
+-- the cluster is at this address
 abbrev pub is_cluster : ℕ → Va → Bool
 is_cluster va c = c.0 == va
 
--- another one is refused
+-- a cluster at this address; it is refused if the address is not a multiple of 4096, is given twice, or has a byte in
+-- common with the chain
 abbrev pub cluster_or : List Span → List Va → DocumentPlace → ℕ → Read Va
 cluster_or chain before place va =
     if not (va % 4096 == 0) || list_any (is_cluster va) before || list_any (shares va) chain then refuse BadField place
     else Ok (record { 0 = va })
 
--- a cluster
+-- a cluster of a send, judged by the chain and by the clusters before it
 unfoldable pub read_cluster : List Span → List Va → Spot → Read Va
 read_cluster chain before here = read_number here >>= cluster_or chain before here.place
 
@@ -39,11 +40,11 @@ read_cluster chain before here = read_number here >>= cluster_or chain before he
 unfoldable pub read_clusters : List Span → Spot → Read (List Va)
 read_clusters chain here = read_entries here >>= each (read_cluster chain) here []
 
--- the list in `clusters`, which has to be there
+-- the list in `clusters`; a missing one is refused
 unfoldable pub clusters_field : List Span → Spot → Read (List Va)
 clusters_field chain here = required (codes "clusters") here >>= read_clusters chain
 
--- a send, which may not have the key `flags`, and so has no flags
+-- a send; it has no flags, because the key `flags` is not allowed
 unfoldable pub read_send : List Op → Counts → Spot → Read Op
 read_send before c here =
     only_keys (one_of (codes "op" ∷ codes "map" ∷ codes "entries" ∷ codes "clusters" ∷ codes "then" ∷ [])) here
