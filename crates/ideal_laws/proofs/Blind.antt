@@ -1,4 +1,4 @@
--- What is last written is told with no look at ideal memories.
+-- What was last written is defined without ideal memories.
 use Rattle.std.proofs.Common.{◌≡◌, List, [], ◌∷◌, Option, Some, None, refl, slice_get}
 use Rattle.busdma_base.specs.declared.journals.answer.Answer.{Answer}
 use Rattle.busdma_base.specs.declared.journals.journal.Did.{Did}

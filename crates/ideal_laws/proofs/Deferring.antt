@@ -148,7 +148,7 @@ module _ (s : Scenario) (i m : ℕ) where
             (ap (slice_get w.lanes) (eqb-true e.actor.lane.0 i q) ∙ there)) ∙ is in
             absurd (cc)
 
-  -- what entries count that lead on
+  -- what entries that lead on count
   entries-count : (w : WorldState) (es : List JournalEntry) (end : WorldState) → IsWellFormed s w → Leads w es end →
       waiting w + times_deferred s i m es ≡ times_called_back i m es + waiting end
   entries-count w [] end well h = let same : waiting w ≡ waiting end = ap waiting h in omega (arith, same)
@@ -161,7 +161,7 @@ module _ (s : Scenario) (i m : ℕ) where
         sum_by-cons (λ f. cond (calls_back i m f) 1 0) e es,
       )
 
-  -- nothing waits where the scenario opens
+  -- nothing waits when the scenario opens
   opens-unwaiting : waiting (opening_world s) ≡ 0
   opens-unwaiting = by (slice_get (opening_world s).lanes i) refl
     where
@@ -182,7 +182,7 @@ module _ (s : Scenario) (i m : ℕ) where
       by None = omega arith
       by (Some l) = bit (is_waiting (get l.maps m))
 
-  -- the first entries of what leads on lead on
+  -- the first entries of entries that lead on lead on too
   record LeadsTo (w : WorldState) (es : List JournalEntry) : Type 0 where
     middle : WorldState
     leads : Leads w es middle

@@ -1,4 +1,4 @@
--- Bytes that are written are Known: those of the clusters of a resend, and two of a ring's descriptor.
+-- Bytes that are written are Known: the bytes of the clusters of a resend, and two bytes of a ring's descriptor.
 use Rattle.std.proofs.Common.{◌≡◌, ℕ, zero, suc, ◌+◌, ◌≤◌, ◌==◌, Bool, true, false, cond, if◌then◌else◌, List, [], ◌∷◌, length, map}
 use Rattle.std.proofs.Common.{take, drop, slice_get, Option, Some, None, is_some, refl, sym, ap, ◌∙◌, subst, arith, eq-eqb}
 use Rattle.std.proofs.Common.{length-take}
@@ -85,7 +85,7 @@ written-knows (k ∷ keys) (v ∷ vs) memory few (suc i) a at own =
     written-knows keys vs (written_at k v memory) (omega (arith, few)) i a at
     (own-written (k ∷ []) (v ∷ []) memory a ∙ own)
 
--- bytes that are all Known are so with their values
+-- bytes that are all Known are Known with their values
 pub all-known : (memory : IdealMemory) (keys vs : List ℕ) →
     ((i a : ℕ) → slice_get keys i ≡ Some a → is_known memory a ≡ true) → map (λ a. value (memory a)) keys ≡ vs →
     AreKnown memory keys vs
@@ -127,7 +127,7 @@ module _ (l : LaneState) (laid : AreLaid l) (m off len : ℕ) where
       )
 
 module _ (l : LaneState) (laid : AreLaid l) (k : ℕ) where
-  -- one that hands its descriptor back leaves it so, Known
+  -- a step that hands its descriptor back leaves that Known
   abbrev Known-by : Asking Outcome → Type 0
   Known-by x = HandsBackIn (ring_of l k) l x → LeavesDone (ring_of l k) x
 

@@ -58,7 +58,7 @@ module _ (l : LaneState) (stands : Stands l) (laid : AreLaid l) (spaced : AreSpa
           ap (λ s. is_some (translated s a)) (spaced.none t e) in
           absurd (cc)
 
-  -- where the byte at a device address lies
+  -- where the byte at a device address is
   abbrev raw : ℕ → ℕ → ℕ
   raw t a = unwrap_or (translated (l.spaces t) a) 0
 

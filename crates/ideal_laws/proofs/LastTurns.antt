@@ -60,7 +60,7 @@ use Rattle.ideal_laws.proofs.Landing.{judged-byte}
 use Rattle.ideal_laws.proofs.LastValues.{IsLast, IsPlain, callback-last, head-last, item-last, last-values, operation-last, range-values}
 use Rattle.ideal_laws.proofs.LastValues.{step-last, write-last}
 
--- an operation writes the same where it leaves the same memories
+-- an operation writes the same if it leaves the same memories
 same-after : (o : Op) (a : Answer) (l after after' : LaneState) (w : Written) → after.mems ≡ after'.mems →
     by_operation o a l after w ≡ by_operation o a l after' w
 same-after (op.Dmamem name tag flags) a l after after' w e =
@@ -85,7 +85,7 @@ module _ (l : LaneState) (a : Account) (stands : Stands l) (agrees : AgreesWith 
   stays-last NothingLeft = last
   stays-last (NoneCalled u) = last
 
-  -- an operation, however the script goes on
+  -- what is Known after an operation was last written, however the script goes on
   operation-turn : (o : Op) → slice_get l.script l.place ≡ Some o → (x : Outcome) (after : LaneState) →
       after.memory ≡ x.lane.memory → after.mems ≡ x.lane.mems →
       IsLast x.lane.memory (by_operation o x.answer l x.lane w) →

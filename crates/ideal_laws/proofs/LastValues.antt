@@ -130,14 +130,14 @@ module _ (l : LaneState) (w : Written) (last : IsLast l.memory w) where
         by true = refl
         by false = refl
 
-    -- one that does nothing writes nothing
+    -- an operation that does nothing writes nothing
     same-operation : (o : Op) (a : Answer) → IsUndone a → by_operation o a l l w ≡ w
     same-operation (op.CpuWrite place bytes) a u = undone a _ w u
     same-operation (op.RingPost ring slot map off len kind fill) a u = undone a _ w u
     same-operation (op.Dmamem name tag flags) a u = no-zeros flags
     same-operation _ a u = refl
 
-    -- nor does a load
+    -- a load writes nothing
     abbrev by_work : Work → Answer → LaneState → Written
     by_work (Operation o) a after = by_operation o a l after w
     by_work _ a after = w
@@ -251,7 +251,7 @@ module _ (l : LaneState) (w : Written) (last : IsLast l.memory w) where
       by true false e = absurd (cc)
       by false t e = absurd (cc)
 
-  -- so are those of a range of a load, with the values that were last written
+  -- the bytes of a range of a load that a device may read are Known, with the values that were last written
   pub range-values : (m off len : ℕ) → dev_read_answer (is_known l.memory) (loan_of l.loans m) off len ≡ Fine →
       values l (load_bytes l.loans m off len) ≡ map w (load_bytes l.loans m off len)
   range-values m off len fine = last-values (load_bytes l.loans m off len) l.memory w last all
@@ -284,7 +284,7 @@ module _ (l : LaneState) (w : Written) (last : IsLast l.memory w) where
     abbrev cs : List Candidate
     cs = candidates g.r l
 
-    -- where the device writes, it does so at the first candidate that allows it
+    -- if the device writes, it does so at the first candidate that allows it
     first-is : (d.kind == 1) ≡ false → first_writable d l cs ≡ g.c
     first-is e =
         ap (λ b. unwrap_or (slice_get (filter (λ c. is_fine (if b

@@ -116,7 +116,7 @@ reads-last s before w e l valid leads is there =
     read-entry t.turn e l own.stands own.laid own.spaced own.mapped last (r.0 l there) (sym (ap entry_of o.turn) ∙ is)
     (turn-reads l own.stands own.laid own.spaced own.mapped last (r.0 l there) e.actor.side o.reply)
 
--- the entry after the first entries of what leads on is that of the next step
+-- the entry after the first entries of entries that lead on is the entry of the next step
 record Middle (w : WorldState) (es : List JournalEntry) (e : JournalEntry) : Type 0 where
   world : WorldState
   leads : Leads w es world

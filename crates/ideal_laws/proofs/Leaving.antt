@@ -1,4 +1,4 @@
--- What each operation and item leaves of its driver and of the account where it is refused or waits.
+-- What each operation and item that is refused or waits leaves of its driver and of the account.
 use Rattle.std.proofs.Common.{◌≡◌, ℕ, zero, suc, ◌==◌, ◌&&◌, Bool, true, false, if◌then◌else◌, List, [], ◌∷◌, ◌++◌}
 use Rattle.std.proofs.Common.{length, map, take, drop, Option, Some, None, nat_le, nat_lt, slice_set, refl, sym}
 use Rattle.std.proofs.Common.{ap, ◌∙◌, subst, append-nil}
@@ -106,7 +106,7 @@ abbrev pub loading_map : Option Loading → Option ℕ
 loading_map q = option_map (λ (x : Loading). x.map) q
 
 module _ (l : LaneState) (a : Account) where
-  -- the map has got pages, which stand in the return queue
+  -- the map has got pages, which are in the return queue
   pub record Overfull (ready : List Waiter) (n : ℕ) (after : LaneState) (b : Account) : Type 0 where
     pub own : LaneMap
     pub there : get l.maps n ≡ Some own
@@ -129,7 +129,7 @@ module _ (l : LaneState) (a : Account) where
     pub lane : after ≡ staged q.map own (Waiting load) l
     pub account : b ≡ waiting_at_tail a (named l q.map) (zone_of_map own) need
 
-  -- what is so of the load, if there is one; and what is so if there is none
+  -- what holds of the load, if there is one, and what holds if there is none
   abbrev pub OfLoad : (Loading → Type 0) → Option Loading → Type 0
   OfLoad P None = ⊥
   OfLoad P (Some q) = P q
@@ -169,7 +169,7 @@ module _ (l : LaneState) (a : Account) where
   report : (q : Option Loading) (r : Report) → LeftIn q (gives l (answer.Report r))
   report q r = tt
 
-  -- so it leaves what is said
+  -- the step leaves what its answer says
   plain-left : (x : Asking Outcome) → PlainIn l x → LeftIn None x
   plain-left (Gives x) h = by x.answer x.lane h
     where
@@ -259,16 +259,16 @@ module _ (l : LaneState) (a : Account) where
 
   -- ---- loads
 
-  -- what a map got that has pages
+  -- what a map with pages has got
   pub record HasGot (ready : List Waiter) (n : ℕ) (o : LaneMap) (pages : List ℕ) (b : Account) : Type 0 where
     pub first : pages ≡ take (length pages) (zone_at a (zone_of_map o)).avail
     pub account : b ≡ record (handed a (named l n) (zone_of_map o) (length pages)) { ready = ready }
 
-  -- it has got none
+  -- the map has got no page
   got-none : (n : ℕ) (o : LaneMap) → HasGot a.ready n o [] a
   got-none n o = record { first = refl; account = handed-none a (named l n) (zone_of_map o) }
 
-  -- so many from the head of its zone's list
+  -- the map has got so many pages from the head of its zone's list
   got-some : (n : ℕ) (o : LaneMap) (need : ℕ) →
       HasGot a.ready n o (take need (zone_at a (zone_of_map o)).avail) (handed a (named l n) (zone_of_map o) need)
   got-some n o need = record {
@@ -298,7 +298,7 @@ module _ (l : LaneState) (a : Account) where
           by true = tt
           by false = big-left (unpaged q.map o pages l) refl
 
-    -- one of an IOMMU tag's map, which gets none
+    -- a load of an IOMMU tag's map, which gets no page
     spaced-left : (x : Asked) (first : ℕ) → let cs = device_chunks first 0 x.entries in
         Left (Some q) a.ready
         (with_spaces (with_run (are_few (limits_of l o) cs) o.tag first (load_frames x.entries) l.spaces)
@@ -327,7 +327,7 @@ module _ (l : LaneState) (a : Account) where
       idle-is (Loaded bounced segments pages) i = absurd (cc)
       idle-is Returning i = absurd (cc)
 
-      -- it was tried
+      -- the map was tried
       tried-is : staged q.map o Idle l ≡ tried_by (Some q.map) l
       tried-is =
           ap (λ s. staged q.map o s l) (idle-is o.stage idle) ∙ ap (λ y. tried_at q.map y l) (sym there)

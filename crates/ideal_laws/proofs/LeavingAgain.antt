@@ -1,4 +1,4 @@
--- What each resend and callback leaves of its driver and of the account where it is refused or waits.
+-- What each resend and callback that is refused or waits leaves of its driver and of the account.
 use Rattle.std.proofs.Common.{◌≡◌, ℕ, ◌==◌, Bool, true, false, if◌then◌else◌, List, [], ◌∷◌}
 use Rattle.std.proofs.Common.{length, take, drop, Option, Some, None, unwrap_or, refl, sym}
 use Rattle.std.proofs.Common.{ap, ◌∙◌, subst, arith}

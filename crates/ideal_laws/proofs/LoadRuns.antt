@@ -1,4 +1,4 @@
--- Each turn leaves each live run that of a load.
+-- After each turn each live run belongs to a load.
 use Rattle.std.proofs.Common.{◌≡◌, ◌≢◌, ◌⊎◌, inl, inr, ℕ, zero, suc, ◌+◌, ◌<◌, ◌≤◌, ◌/◌, ◌==◌, ◌&&◌, Bool, true, false}
 use Rattle.std.proofs.Common.{if◌then◌else◌, List, [], ◌∷◌, ◌++◌, length, map, Option, Some, None, slice_get, unwrap_or, refl, sym, ap, ◌∙◌}
 use Rattle.std.proofs.Common.{subst, arith, nat_le}
@@ -52,7 +52,7 @@ use Rattle.ideal_laws.proofs.LiveRuns.{in-none, put-cases, left-cases}
 
 -- ---- the frames of a load
 
--- a frame is that of one of these bytes
+-- a frame has one of these bytes
 record HasFrame (bytes : List ℕ) (f : ℕ) : Type 0 where
   place : ℕ
   byte : ℕ
@@ -121,7 +121,7 @@ at n k = addresses_of (loan_of k.loans n).positions
 module _ (l l' : LaneState) (m : ℕ)
     (maps : (n : ℕ) (o : LaneMap) → n ≢ m → get l.maps n ≡ Some o → get l'.maps n ≡ Some o)
     (bytes : (n : ℕ) → n ≢ m → at n l' ≡ at n l) where
-  -- the run of another map's load is still that
+  -- the run of another map's load still belongs to it
   stays-load : (t : ℕ) (run : DeviceRun) (u : IsLoadRun l t run) → u.map ≢ m → IsLoadRun l' t run
   stays-load t run u off = record {
     map = u.map;
@@ -316,7 +316,7 @@ module _ (l : LaneState) (stands : Stands l) (used : AreLoadRuns l) where
       is-mapped : IsMapped taking b.m with_load
       is-mapped = mapped.each b.m with_load is-there device refl
 
-      -- it has segments, since it has a frame
+      -- it has segments, because it has a frame
       has-first : (fs : List ℕ) → (length fs == 0) ≡ false → (f : ℕ) × (slice_get fs 0 ≡ Some f)
       has-first [] e = absurd (cc)
       has-first (f ∷ fs) e = (f, refl)

@@ -1,4 +1,5 @@
--- A map waits once more with each load that is answered EINPROGRESS, and once less with each call of its callback.
+-- One more load of a map waits after each load that is answered EINPROGRESS, and one fewer after each call of its
+-- callback.
 use Rattle.std.proofs.Common.{◌≡◌, ℕ, ◌+◌, ◌==◌, Bool, true, false, ◌&&◌, ◌||◌, cond, if◌then◌else◌, List, [], ◌∷◌, length}
 use Rattle.std.proofs.Common.{Option, Some, None, is_some, slice_get, refl, sym, ap, ◌∙◌, arith, nat_lt}
 use Rattle.std.proofs.lemmas.Bool.{eq-eqb, false≢true, ne_eqb}
@@ -107,7 +108,7 @@ module _ (m : ℕ) where
 
     -- ---- loads
 
-    -- an outcome, where `hit` tells that it is of a load of this map: the map waits with a load that it says to wait
+    -- an outcome, with `hit` if it is of a load of this map: the map waits with the load that the outcome says waits
     abbrev pub Pends : Bool → Outcome → Type 0
     Pends hit x = pending x.lane ≡ pending l + one (is_in_progress x.answer && hit)
 
@@ -286,8 +287,8 @@ module _ (m : ℕ) where
   module _ (l : LaneState) where
     -- ---- turns
 
-    -- what a turn counts: it is no step; or a map waits for each load of it that the entry answers to wait, until an
-    -- entry calls its callback
+    -- what a turn counts, if it is a step: the loads of the map that waited, and the one that the entry answers with
+    -- EINPROGRESS, are those that wait afterwards and the one whose callback the entry calls
     abbrev pub CountsIn : Turn → LaneState → Type 0
     CountsIn (Stepped e) after =
         pending l + one (is_in_progress e.answer && loads_by m l.script e.did)

@@ -1,4 +1,4 @@
--- What makes no call, and is refused with EINVAL alone.
+-- Steps that make no call, and whose only errno is EINVAL.
 use Rattle.std.proofs.Common.{◌≡◌, ℕ, ◌==◌, not, Bool, true, false, if◌then◌else◌, List}
 use Rattle.std.proofs.Common.{length, Option, Some, None, slice_get, refl}
 use Rattle.std.specs.FinMap.{get}

@@ -1,4 +1,4 @@
--- A post to a ring is done, since no load lends a byte of a ring's memory and the driver reaches each.
+-- A post to a ring is done, because no load lends a byte of a ring's memory and the driver reaches each of them.
 use Rattle.std.proofs.Common.{◌≡◌, ℕ, zero, suc, ◌+◌, ◌-◌, ◌*◌, ◌<◌, ◌≤◌, Bool, true, false, if◌then◌else◌, List, [], ◌∷◌}
 use Rattle.std.proofs.Common.{map, Option, Some, None, slice_get, unwrap_or, nat_lt, refl, sym, ap, ◌∙◌, subst, arith}
 use Rattle.std.proofs.lemmas.Bool.{and_parts, false≢true, le-leb, lt-ltb, ltb-true}
@@ -73,7 +73,7 @@ all-fine : {X : Type 0} (f : X → Option ReportName) (at : ℕ) (xs : List X) �
 all-fine f at [] h = refl
 all-fine f at (x ∷ xs) h = ap (λ o. refused_or o at (judged f (at + 1) xs)) h.0 ∙ all-fine f (at + 1) xs h.1
 
--- so it is of each address of a run, and of what each is mapped to
+-- what holds of each address of a run holds of the run, and of what each address is mapped to
 all-run : (P : ℕ → Type 0) (a n : ℕ) → ((b : ℕ) → a ≤ b → b < a + n → P b) → AllByRecursion P (run_of a n)
 all-run P a zero h = tt
 all-run P a (suc n) h =
@@ -100,7 +100,7 @@ module _ (l : LaneState) (laid : AreLaid l) (machine : IsInMachine l) (apart : I
         ap (or_in_memory l va) (no-page l.maxmem l.pages va machine.pages up)
         ∙ ap (λ b. if b then Some (va - pages_end) else None) in-memory
 
-  -- no load lends one, where the memory is coherent
+  -- no load lends one of them, if the memory is coherent
   module _ (coherent : x.coherent ≡ true) (pa : ℕ) (inside : in_run x.first x.count pa ≡ true) where
     unlent : lent in_any_way pa l.loans ≡ false
     unlent = by (lent in_any_way pa l.loans) refl
@@ -202,7 +202,7 @@ module _ (l : LaneState) (stands : Stands l) (laid : AreLaid l) (machine : IsInM
       ∙ ap (λ b. if b then cpu_write (slot_place p.ring slot) bytes l else gives l (Refused EINVAL)) p.may
       ∙ writes
 
--- where driver and account agree
+-- if driver and account agree
 pub post-by : (l : LaneState) (a : Account) (k slot m off len kind fill : ℕ) → Stands l → AgreesWith l a → AreLaid l →
     IsInMachine l → IsExclusive l.loans → (p : CanPost l k slot m off len kind) →
     ring_post k slot m off len kind fill l ≡ gives (after_post l p.ring slot p.map off len kind fill) Done

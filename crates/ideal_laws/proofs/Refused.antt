@@ -1,4 +1,4 @@
--- What a turn leaves of the world whose answer is an errno, or that could make no tag or map.
+-- What a turn whose answer is an errno, or that could make no tag or map, leaves of the world.
 use Rattle.std.proofs.Common.{◌≡◌, ℕ, ◌+◌, Bool, true, false, if◌then◌else◌, List, [], ◌∷◌, drop, Option, Some, None, is_some, refl, sym}
 use Rattle.std.proofs.Common.{ap, ◌∙◌, subst, slice_get, slice_set}
 use Rattle.std.specs.FinMap.{get}
@@ -58,7 +58,7 @@ tried-place (Some m) l = by (get l.maps m)
     by (Some o) = refl
 
 module _ (l : LaneState) (a : Account) where
-  -- what is said of the driver and of the account after a step of a side that does this and answers so
+  -- what holds of the driver and of the account after a step of a side that does this and answers so
   abbrev ErrnoLeaves : Side → Did → Errno → LaneState → Account → Type 0
   ErrnoLeaves s d errno.EBUSY after b = (after ≡ gone_on s l) × (b ≡ a)
   ErrnoLeaves s d errno.EINVAL after b = (after ≡ gone_on s (refused_load d l)) × (b ≡ a)
@@ -114,7 +114,7 @@ module _ (l : LaneState) (a : Account) where
         ∙ ap (λ p. record (tried_by (map_loaded l (did.Op l.place)) l) { place = p + 1; due = false })
         (sym (tried-place (map_loaded l (did.Op l.place)) l))
 
-    -- what the load is, where there is one
+    -- what the load is, if there is one
     module _ (P : Loading → Type 0) (Q : Type 0) (on : (q : Loading) → loading_of l a o ≡ Some q → P q → Q) where
       of-load : OfLoad l a P (loading_of l a o) → Q
       of-load h = by (loading_of l a o) refl h
@@ -361,7 +361,7 @@ module _ (l : LaneState) (a : Account) where
 
 module _ (w : WorldState) (actor : Actor) (l : LaneState) (e : JournalEntry)
     (there : slice_get w.lanes actor.lane.0 ≡ Some l) (is : step_entry w actor ≡ Some e) where
-  -- what the entry's answer says is left
+  -- the turn leaves what the entry's answer says
   record After : Type 0 where
     lane : LaneState
     account : Account

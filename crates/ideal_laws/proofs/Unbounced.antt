@@ -43,7 +43,7 @@ none-bounced : (ps : List Placed) → AreOwn ps → filter is_bounced ps ≡ []
 none-bounced [] h = refl
 none-bounced (p ∷ ps) h = rw h.0 (none-bounced ps h.1)
 
--- so a sync copies nothing
+-- a sync of such positions copies nothing
 in-stays : (ps : List Placed) (w : Wire) → filter is_bounced ps ≡ [] → copied_in ps w ≡ w
 in-stays ps w e = ap (λ qs. put (buses qs) (map w (buffers qs)) w) e
 

@@ -1,4 +1,4 @@
--- In each world that a scenario's opening leads to, each live run is that of a load, and has bytes of its driver alone.
+-- In each world to which a scenario's opening leads, each live run belongs to a load and has only bytes of its driver.
 use Rattle.std.proofs.Common.{◌≡◌, ℕ, suc, ◌+◌, ◌-◌, ◌*◌, ◌/◌, ◌%◌, ◌<◌, ◌≤◌, ◌==◌, ◌&&◌, ◌||◌, Bool, true, false}
 use Rattle.std.proofs.Common.{cond, if◌then◌else◌, List, [], ◌∷◌, Option, Some, None, slice_get, nat_le, nat_lt, refl, sym, ap, ◌∙◌, subst}
 use Rattle.std.proofs.Common.{arith}
@@ -90,7 +90,7 @@ module _ (l : LaneState) (back : (k : ℕ) → is_returning (own_map (get l.maps
 
 module _ (l : LaneState) (a : Account) (stands : Stands l) (agrees : AgreesWith l a) (laid : AreLaid l)
     (machine : IsInMachine l) (spaced : AreSpaced l) (used : AreLoadRuns l) where
-  -- the same loads stand in their runs at another place of the script
+  -- the same loads are in their runs at another place of the script
   placed : (k : LaneState) (place : ℕ) (due : Bool) → AreMapped (record k { place = place; due = due }) → AreMapped k
   placed k place due h = record {
     each = λ m o e d g. let y = h.each m o e d g in record { run = y.run; found = y.found };
@@ -153,7 +153,7 @@ journal-used s es end valid h = lead-used s (opening_world s) es end (opens-well
 
 -- ---- isolation
 
--- a page that stands for a frame is a live run's
+-- a page that is mapped to a frame is in a live run
 record IsOfRun (rs : List DeviceRun) (f : ℕ) : Type 0 where
   run : DeviceRun
   live : Contains rs run

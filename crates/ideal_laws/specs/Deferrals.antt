@@ -15,7 +15,7 @@ use Rattle.busdma_base.specs.Scenarios.Operations.{about}
 abbrev pub loads_map : ℕ → Op → Bool
 loads_map m o = is_some (about o).loads && list_any (λ u. u.made_at == m) (about o).uses
 
--- what was done is such a load of a script, or the resend of such a send
+-- what was done is an operation of a script that loads this map, or a resend of such an operation
 abbrev pub loads_by : ℕ → List Op → Did → Bool
 loads_by m script (did.Op place) = option_map_or (loads_map m) (slice_get script place) false
 loads_by m script (did.Again place) = option_map_or (loads_map m) (slice_get script place) false
@@ -23,7 +23,7 @@ loads_by m script (did.Release map page) = false
 loads_by m script (did.Callback map) = false
 loads_by m script (did.Item load_at place) = false
 
--- what was done is the call of the map's callback
+-- what was done is the call of this map's callback
 abbrev pub is_callback_of : ℕ → Did → Bool
 is_callback_of m (did.Op place) = false
 is_callback_of m (did.Again place) = false
@@ -40,11 +40,11 @@ is_in_progress _ = false
 abbrev pub driver_script : Scenario → ℕ → List Op
 driver_script s i = option_map_or (λ d. d.script) (slice_get s.drivers i) []
 
--- an entry of the driver answers EINPROGRESS to a load of the map
+-- an entry of the driver of this number answers EINPROGRESS to a load of this map
 abbrev pub defers : Scenario → ℕ → ℕ → JournalEntry → Bool
 defers s i m e = (e.actor.lane.0 == i) && (is_in_progress e.answer && loads_by m (driver_script s i) e.did)
 
--- an entry of the driver calls the map's callback
+-- an entry of the driver of this number calls this map's callback
 abbrev pub calls_back : ℕ → ℕ → JournalEntry → Bool
 calls_back i m e = (e.actor.lane.0 == i) && is_callback_of m e.did
 

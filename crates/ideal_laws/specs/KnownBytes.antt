@@ -14,12 +14,13 @@ use Rattle.ideal_wire.specs.RingSteps.{IfFetched}
 abbrev pub AreKnown : IdealMemory → List ℕ → List ℕ → Type 0
 AreKnown memory addresses vs = map memory addresses ≡ map (λ v. Some (Known v)) vs
 
--- the bytes of a send's chain are Known before its resend, and after it those of its clusters are Known with their values
+-- the bytes of a send's chain are Known before its resend, and after it the bytes of its clusters are Known with the
+-- same values
 pub record IsCopied (s : Send) (before after : LaneState) : Type 0 where
   pub chain : AreKnown before.memory (chain_bytes s before) (values before (chain_bytes s before))
   pub clusters : AreKnown after.memory (cluster_bytes s before) (values before (chain_bytes s before))
 
--- a step of a ring that was done leaves owner 0 and status 1 in the descriptor that was at the head, both Known
+-- a step of a ring that was done leaves owner 0 and status 1 in the descriptor that was at the head, and both are Known
 abbrev pub LeavesDone : LaneRing → Asking Outcome → Type 0
 LeavesDone r (Gives o) =
     IfFetched o.answer (AreKnown o.lane.memory (load_bytes o.lane.loans r.mem (head_at r + 14) 2) (0 ∷ 1 ∷ []))

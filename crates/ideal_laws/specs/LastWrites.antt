@@ -1,5 +1,5 @@
--- What was last written to each byte of a driver, told by the entries of a journal. Where bytes lie is told by the driver's
--- tables, and no ideal memory is looked at.
+-- What was last written to each byte of a driver, by the entries of a journal. The driver's tables say where the bytes
+-- are, and no ideal memory is used.
 use Rattle.std.specs.Prelude.{◌≡◌, ℕ, ◌+◌, ◌==◌, List, [], ◌∷◌, map, length, replicate, Option, Some, None, if◌then◌else◌}
 use Rattle.std.specs.Prelude.{slice_get, unwrap_or}
 use Rattle.std.specs.FinMap.{entries, get}
@@ -39,12 +39,13 @@ use Rattle.ideal_world.specs.World.{WorldState, opening_world, step}
 abbrev pub Written : Type 0
 Written = ℕ → ℕ
 
--- the bytes of a memory are 0
+-- the bytes of a memory, if there is one, are written with 0
 abbrev pub zeroed : Option LaneMemory → Written → Written
 zeroed None w a = w a
 zeroed (Some x) w a = if in_run x.first x.count a then 0 else w a
 
--- an operation writes, with this answer, and leaves the driver so: the driver's bytes, a descriptor, or the zeros of a memory
+-- what an operation with this answer writes, from one state of the driver to the next: the driver's bytes, a
+-- descriptor, or the zeros of a memory
 abbrev pub by_operation : Op → Answer → LaneState → LaneState → Written → Written
 by_operation (op.CpuWrite place bytes) a l after w =
     if_answered a (put (place_bytes l place (length (bytes_of bytes))) (bytes_of bytes) w) w
@@ -67,30 +68,31 @@ by_operation (op.Await map) a l after w = w
 by_operation (op.Ring name mem slots) a l after w = w
 by_operation (op.Kick ring steps) a l after w = w
 
--- the descriptor at the head of a ring, and the candidates for it
+-- the descriptor at the head of a ring, as it was last written
 abbrev pub head_written : LaneRing → LaneState → Written → Descriptor
 head_written r l w = descriptor_of (map w (load_bytes l.loans r.mem (head_at r) 16))
 
+-- the candidates for the descriptor at the head of a ring, as it was last written
 abbrev pub candidates_written : LaneRing → LaneState → Written → List Candidate
 candidates_written r l w = candidates_in (head_written r l w) r.mem l (entries l.maps)
 
--- the first candidate at which the device may write
+-- the first of these candidates at which the device may write what the descriptor names
 abbrev pub first_writable : Descriptor → LaneState → List Candidate → Candidate
 first_writable d l cs =
     unwrap_or (slice_get (filter (λ c. is_fine (dev_write_answer (loan_of l.loans c.map) c.off d.len)) cs) 0)
     (record { map = 0; off = 0 })
 
--- what the device of a ring writes where the descriptor names it, if it writes
+-- what the device of a ring writes at a candidate, if the descriptor asks for a write
 abbrev pub by_descriptor : Descriptor → Candidate → LaneState → Written → Written
 by_descriptor d c l w = if d.kind == 1 then w else put (load_bytes l.loans c.map c.off d.len) (replicate d.len d.fill) w
 
--- so it does, and then writes owner and status
+-- what a step of a ring writes: the bytes that the descriptor names, and then the descriptor's owner and status
 abbrev pub by_ring : LaneRing → LaneState → Written → Written
 by_ring r l w =
     put (load_bytes l.loans r.mem (head_at r + 14) 2) (0 ∷ 1 ∷ [])
     (by_descriptor (head_written r l w) (first_writable (head_written r l w) l (candidates_written r l w)) l w)
 
--- a device writes
+-- what an item with this answer writes for its device
 abbrev pub by_item : Item → Answer → LaneState → Written → Written
 by_item (item.DevWrite map off bytes) a l w =
     if_answered a (put (load_bytes l.loans map off (length (bytes_of bytes))) (bytes_of bytes) w) w
@@ -102,20 +104,22 @@ by_item (item.SyncRange map off len ops) a l w = w
 by_item (item.DevRead map off len) a l w = w
 by_item (item.DevReadAt tag addr len) a l w = w
 
--- a resend that is no report copies the chain to the clusters
+-- what a resend with this answer writes: the chain's bytes into the clusters, unless it is a report
 abbrev pub by_send : Option Send → Answer → LaneState → Written → Written
 by_send None a l w = w
 by_send (Some s) a l w = if is_report a then w else put (cluster_bytes s l) (map w (chain_bytes s l)) w
 
+-- what the operation at a place writes, if there is one
 abbrev pub by_next : Option Op → Answer → LaneState → LaneState → Written → Written
 by_next None a l after w = w
 by_next (Some o) a l after w = by_operation o a l after w
 
+-- what the first item of the queue writes, if there is one
 abbrev pub by_first : List QueuedItem → Answer → LaneState → Written → Written
 by_first [] a l w = w
 by_first (q ∷ rest) a l w = by_item q.item a l w
 
--- what was done writes; the return of a page and a callback write nothing
+-- what is written by what was done; the return of a page and a callback write nothing
 abbrev pub by_did : Did → Answer → LaneState → LaneState → Written → Written
 by_did (did.Op place) a l after w = by_next (slice_get l.script place) a l after w
 by_did (did.Again place) a l after w = by_send (send_at l.script place) a l w
@@ -123,13 +127,13 @@ by_did (did.Release map page) a l after w = w
 by_did (did.Callback map) a l after w = w
 by_did (did.Item load_at place) a l after w = by_first l.queue a l w
 
--- an entry writes the bytes of the driver of this number, if it is one of this driver's
+-- what an entry writes to the bytes of the driver of this number, if the entry is the driver's
 abbrev pub by_entry : ℕ → JournalEntry → Option LaneState → Option LaneState → Written → Written
 by_entry i e (Some l) (Some after) w = if e.actor.lane.0 == i then by_did e.did e.answer l after w else w
 by_entry i e (Some l) None w = w
 by_entry i e None after w = w
 
--- what entries leave written of the driver's bytes that lead on from a world
+-- what was last written to the bytes of a driver after entries that lead on from a world
 abbrev pub last_written : ℕ → WorldState → List JournalEntry → Written → Written
 last_written i w [] last = last
 last_written i w (e ∷ es) last =
@@ -138,33 +142,35 @@ last_written i w (e ∷ es) last =
 
 -- ---- reads
 
--- the bytes that an answer has are these
+-- P holds of the bytes that an answer has, if it has bytes
 abbrev pub IfBytes : Answer → (List ℕ → Type 0) → Type 0
 IfBytes (answer.Bytes vs) P = P vs
 IfBytes _ P = Unit {0}
 
--- a step of a ring answers what was last written at one of the candidates
+-- a step of a ring answers what was last written at one of the candidates for its descriptor
 pub record ReadsCandidate (r : LaneRing) (l : LaneState) (w : Written) (vs : List ℕ) : Type 0 where
   pub candidate : Candidate
   pub among : Contains (candidates_written r l w) candidate
   pub bytes : vs ≡ map w (load_bytes l.loans candidate.map candidate.off (head_written r l w).len)
 
--- what an operation and an item answer that read is what was last written there
+-- the answer of an operation that reads has what was last written at the bytes that it reads
 abbrev pub ReadsNext : Option Op → Answer → LaneState → Written → Type 0
 ReadsNext (Some (op.CpuRead place len)) a l w = Reads a (place_bytes l place len) w
 ReadsNext _ a l w = Unit {0}
 
+-- the answer of an item that reads has what was last written at the bytes that it reads
 abbrev pub ReadsItem : Item → Answer → LaneState → Written → Type 0
 ReadsItem (item.DevRead map off len) a l w = Reads a (load_bytes l.loans map off len) w
 ReadsItem (item.DevReadAt tag addr len) a l w = Reads a (raw_bytes l tag (run_of addr len)) w
 ReadsItem (item.RingStep ring) a l w = IfBytes a (ReadsCandidate (ring_of l ring) l w)
 ReadsItem _ a l w = Unit {0}
 
+-- the answer of the first item of the queue, if it reads, has what was last written there
 abbrev pub ReadsFirst : List QueuedItem → Answer → LaneState → Written → Type 0
 ReadsFirst [] a l w = Unit {0}
 ReadsFirst (q ∷ rest) a l w = ReadsItem q.item a l w
 
--- so it is of what was done
+-- the answer of what was done, if it reads, has what was last written there
 abbrev pub ReadsLast : Did → Answer → LaneState → Written → Type 0
 ReadsLast (did.Op place) a l w = ReadsNext (slice_get l.script place) a l w
 ReadsLast (did.Again place) a l w = Unit {0}
@@ -172,7 +178,7 @@ ReadsLast (did.Release map page) a l w = Unit {0}
 ReadsLast (did.Callback map) a l w = Unit {0}
 ReadsLast (did.Item load_at place) a l w = ReadsFirst l.queue a l w
 
--- an entry answers what was last written by the entries before it, which lead from the opening to the driver as it is then
+-- an entry answers what the entries before it last wrote; these lead from the opening to the driver as it is then
 pub record AnswersLast (s : Scenario) (before : List JournalEntry) (e : JournalEntry) : Type 0 where
   pub world : WorldState
   pub leads : Leads (opening_world s) before world

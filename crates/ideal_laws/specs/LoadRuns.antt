@@ -1,4 +1,4 @@
--- Whose the live runs of the address spaces are.
+-- Whose the live runs of address spaces are.
 use Rattle.std.specs.Prelude.{◌≡◌, ℕ, ◌/◌, true, Some, slice_get}
 use Rattle.std.specs.FinMap.{get}
 use Rattle.std.specs.List.{Contains}
@@ -8,15 +8,15 @@ use Rattle.ideal_lane.specs.Outcomes.{is_loaded}
 use Rattle.ideal_lane.specs.State.{LaneMap, LaneState}
 use Rattle.ideal_lane.specs.Unloads.{first_of, segments_in}
 
--- a frame is that of a byte of a map's load
+-- a frame has a byte of a map's load
 pub record IsFrameOf (l : LaneState) (m f : ℕ) : Type 0 where
   pub place : ℕ
   pub byte : ℕ
   pub at : slice_get (addresses_of (loan_of l.loans m).positions) place ≡ Some byte
   pub frame : byte / 4096 ≡ f
 
--- a run of a tag is that of a loaded map of the tag: it begins at the page of the load's first segment, and its frames are
--- those of the load's bytes
+-- a run of a tag belongs to the load of a map of the tag: it begins at the page of the load's first segment, and its
+-- frames are the frames of the load's bytes
 pub record IsLoadRun (l : LaneState) (t : ℕ) (run : DeviceRun) : Type 0 where
   pub map : ℕ
   pub own : LaneMap
@@ -26,6 +26,6 @@ pub record IsLoadRun (l : LaneState) (t : ℕ) (run : DeviceRun) : Type 0 where
   pub first : first_of (segments_in own.stage) ≡ run.first
   pub frames : (k f : ℕ) → slice_get run.frames k ≡ Some f → IsFrameOf l map f
 
--- so is each live run of a driver's tags
+-- each live run of a driver's tags belongs to the load of a map of its tag
 abbrev pub AreLoadRuns : LaneState → Type 0
 AreLoadRuns l = (t : ℕ) (run : DeviceRun) → Contains (l.spaces t).runs run → IsLoadRun l t run

@@ -9,7 +9,8 @@ use Rattle.ideal_lane.specs.State.{LaneMap, LaneMemory, LaneRing, LaneState}
 use Rattle.ideal_lane.specs.Unloads.{segments_in}
 use Rattle.ideal_wire.specs.WireStep.{place_bytes}
 
--- the ring and its memory exist, the map is loaded and has the range, and the rules on posts allow it
+-- a range of a map's load may be posted to a slot of a ring: the ring and its memory exist, the map is loaded and has
+-- the range, and the rules on posts allow it
 pub record CanPost (l : LaneState) (k slot m off len kind : ℕ) : Type 0 where
   pub ring : LaneRing
   pub there : get l.rings k ≡ Some ring
@@ -21,7 +22,7 @@ pub record CanPost (l : LaneState) (k slot m off len kind : ℕ) : Type 0 where
   pub short : off + len ≤ load_length l m
   pub may : may_post ring slot m map off len kind l ≡ true
 
--- the driver after the post: the slot has the bytes of the descriptor
+-- the driver after a post to a ring: the slot has the bytes of the descriptor
 abbrev pub after_post : (l : LaneState) → LaneRing → ℕ → LaneMap → ℕ → ℕ → ℕ → ℕ → LaneState
 after_post l r slot o off len kind fill = record l {
   memory =

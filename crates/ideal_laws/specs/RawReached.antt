@@ -1,4 +1,4 @@
--- What a raw access reaches that is not refused.
+-- What a raw access that is not refused reaches.
 use Rattle.std.specs.Prelude.{◌≡◌, ℕ, Option, Some, None, slice_get}
 use Rattle.std.specs.FinMap.{get}
 use Rattle.busdma_machine.specs.declared.report.ReportName.{ReportName}
@@ -9,7 +9,8 @@ use Rattle.ideal_lane.specs.State.{LaneState, LaneMap}
 use Rattle.ideal_lane.specs.Unloads.{segments_in}
 use Rattle.ideal_wire.specs.Centre.{IsAt}
 
--- the byte at a device address is one of a load of the tag; its position allows the access, and the address leads to it
+-- a device address is that of a byte of one of the tag's loads, the address leads to that byte, and its position allows
+-- the access
 pub record IsJudgedByte (l : LaneState) (t a : ℕ) (refusal : Position → Option ReportName) : Type 0 where
   pub by_map : ℕ
   pub own : LaneMap

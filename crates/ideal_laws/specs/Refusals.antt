@@ -1,4 +1,4 @@
--- What a step leaves of its driver and of the account that bus_dma(9) refuses, or whose load waits.
+-- What a step that bus_dma(9) refuses, or whose load waits, leaves of its driver and of the account.
 use Rattle.std.specs.Prelude.{◌≡◌, ℕ, List, length, take, drop, Option, Some, None, true, if◌then◌else◌, is_some, slice_get, slice_set}
 use Rattle.std.specs.FinMap.{get, insert}
 use Rattle.std.specs.Option.{option_map, option_map_or}
@@ -20,7 +20,7 @@ use Rattle.ideal_lane.specs.State.{LaneMap, LaneState, Waiting, WaitingLoad, nam
 use Rattle.ideal_wire.specs.Answered.{load_at}
 use Rattle.ideal_world.specs.World.{WorldState, step}
 
--- the map of the load that what was done begins or completes, if it does
+-- the map whose load was begun or completed by what was done, if there is one
 abbrev pub map_loaded : LaneState → Did → Option ℕ
 map_loaded l (did.Op place) = option_map (λ x. x.map) (load_at l place)
 map_loaded l (did.Again place) = option_map (λ s. s.map) (send_at l.script place)
@@ -28,7 +28,7 @@ map_loaded l (did.Release map page) = None
 map_loaded l (did.Callback map) = Some map.made_at
 map_loaded l (did.Item load_at place) = None
 
--- the driver whose load begins: a resend first copies the chain to the clusters
+-- the driver when the load of what was done begins: a resend has copied the chain to the clusters
 abbrev pub begun_by : Did → LaneState → LaneState
 begun_by (did.Op place) l = l
 begun_by (did.Again place) l = option_map_or (λ s. copied s l) (send_at l.script place) l
@@ -36,17 +36,18 @@ begun_by (did.Release map page) l = l
 begun_by (did.Callback map) l = l
 begun_by (did.Item load_at place) l = l
 
--- a load of a map was tried, if there is the map
+-- the driver after a load of this map was tried, if the map exists
 abbrev pub tried_at : ℕ → Option LaneMap → LaneState → LaneState
 tried_at m None l = l
 tried_at m (Some o) l = record l { maps = insert l.maps m (record o { tried = true }) }
 
--- so it is of the map that was loaded, if one was
+-- the driver after a load was tried of the map at this place, if there is a place
 abbrev pub tried_by : Option ℕ → LaneState → LaneState
 tried_by None l = l
 tried_by (Some m) l = tried_at m (get l.maps m) l
 
--- the driver whose load, if what was done is one, was refused before it had pages: its map alone shows that it was tried
+-- the driver after a load that was refused before it had pages, if what was done is a load: only its map shows that it
+-- was tried
 abbrev pub refused_load : Did → LaneState → LaneState
 refused_load d l = tried_by (map_loaded l d) (begun_by d l)
 
@@ -58,7 +59,7 @@ gone_by (did.Release map page) l = l
 gone_by (did.Callback map) l = l
 gone_by (did.Item load_at place) l = l
 
--- the callback list, of which a callback takes the head
+-- the callback list after what was done: a callback takes its head
 abbrev pub ready_after : Did → List Waiter → List Waiter
 ready_after (did.Op place) ready = ready
 ready_after (did.Again place) ready = ready
@@ -66,7 +67,7 @@ ready_after (did.Release map page) ready = ready
 ready_after (did.Callback map) ready = drop 1 ready
 ready_after (did.Item load_at place) ready = ready
 
--- EFBIG: the map got the first pages of its zone's list, as many as it needs, and they stand in the return queue
+-- EFBIG: the map got the first pages of its zone's list, as many as it needs, and they are in the return queue
 pub record IsTooBig (l : LaneState) (a : Account) (d : Did) (after : LaneState) (b : Account) : Type 0 where
   pub map : ℕ
   pub loaded : map_loaded l d ≡ Some map
@@ -77,8 +78,8 @@ pub record IsTooBig (l : LaneState) (a : Account) (d : Did) (after : LaneState) 
   pub lane : after ≡ gone_by d (unpaged map own pages (begun_by d l))
   pub account : b ≡ record (handed a (named l map) (zone_of_map own) (length pages)) { ready = ready_after d a.ready }
 
--- EINPROGRESS: the map waits with the load of the operation at the place of the script, at the tail of its zone's waiting
--- list and with all pages that are free there promised to it
+-- EINPROGRESS: the map waits, with the load of the operation at the script's place, at the tail of its zone's waiting
+-- list; all pages that are free there are promised to it
 pub record IsDeferred (l : LaneState) (a : Account) (have need : ℕ) (after : LaneState) (b : Account) : Type 0 where
   pub map : ℕ
   pub own : LaneMap
@@ -92,13 +93,13 @@ pub record IsDeferred (l : LaneState) (a : Account) (have need : ℕ) (after : L
   pub lane : after ≡ gone_on Script (staged map own (Waiting load) l)
   pub account : b ≡ waiting_at_tail a (named l map) (zone_of_map own) need
 
--- a tag or a map was not made: its zone grew by the pages that came, and was made for it if none served it
+-- a tag or a map was not made: its zone grew by the pages that came, and was made first if no zone served the tag
 pub record IsUnmade (l : LaneState) (a : Account) (g : Grown) (after : LaneState) (b : Account) : Type 0 where
   pub limits : TagLimits
   pub lane : after ≡ gone_on Script l
   pub account : b ≡ grown (with_zone_for limits a) g.zone.0 g.added
 
--- an actor's turn leaves such a driver and such an account, and the other drivers as they were
+-- an actor's turn leaves its driver and the account so that P holds of them, and the other drivers unchanged
 pub record Leaves (w : WorldState) (actor : Actor) (P : LaneState → Account → Type 0) : Type 0 where
   pub lane : LaneState
   pub account : Account

@@ -15,9 +15,9 @@ ghost use Rattle.ideal_world.specs.World.{WorldState, opening_world, step_entry}
 ghost use Rattle.ideal_laws.specs.Deferrals.{times_called_back, times_deferred};
 ghost use Rattle.ideal_laws.specs.LastWrites.{AnswersLast, ReadsLast, Written, by_did, last_written};
 
-/// The callback of a load that waits is called at most once. In the first entries of a legal journal, however many, a map's
-/// callback is called at most as often as its loads were answered EINPROGRESS, and at most one load of it still waits: so
-/// the two take turns, and each call is that of the load before it.
+/// The callback of a load that waits is called at most once. In any first entries of a legal journal, a map's callback
+/// is called at most as often as the map's loads are answered EINPROGRESS, and at most one of its loads still waits. So
+/// the two take turns, and each call is for the load before it.
 pub fn deferred_loads_are_called_once()
     ensures called { (s : Scenario) (j : Journal) (first rest : List JournalEntry) (i m : ℕ) → IsValid s → IsLegal s j →
         j.entries ≡ first ++ rest → times_called_back i m first ≤ times_deferred s i m first }
@@ -25,10 +25,10 @@ pub fn deferred_loads_are_called_once()
         j.entries ≡ first ++ rest → times_deferred s i m first ≤ times_called_back i m first + 1 }
 {}
 
-/// Each byte that a read answers is the one that was last written there: by the driver, its devices, a ring or a resend, or
-/// the zero of the opening or of a memory that was asked for with zeros. So it is of each entry that comes next after those
-/// that lead from the opening of a valid scenario, as of each entry of a legal journal. What was last written is told with no
-/// look at the drivers' ideal memories.
+/// Each byte that a read answers is the one that was last written there: by the driver, its devices, a ring or a
+/// resend, or the zero of the opening or of a memory that was asked for with zeros. This holds of each entry of a legal
+/// journal, and of each entry that follows entries which lead on from the opening of a valid scenario. What was last
+/// written is defined without the drivers' ideal memories.
 pub fn reads_answer_the_last_write()
     ensures reads { (s : Scenario) (before : List JournalEntry) (w : WorldState) (e : JournalEntry) (l : LaneState) → IsValid s →
         Leads (opening_world s) before w → step_entry w e.actor ≡ Some e → slice_get w.lanes e.actor.lane.0 ≡ Some l →

@@ -1,5 +1,5 @@
-//! Laws of the ideal machine that no crate below this one needs: what refusals leave, what journals say of callbacks, and
-//! what devices reach. Each law is the contract of a function that does nothing.
+//! Laws of the ideal machine that no crate below this one needs: what refusals leave, what journals say of callbacks
+//! and reads, and what devices reach. Each law is the contract of a function that does nothing.
 #![tactic(auto)]
 
 mod journal_laws;

@@ -22,8 +22,8 @@ ghost use Rattle.ideal_world.specs.World.{WorldState, step, step_entry};
 ghost use Rattle.ideal_laws.specs.KnownBytes.{IsCopied, LeavesDone};
 ghost use Rattle.ideal_laws.specs.Posts.{CanPost, after_post};
 
-/// A post to a ring is done if the rules on posts allow it: the driver reaches the slot, and no load lends a byte of it, so
-/// its write is never refused. So it is in a well-formed world whose wires are faithful.
+/// A post to a ring is done if the rules on posts allow it: the driver reaches the slot, and no load lends a byte of
+/// it, so its write is never refused. The same holds in a well-formed world whose wires are faithful.
 pub fn posts_are_done()
     ensures driver { (l : LaneState) (a : Account) (k slot m off len kind fill : ℕ) → Stands l → AgreesWith l a →
         AreLaid l → IsInMachine l → IsExclusive l.loans → (p : CanPost l k slot m off len kind) →
@@ -34,9 +34,9 @@ pub fn posts_are_done()
         ring_post k slot m off len kind fill l ≡ gives (after_post l p.ring slot p.map off len kind fill) Done }
 {}
 
-/// What is copied is Known. In a well-formed world a resend that is no report read Known bytes of its chain, and leaves the
-/// bytes of the clusters Known, with the same values in order, whether its load then is refused or not. A step of a ring
-/// that was done leaves owner and status of its descriptor Known.
+/// What is copied is Known. In a well-formed world a resend that is not a report read Known bytes of its chain, and
+/// leaves the bytes of the clusters Known with the same values in order, whether its load is then refused or not. A
+/// step of a ring that was done leaves the owner and the status of its descriptor Known.
 pub fn copies_are_known()
     ensures sends { (s : Scenario) (w : WorldState) (e : JournalEntry) (l m : LaneState) (place : ℕ) (d : Send) →
         IsWellFormed s w → step_entry w e.actor ≡ Some e → e.did ≡ Again place → is_report e.answer ≡ false →

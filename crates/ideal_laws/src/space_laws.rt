@@ -14,9 +14,9 @@ ghost use Rattle.ideal_world.specs.Wires.{EachDriver};
 ghost use Rattle.ideal_world.specs.World.{WorldState, opening_world, step};
 ghost use Rattle.ideal_laws.specs.LoadRuns.{AreLoadRuns};
 
-/// Device pages do not leak. Each live run of an IOMMU tag's address space is that of a loaded map of the tag, with the
-/// frames of the load's bytes. So it is where a scenario opens, each turn of any actor in a well-formed world keeps it, and
-/// so it is of the world to which the entries of a journal lead from the opening of a valid scenario.
+/// Device pages do not leak. Each live run of an IOMMU tag's address space belongs to a loaded map of the tag, and has
+/// the frames of the load's bytes. This holds when a scenario opens, each turn of any actor in a well-formed world
+/// keeps it, and so it holds of each world to which the entries of a journal lead from the opening of a valid scenario.
 pub fn device_runs_are_loads()
     ensures opens { (s : Scenario) → EachDriver (λ i l. AreLoadRuns l) (opening_world s) }
     ensures stays { (s : Scenario) (w : WorldState) (actor : Actor) → IsWellFormed s w →
@@ -25,8 +25,8 @@ pub fn device_runs_are_loads()
         Leads (opening_world s) entries end → EachDriver (λ i l. AreLoadRuns l) end }
 {}
 
-/// Each byte of a live device page is its driver's own, also one that no load has: its device finds no byte there that
-/// another driver holds.
+/// Each byte of a live device page is held by the device's own driver, even a byte that no load has. So the device
+/// finds no byte there that another driver holds.
 pub fn device_pages_are_isolated()
     ensures held { (s : Scenario) (w : WorldState) (i : ℕ) (l : LaneState) (t addr byte : ℕ) → IsWellFormed s w →
         EachDriver (λ i l. AreLoadRuns l) w → slice_get w.lanes i ≡ Some l →

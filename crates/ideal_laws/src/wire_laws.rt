@@ -19,7 +19,7 @@ ghost use Rattle.ideal_wire.specs.Spaced.{AreSpaced};
 ghost use Rattle.ideal_wire.specs.WireStep.{load_buses, synced};
 ghost use Rattle.ideal_laws.specs.RawReached.{IsJudgedByte};
 
-/// A sync of a load of an IOMMU tag's map copies no byte, and is not counted.
+/// A sync of a load of an IOMMU tag's map copies no byte and is not counted.
 pub fn device_loads_copy_nothing()
     ensures wire { (l : LaneState) (m off len ops : ℕ) (o : LaneMap) (w : Wire) → Stands l → AreLaid l →
         get l.maps m ≡ Some o → is_device l o ≡ true → synced m off len ops l w ≡ w }
@@ -27,14 +27,16 @@ pub fn device_loads_copy_nothing()
         get l.maps m ≡ Some o → is_device l o ≡ true → copies off len ops o.stage ≡ false }
 {}
 
-/// A raw access that is not refused is judged by the position of a byte of a load of the tag, and reaches that byte.
+/// A raw access that is not refused is judged by the position of a byte of one of the tag's loads, and reaches that
+/// byte.
 pub fn raw_accesses_land_where_they_are_judged()
     ensures { (l : LaneState) (t a : ℕ) (unlent : ReportName) (refusal : Position → Option ReportName) →
         Stands l → AreLaid l → AreSpaced l → AreMapped l → raw_refusal unlent refusal l t a ≡ None →
         IsJudgedByte l t a refusal }
 {}
 
-/// The range of a load that a descriptor names has the bus addresses that the descriptor names.
+/// If a load has the range that a descriptor names, the bytes of the load there have the bus addresses that the
+/// descriptor names.
 pub fn named_ranges_are_found()
     ensures { (l : LaneState) (m : ℕ) (o : LaneMap) (addr len at : ℕ) → AreLaid l → get l.maps m ≡ Some o →
         is_device l o ≡ false → place_of addr len (segments_in o.stage) ≡ Some at →

@@ -1,4 +1,4 @@
--- A map lies as it lay, where a step leaves its stage, the bytes of its load and what its tag says.
+-- A map is laid as before if a step leaves its stage, the bytes of its load and what its tag says.
 use mathlib.Core.Logic.{∥∥₁_map}
 use Rattle.std.proofs.Common.{◌≡◌, ◌≢◌, ℕ, false, List, Option, Some, None, is_some, inl, inr}
 use Rattle.std.proofs.Common.{refl, ap, sym, ◌∙◌, subst}
@@ -43,12 +43,12 @@ pub record KeepsRest (l l' : LaneState) : Type 0 where
   pub own : (a : ℕ) → is_some (l'.memory a) ≡ is_some (l.memory a)
   pub mems : l'.mems ≡ l.mems
 
--- what the tag of a map says stays
+-- what the tag of a map says is unchanged
 abbrev pub KeepsLimits : LaneState → LaneState → ℕ → Type 0
 KeepsLimits l l' n = (o' : LaneMap) → get l'.maps n ≡ Some o' →
     (o : LaneMap) × (get l.maps n ≡ Some o) × (limits_of l' o' ≡ limits_of l o)
 
--- what it leaves of a map: its stage, the bytes of its load, and what its tag says of limits and device
+-- what is unchanged of a map: its stage, the bytes of its load, and what its tag says of limits and device
 pub record IsAlike (l l' : LaneState) (n : ℕ) : Type 0 where
   pub stage : stage_at l' n ≡ stage_at l n
   pub coherent : (loan_of l'.loans n).coherent ≡ (loan_of l.loans n).coherent
@@ -121,7 +121,7 @@ module _ (l l' : LaneState) (kept : KeepsRest l l') where
   own-on a (OfPages e) = OfPages (ap (λ p. is_own p a) kept.pages ∙ e)
   own-on a (OfMemory k x there e) = OfMemory k x ((λ i. get (kept.mems i) k) ∙ there) e
 
-  -- the loads are laid where each map lies, and what the tags of memories' maps say stays
+  -- the loads are laid if each map is laid and what the tags of memories' maps say is unchanged
   pub all-laid : AreLaid l → ((n : ℕ) (x : LaneMemory) → get l.mems n ≡ Some x → KeepsLimits l l' n) →
       ((n : ℕ) → LiesIn l' n (stage_at l' n)) → AreLaid l'
   all-laid laid limits each = record {
@@ -135,7 +135,7 @@ module _ (l l' : LaneState) (kept : KeepsRest l l') where
     each = each;
   }
 
-  -- so they are where one map alone does not lie as it lay
+  -- the loads are laid if all maps but one are laid as before
   pub one-changed : AreLaid l → (m : ℕ) → ((n : ℕ) → n ≢ m → IsAlike l l' n) →
       ((x : LaneMemory) → get l.mems m ≡ Some x → KeepsLimits l l' m) → LiesIn l' m (stage_at l' m) → AreLaid l'
   one-changed laid m others own here = all-laid laid limits by

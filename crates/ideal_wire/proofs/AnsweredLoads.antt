@@ -173,7 +173,7 @@ module _ (l : LaneState) (m : ℕ) (o : LaneMap) (there : get l.maps m ≡ Some 
       by true few = load-is (finds few) (accepted few)
       by false many = tt
 
--- a map with a zone is none of an IOMMU tag
+-- a map with a zone is not an IOMMU tag's
 pub zoned-plain : (l : LaneState) → Stands l → (m z : ℕ) (o : LaneMap) → get l.maps m ≡ Some o → o.zone ≡ Some z →
     is_device l o ≡ false
 zoned-plain l stands m z o there zone =
@@ -184,7 +184,7 @@ zoned-plain l stands m z o there zone =
     by false h = refl
     by true h = let none : o.zone ≡ None = h refl in absurd (cc)
 
--- of a map that is no IOMMU tag's
+-- the chunks of a map that is not an IOMMU tag's
 plain-chunks : (l : LaneState) (m : ℕ) (o : LaneMap) (es : List Entry) → is_device l o ≡ false → (c : Bool) →
     contains_key l.mems m ≡ c → chunks_for l o c es ≡ chunks_of_load l o (contains_key l.mems m) es
 plain-chunks l m o es plain c of-memory =
@@ -198,7 +198,7 @@ plain-finds l o plain l' tags =
     ap (λ ts. option_map_or (λ (t : LaneTag). t.device) (get ts o.tag) false) tags ∙ plain in
     λ i a. if sym off i then translated (l'.spaces o.tag) a else Some a
 
--- of a load of the driver's pages
+-- the segments of a load of the driver's pages
 pub ends-answered : (l : LaneState) → AreLaid l → IsInMachine l → Stands l → (m : ℕ) (o : LaneMap)
     (there : get l.maps m ≡ Some o) (plain : is_device l o ≡ false) (direct : contains_key l.mems m ≡ false)
     (b : Bio) → IsBioOf l.pages b →
@@ -219,7 +219,7 @@ ends-answered l laid machine stands m o there plain direct b named at now items 
     (tags (fits l m o at (asked m b now items l) (chunks_for l o false (load_entries l b)) pages)))
     refl
 
--- of a load of a memory's own map, of which no byte bounces
+-- the segments of a load of a memory's own map, of which no byte bounces
 pub ends-memory : (l : LaneState) → AreLaid l → IsInMachine l → Stands l → (m : ℕ) (o : LaneMap)
     (there : get l.maps m ≡ Some o) (plain : is_device l o ≡ false) (y : LaneMemory)
     (memory : get l.mems m ≡ Some y) (b : Bio) (at : ℕ) (now : Bool)

@@ -113,7 +113,7 @@ module _ (l : LaneState) (a : Account) (stands : Stands l) (agrees : AgreesWith 
   some-frames zero e = absurd (cc)
   some-frames (suc n) e = omega arith
 
-  -- where the script is at its next place
+  -- the driver with its script at the next place
   abbrev moved : LaneState → LaneState
   moved k = record k { place = l.place + 1; due = false }
 
@@ -132,7 +132,7 @@ module _ (l : LaneState) (a : Account) (stands : Stands l) (agrees : AgreesWith 
     abbrev ending : Bool → List ℕ → Outcome
     ending memory pages = finished b.m b.o l.place (asks b) (chunks_for l b.o memory (asks b).entries) pages l
 
-    -- of another map than a memory's own it ends with pages that the device reaches
+    -- a load of a map that is not a memory's own ends with pages that the device reaches
     direct-answers : is_device l b.o ≡ false → get l.mems b.m ≡ None → (pages : List ℕ) →
         ArePagesFor (limits_of l b.o) (chunks_for l b.o false (asks b).entries) pages →
         AreIts (ending (contains_key l.mems b.m) pages)
@@ -188,7 +188,7 @@ module _ (l : LaneState) (a : Account) (stands : Stands l) (agrees : AgreesWith 
                   ∙ served b.m z b.o b.there zone) (named l b.m) (need_of (chunks b)) (asks b).nowait pages e);
             })
 
-    -- of an IOMMU tag's map
+    -- the segments of a load of an IOMMU tag's map
     module _ (device : is_device l b.o ≡ true) where
       abbrev es : List Entry
       es = load_entries l b.bio
@@ -373,13 +373,13 @@ module _ (l : LaneState) (a : Account) (stands : Stands l) (agrees : AgreesWith 
         ap (option_and_then (λ p. load_asked_by p l)) (here b at)
         ∙ ap (option_map (λ y. record { map = b.m; bio = y })) b.found
 
-    -- of its map it is enough to say what is loaded
+    -- it is enough to say what is loaded of the load's map
     answers-load : (k : Outcome) → IfSegments k.answer (AreLoaded l (moved k.lane) b.m b.bio) → Answers k
     answers-load k h =
         if-so k.answer (AreLoaded l (moved k.lane) b.m b.bio) (λ ss. AreOf l (moved k.lane) (did.Op l.place) ss)
         (λ ss g. subst (λ q. AreAnswered l (moved k.lane) q ss) (sym load-here) g) h
 
-  -- that of a send from its clusters
+  -- the load of a send from its clusters
   module _ (s : Send) (b : Begins l (Operation (again s))) where
     abbrev AreAgain : Outcome → Type 0
     AreAgain k = IfSegments k.answer (AreLoaded l (moved k.lane) s.map (Vector s.clusters))

@@ -49,7 +49,7 @@ pub enumerated : {X : Type 0} (P : X → Type 0) (n : ℕ) (xs : List X) → All
 enumerated P n [] h = tt
 enumerated P n (x ∷ xs) h = (h.0, enumerated P (n + 1) xs h.1)
 
--- where nothing is refused all is fine
+-- if nothing is refused, all is fine
 pub all-fine : {X : Type 0} (refusal : X → Option ReportName) (at : ℕ) (xs : List X) →
     AllByRecursion (λ x. refusal x ≡ None) xs → judged refusal at xs ≡ Fine
 all-fine refusal at [] h = refl
@@ -116,7 +116,7 @@ direct-bytes l m b none fine = all-from _ (bio_places b) (λ k va e. one b k va 
     one (Vector spans) k va r = mapped k va r
     one (Unmapped frames off len) k va r = (r.0, r.1)
 
--- such bytes are judged fine, where no byte of pages is one of a memory
+-- such bytes are judged fine if no byte of pages is one of a memory
 module _ (l : LaneState) (outside : (va p : ℕ) → physical_in l.pages va ≡ Some p → is_memory_byte l va ≡ false) where
   not-foreign : (b : Bio) (k va p : ℕ) → pages_translation l b va ≡ Some p → is_foreign_in b None l k va ≡ false
   not-foreign (Mapped span) k va p e = outside va p e
@@ -133,14 +133,14 @@ module _ (l : LaneState) (outside : (va p : ℕ) → physical_in l.pages va ≡ 
       (λ x r i. load_refusal (not-foreign b x.0 x.1 r.0 r.1 i) (with-pages l b x.1 r.0 r.1 i))
       (enumerate_from 0 (bio_places b)) (enumerated (IsOfPages l b) 0 (bio_places b) own))
 
--- the entries of bytes of the driver's pages are those by the pages alone
+-- the entries of bytes of the driver's pages are the entries by these pages only
 pub pages-entries : (l : LaneState) (b : Bio) → AreOfPages l b →
     entries_of (is_rounded b) (pages_translation l b) (bio_spans b) ≡ load_entries l b
 pages-entries l b own =
     same-entries (pages_translation l b) (load_translation l b) (is_rounded b) (bio_spans b)
     (all-of (IsOfPages l b) _ (λ va r. r.1 ∙ sym (with-pages l b va r.0 r.1)) (bio_places b) own)
 
--- such bytes are so, and the other way round
+-- the bytes of a bio are of the driver's pages if they are translated by these pages, and the other way round
 pub are-in-pages : (l : LaneState) (b : Bio) → AreOfPages l b → AreInPages l.pages b
 are-in-pages l b own = all-of (IsOfPages l b) _ (λ va r. ap is_some r.1) (bio_places b) own
 
@@ -161,7 +161,7 @@ module _ (l : LaneState) (laid : AreLaid l) (machine : IsInMachine l) (stands : 
   eff : IsEffective t
   eff = limits-effective l machine stands m o there
 
-  -- of bytes of the driver's pages, with its pages
+  -- a load of bytes of the driver's pages can end with its pages
   pub direct-ready : get l.mems m ≡ None → (b : Bio) → IsBioOf l.pages b → AreOfPages l b →
       (pages : List ℕ) → AllByRecursion IsPage (as_pages pages) →
       length pages ≡ need_of (chunks_of t l.maxmem (load_entries l b)) →

@@ -28,7 +28,7 @@ pub data IsDone (l : LaneState) : Work → Type 0 where
   Next : {d : Work} → IsNext l d → IsDone l d
   Again : (s : Send) → IsDone l (Operation (again s))
 
--- the frames that it names are of these pages
+-- the frames that an operation names are of these pages
 abbrev IsFrom : List PageRun → Work → Type 0
 IsFrom pages (Operation o) = LoadsFrom pages o
 IsFrom pages (Transfer i) = Unit {0}
@@ -43,7 +43,7 @@ done-from : (l : LaneState) → IsInMachine l → {d : Work} → IsDone l d → 
 done-from l machine {d} (Next at) = next-from l machine d at
 done-from l machine (Again s) = tt
 
--- so are those of the bio of a load
+-- the frames that the bio of a load names are of the driver's pages
 pub begun-bio : (l : LaneState) → IsInMachine l → {d : Work} (b : Begins l d) → IsDone l d → IsBioOf l.pages b.bio
 begun-bio l machine b at =
     bio-named l.pages l b.buffer b.bio b.found (subst (IsFrom l.pages) b.is (done-from l machine at))
@@ -63,14 +63,14 @@ never-waits (Operation (op.Load m x flags items)) = never_waits x flags
 never-waits _ = false
 
 module _ (l : LaneState) (s : Send) (b : Begins l (Operation (again s))) where
-  -- it is of the send's map, and of its clusters
+  -- the load is of the send's map and of its clusters
   pub again-map : s.map ≡ b.m
   again-map = ap map-of b.is
 
   pub again-bio : Vector s.clusters ≡ b.bio
   again-bio = found_one (bio-of l (Operation (again s))) (Vector s.clusters) b.bio refl (ap (bio-of l) b.is ∙ b.found)
 
-  -- it never waits
+  -- the load never waits
   again-now : true ≡ never_waits b.buffer b.flags
   again-now = ap never-waits b.is
 

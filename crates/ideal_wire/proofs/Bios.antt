@@ -30,7 +30,7 @@ or-right : (b c : Bool) → c ≡ true → (b || c) ≡ true
 or-right true c h = refl
 or-right false c h = h
 
--- each byte of a frame of pages is one of theirs
+-- each byte of a frame of pages is a byte of these pages
 frame-own : (runs : List PageRun) (f i : ℕ) → i < 4096 → has_frame runs f ≡ true → is_own runs (4096 * f + i) ≡ true
 frame-own [] f i small h = absurd (cc)
 frame-own (r ∷ runs) f i small h = by within refl (frame-own runs f i small) h
@@ -56,7 +56,7 @@ frame-own (r ∷ runs) f i small h = by within refl (frame-own runs f i small) h
         λ i. (begin i && end i) || is_own runs a
     by false e rest g = or-right here (is_own runs a) (rest g)
 
--- it lies below the end of memory
+-- a frame of pages is below the end of memory
 frame-below : (maxmem : ℕ) (runs : List PageRun) (f : ℕ) → AllByRecursion (IsOfMachine maxmem) runs →
     has_frame runs f ≡ true → f < maxmem
 frame-below maxmem [] f all h = absurd (cc)
@@ -98,14 +98,14 @@ frames-own runs frames k p all h = by (slice_get frames (k / 4096)) refl h
 abbrev pub bio_places : Bio → List ℕ
 bio_places b = span_addresses (bio_spans b)
 
--- each byte of a bio lies in the driver's memory
+-- each byte of a bio is the driver's own
 pub bio-own : (l : LaneState) → AreLaid l → (b : Bio) → IsBioOf l.pages b → (va p : ℕ) →
     load_translation l b va ≡ Some p → IsOwnByte l p
 bio-own l laid (Mapped span) named va p h = reaches l laid va p h
 bio-own l laid (Vector spans) named va p h = reaches l laid va p h
 bio-own l laid (Unmapped frames off len) named va p h = OfPages (frames-own l.pages frames va p named.1 h)
 
--- its bytes keep pages
+-- the bytes of a bio keep pages
 pub bio-paged : (l : LaneState) → AreLaid l → IsInMachine l → (b : Bio) → IsBioOf l.pages b →
     IsPaged (λ p. Unit {0}) (load_translation l b)
 bio-paged l laid machine (Mapped span) named = paged l laid machine
@@ -116,7 +116,7 @@ bio-paged l laid machine (Unmapped frames off len) named =
 
 -- ---- bytes of the driver's pages
 
--- where the bytes of a bio lie that are of the driver's pages
+-- the addresses of the bytes of a bio, by the driver's pages only
 abbrev pub pages_translation : LaneState → Bio → Translation
 pages_translation l b = bio_translation (physical_in l.pages) b
 
@@ -124,7 +124,7 @@ pages_translation l b = bio_translation (physical_in l.pages) b
 abbrev pub IsOfPages : LaneState → Bio → ℕ → Type 0
 IsOfPages l b va = (p : ℕ) × (pages_translation l b va ≡ Some p)
 
--- each byte of a bio is
+-- each byte of a bio is of the driver's pages
 abbrev pub AreOfPages : LaneState → Bio → Type 0
 AreOfPages l b = AllByRecursion (IsOfPages l b) (bio_places b)
 

@@ -41,7 +41,7 @@ bio-named pages l (buffer.Send chain clusters) b e h =
     subst (IsBioOf pages) (found_one (Some (bio.Vector chain)) (bio.Vector chain) b refl e) tt
 bio-named pages l (buffer.Bio c) b e h = subst (IsBioOf pages) (found_one (Some c) c b refl e) h
 
--- a buffer is told by a memory, or has one bio in each state of the driver
+-- a buffer is a range of a memory, or has the same bio in each state of the driver
 pub data Told (x : Buffer) : Type 0 where
   Within : (mem off len : ℕ) → x ≡ buffer.Flat (In mem off) len → Told x
   Alone : (b : Bio) → ((l : LaneState) → bio_at l x ≡ Some b) → Told x

@@ -78,7 +78,7 @@ bus-cases (c ∷ cs) (p ∷ ps) k pa z = by (has_place k c) refl (bus-cases cs p
       high = s.high;
     })
 
--- what stands at a place of a trace
+-- what is at a place of a trace
 pub placed-at : (cs : List Chunk) (at : ℕ) (pas : List ℕ) (i : ℕ) (t : Placed) →
     slice_get (placed_from cs at pas) i ≡ Some t →
     (slice_get pas i ≡ Some t.pa) × (t.bus ≡ bus_at cs (at + i) t.pa)

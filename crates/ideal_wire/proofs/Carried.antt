@@ -47,9 +47,9 @@ are-bused l laid m i t h = by (lies-of l laid m i t h)
         inr (ap (λ s. is_in_pages (pages_of s) t.bus) x.stage
         ∙ any_at (λ p. in_run p 1 t.bus) x.pages e.index e.page e.has_page inside)
 
--- a map that lends after the step has the loan that it had and stands as it stood; a byte of a load that is Known after
+-- a map that lends after the step has the same loan and the same stage as before; a byte of a load that is Known after
 -- the step was Known; any other byte that is Known after it was Known or came with it; and a byte that is Known after
--- it is lent to write where it was
+-- it and was lent to write is still lent to write
 pub record Carries (l l' : LaneState) : Type 0 where
   pub loan : (n i : ℕ) (p : Position) → IsAt l'.loans n i p → in_any_way p ≡ true →
       (loan_of l'.loans n ≡ loan_of l.loans n) × (stage_at l' n ≡ stage_at l n)
@@ -61,7 +61,7 @@ pub record Carries (l l' : LaneState) : Type 0 where
   pub idle : (n i : ℕ) (p : Position) → (loan_of l'.loans n).coherent ≡ true → IsAt l'.loans n i p →
       in_any_way p ≡ false
 
--- so the wire stays faithful where pages come and go
+-- the wire stays faithful when pages come and go
 module _ (l l' : LaneState) (w w' : Wire) (bused : AreBused l) (f : IsFaithful l w) (c : Carries l l')
     (h : Follows l l' w w') where
   was_at : (n i : ℕ) (p : Position) → loan_of l'.loans n ≡ loan_of l.loans n → IsAt l'.loans n i p → IsAt l.loans n i p
@@ -81,7 +81,7 @@ module _ (l l' : LaneState) (w w' : Wire) (bused : AreBused l) (f : IsFaithful l
   own_stays : (a v : ℕ) → l.memory a ≡ Some (Known v) → l'.memory a ≡ Some (Known v) → w' a ≡ w a
   own_stays a v was is = h.own a (ap is_some was) (ap is_some is)
 
-  -- so does what stands at the bus address of a Known byte
+  -- the byte at the bus address of a Known byte stays
   bus_stays : (n i v : ℕ) (p : Position) (t : Placed) → stage_at l' n ≡ stage_at l n → IsAt l.loans n i p →
       IsPlacedAt (traces_of l) n i t → l'.memory p.pa ≡ Some (Known v) → w' t.bus ≡ w t.bus
   bus_stays n i v p t stage at placed is = by (bused n i t placed)
@@ -98,7 +98,7 @@ module _ (l l' : LaneState) (w w' : Wire) (bused : AreBused l) (f : IsFaithful l
           own_stays t.bus v (ap l.memory (e ∙ sym same) ∙ c.held n i v p at is) (ap l'.memory (e ∙ sym same) ∙ is)
       by (inr e) = h.pages n t.bus e (ap (λ s. is_in_pages (pages_of s) t.bus) stage ∙ e)
 
-  -- a byte that is Known and not lent to write stands there, where it was Known or came
+  -- a byte that is Known and not lent to write has its value there, if it was Known or came
   kept_stays : (a v : ℕ) → lent to_write a l'.loans ≡ false → l'.memory a ≡ Some (Known v) →
       (l.memory a ≡ Some (Known v)) ⊎ (l.memory a ≡ None) → w' a ≡ v
   kept_stays a v free is (inl was) =
@@ -135,7 +135,7 @@ module _ (l l' : LaneState) (w w' : Wire) (bused : AreBused l) (f : IsFaithful l
     };
   }
 
--- ---- where a map stands after another one was put or cut
+-- ---- the stage of a map after another map was put or cut
 pub put-stage : (l : LaneState) (m n : ℕ) (x : LaneMap) → n ≢ m →
     stage_in (get (insert l.maps m x) n) ≡ stage_in (get l.maps n)
 put-stage l m n x off = ap stage_in (get_put l.maps m x n ∙ ap (λ b. cond b (Some x) (get l.maps n)) (ne_eqb n m off))
@@ -143,7 +143,7 @@ put-stage l m n x off = ap stage_in (get_put l.maps m x n ∙ ap (λ b. cond b (
 pub cut-stage : (l : LaneState) (m n : ℕ) → n ≢ m → stage_in (get (remove l.maps m) n) ≡ stage_in (get l.maps n)
 cut-stage l m n off = ap stage_in (get_cut l.maps m n ∙ ap (λ b. cond b None (get l.maps n)) (ne_eqb n m off))
 
--- ---- a step that changes no loan, and at most where a map stands that is not loaded
+-- ---- a step that changes no loan, and at most the stage of a map that is not loaded
 pub like-carries : (l l' : LaneState) → IsExclusive l.loans → l'.loans ≡ l.loans →
     ((a v : ℕ) → l'.memory a ≡ Some (Known v) → (l.memory a ≡ Some (Known v)) ⊎ (l.memory a ≡ None)) →
     ((n i v : ℕ) (p : Position) → IsAt l.loans n i p → l'.memory p.pa ≡ Some (Known v) →
@@ -161,14 +161,14 @@ like-carries l l' e loans known held stages = record {
       ∙ c) (sym (λ x. slice_get (loan_of (loans x) n).positions i) ∙ at);
 }
 
--- no byte comes
+-- no byte comes to the driver
 pub fewer-carries : (l l' : LaneState) → IsExclusive l.loans → l'.loans ≡ l.loans →
     ((a v : ℕ) → l'.memory a ≡ Some (Known v) → l.memory a ≡ Some (Known v)) →
     ((n i : ℕ) (p : Position) → IsAt l.loans n i p → stage_at l' n ≡ stage_at l n) → Carries l l'
 fewer-carries l l' e loans known stages =
     like-carries l l' e loans (λ a v is. inl (known a v is)) (λ n i v p at is. known p.pa v is) stages
 
--- nor does any go
+-- no byte leaves the driver
 pub same-carries : (l l' : LaneState) → IsExclusive l.loans → l'.loans ≡ l.loans → l'.memory ≡ l.memory →
     ((n i : ℕ) (p : Position) → IsAt l.loans n i p → stage_at l' n ≡ stage_at l n) → Carries l l'
 same-carries l l' e loans memory stages = fewer-carries l l' e loans (λ a v is. sym (λ x. memory x a) ∙ is) stages
@@ -180,7 +180,7 @@ no-position l m n i p none e at =
     sym (λ x. slice_get (none x).positions i) ∙ ((λ x. slice_get (loan_of l.loans (sym e x)).positions i) ∙ at) in
     absurd (cc)
 
--- all maps but one that lends nothing stand as they stood
+-- all maps but one that lends nothing have their stage
 pub but-one : (l l' : LaneState) (m : ℕ) → loan_of l.loans m ≡ no_loan →
     ((n : ℕ) → n ≢ m → stage_at l' n ≡ stage_at l n) →
     (n i : ℕ) (p : Position) → IsAt l.loans n i p → stage_at l' n ≡ stage_at l n

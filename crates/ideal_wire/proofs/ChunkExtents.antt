@@ -1,4 +1,4 @@
--- Each extent of a chunk lies in one frame.
+-- Each extent of a chunk is in one frame.
 use Rattle.std.proofs.Common.{◌≡◌, ◌≢◌, ℕ, zero, suc, ◌+◌, ◌-◌, ◌%◌, ◌^◌, ◌<◌, ◌≤◌, min, Bool, true, false, cond, List}
 use Rattle.std.proofs.Common.{[], ◌∷◌, ◌++◌, length, take, drop, Option, Some, None, refl, ap, sym, ◌∙◌, subst, arith}
 use Rattle.std.proofs.Common.{inl, inr}
@@ -26,7 +26,7 @@ use Rattle.ideal_wire.proofs.Positions.{found_one}
 
 -- ---- addresses of bytes that follow one another in frames
 
--- the address behind the last of a frame begins one, and any other is the next
+-- the address after the last one of a frame begins a frame, and any other is the next address
 abbrev Step : ℕ → ℕ → Type 0
 Step a b = ((a + 1) % 4096 ≡ 0 → b % 4096 ≡ 0) × ((a + 1) % 4096 ≢ 0 → b ≡ a + 1)
 

@@ -26,7 +26,7 @@ use Rattle.ideal_wire.proofs.Reaching.{each-byte}
 use Rattle.ideal_wire.proofs.Twins.{HasNoTwins, no-twins, values-written}
 
 module _ (l : LaneState) (laid : AreLaid l) (s : Send) where
-  -- each byte of spans that may be loaded lies where the driver reaches it
+  -- each byte of spans that may be loaded is at an address that the driver reaches
   pub byte-at : (spans : List Span) → load_judged l s.map (Vector spans) ≡ Fine → (k a : ℕ) →
       slice_get (load_addresses l (Vector spans)) k ≡ Some a →
       (va : ℕ) × (slice_get (span_addresses spans) k ≡ Some va) × (physical l va ≡ Some a)
@@ -44,14 +44,14 @@ module _ (l : LaneState) (laid : AreLaid l) (s : Send) where
           sym (ap (λ o. unwrap_or o 0) r.1) ∙ found_one (Some (physical_or_0 (physical l) va)) _ a refl g in
           (va, f, r.1 ∙ ap (λ y. Some y) at)
 
-  -- so it is the driver's own
+  -- each byte of spans that may be loaded is the driver's own
   pub bytes-own : (spans : List Span) → load_judged l s.map (Vector spans) ≡ Fine → (k a : ℕ) →
       slice_get (load_addresses l (Vector spans)) k ≡ Some a → is_some (l.memory a) ≡ true
   bytes-own spans fine k a e = let r = byte-at spans fine k a e in laid.owned a (reaches l laid r.0 a r.2)
 
   module _ (apart : IsApart l) (machine : IsInMachine l) (has : AreClustersFor s.chain s.clusters)
       (fine : load_judged l s.map (Vector s.clusters) ≡ Fine) where
-    -- no byte of the clusters stands twice
+    -- no byte of the clusters is there twice
     clusters-once : HasNoTwins (cluster_bytes s l)
     clusters-once i j a e f =
         let x = byte-at s.clusters fine i a e in

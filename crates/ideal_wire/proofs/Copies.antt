@@ -1,4 +1,4 @@
--- What stands where bytes were put, in the wire and in the ideal memory.
+-- What is at the addresses where bytes were put, in the wire and in the ideal memory.
 use Rattle.std.proofs.Common.{◌≡◌, ℕ, zero, suc, Bool, true, false, cond, ◌==◌, List, [], ◌∷◌, map, take, drop}
 use Rattle.std.proofs.Common.{slice_get, Option, Some, None, refl, sym, ap, ◌∙◌, eq-eqb}
 use Rattle.std.specs.Option.{option_map}
@@ -18,7 +18,7 @@ known_value None h = absurd (cc)
 known_value (Some (Known v)) h = refl
 known_value (Some Unknown) h = absurd (cc)
 
--- a byte that is written is Known with what was written, where it is the driver's own
+-- a byte that is written is Known with what was written, if it is the driver's own
 writes : (y : ℕ) (o : Option Content) (v : ℕ) → option_map (λ (c : Content). Known y) o ≡ Some (Known v) → y ≡ v
 writes y None v h = absurd (cc)
 writes y (Some c) v h = one_value y v h

@@ -1,4 +1,4 @@
--- The segments of an IOMMU tag's load are its bytes, as the device finds them, and obey the tag.
+-- The segments of an IOMMU tag's load are the bytes of the load, to its device, and obey the tag.
 use Rattle.std.proofs.Common.{◌≡◌, ℕ, ◌*◌, ◌≤◌, Bool, true, false, List, [], ◌∷◌}
 use Rattle.std.proofs.Common.{length, map, Option, Some, refl, ap, sym, ◌∙◌, subst}
 use Rattle.std.proofs.Common.{nat_le}

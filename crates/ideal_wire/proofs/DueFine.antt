@@ -1,4 +1,4 @@
--- The bytes of the chain may be loaded of a send whose resend is due, after each turn.
+-- After each turn, the bytes of the chain of a send whose resend is due may be loaded.
 use Rattle.std.proofs.Common.{◌≡◌, ℕ, true, false, if◌then◌else◌, List, Option, Some, None, refl, ap, sym, ◌∙◌, subst}
 use Rattle.std.specs.Option.{option_and_then}
 use Rattle.busdma_machine.specs.declared.bounce.hold.HubCall.{HubCall}
@@ -25,14 +25,14 @@ use Rattle.ideal_wire.specs.Machine.{IsDueFine}
 use Rattle.ideal_wire.proofs.Positions.{found_one}
 use Rattle.ideal_wire.proofs.SameBytes.{judged-same}
 
--- where none is due
+-- if no resend is due
 pub not-due : (k : LaneState) → k.due ≡ false → IsDueFine k
 not-due k off s e =
     let none : due_send k ≡ None = ap (λ b. if b then send_at k.script k.place else None) off in
     let gone : None ≡ Some s = sym none ∙ e in
     absurd (cc)
 
--- a driver has the pages and memories of another, and its script stands where the other's stands
+-- a driver has the pages, the memories, the script and the place of another
 record KeepsDue (l k : LaneState) : Type 0 where
   mems : k.mems ≡ l.mems
   pages : k.pages ≡ l.pages
@@ -62,7 +62,7 @@ module _ (l : LaneState) (fine : IsDueFine l) where
   callback-keeps n (Touched t) = touches-keep t
   callback-keeps n _ = record { mems = refl; pages = refl; script = refl; place = refl; due = refl }
 
-  -- where a send is kept, it is the one that is due
+  -- if a send is kept, it is the one that is due
   kept-due : (k : LaneState) → KeepsDue l k → (s : Send) → send_at l.script l.place ≡ Some s →
       load_judged l s.map (Vector s.chain) ≡ Fine → IsDueFine (record k { due = true })
   kept-due k keeps s at may t here =

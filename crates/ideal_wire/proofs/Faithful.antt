@@ -1,4 +1,4 @@
--- What is known of the positions of loads where the wire is faithful.
+-- What is known of the positions of loads if the wire is faithful.
 use Rattle.std.proofs.Common.{◌≡◌, ℕ, Bool, true, false, ◌||◌, slice_get, refl, sym, ap, ◌∙◌}
 use Rattle.std.proofs.lemmas.Bool.{false≢true}
 use Rattle.busdma_rules.specs.declared.position.Position.{Position}
@@ -21,7 +21,7 @@ read_any p h = ap (λ b. b || p.to_write) h
 
 -- ---- loans, traces and pages
 module _ (own : ℕ → Bool) (l : LaneState) (traces : Traces) (placed : ArePlaced own l traces) where
-  -- where a position stands in its trace
+  -- the place of a position in its trace
   pub place_of : (m i : ℕ) (p : Position) → IsAt l.loans m i p →
       Twin (λ (p : Position). p.pa) (λ (t : Placed). t.pa) (traces m) i p
   place_of m i p h =
@@ -51,7 +51,7 @@ module _ (own : ℕ → Bool) (l : LaneState) (traces : Traces) (placed : ArePla
   pub own_bus : (m i a : ℕ) (t : Placed) → IsPlacedAt traces m i t → own a ≡ true → a ≡ t.bus → a ≡ t.pa
   own_bus m i a t h k e = e ∙ placed.unbounced m i t h (sym (ap own e) ∙ k)
 
-  -- one bus address is that of one byte
+  -- a bus address belongs to one byte only
   pub bus_of_one : (m n i j : ℕ) (t u : Placed) → IsPlacedAt traces m i t →
       IsPlacedAt traces n j u → t.bus ≡ u.bus → t.pa ≡ u.pa
   bus_of_one m n i j t u h k e = by (own t.bus) refl

@@ -57,7 +57,7 @@ not_missing : (o : Option ℕ) → missing o ≡ None → o ≡ Some (unwrap_or 
 not_missing None h = absurd (cc)
 not_missing (Some pa) h = refl
 
--- what the driver reads, where each Known byte that is not lent to write stands in the wire
+-- what the driver reads, if each Known byte that is not lent to write is in the wire
 pub cpu_read_of : (l : LaneState) (w : Wire) (bytes : List ℕ) →
     ((a v : ℕ) → lent to_write a l.loans ≡ false → l.memory a ≡ Some (Known v) → w a ≡ v)
     → cpu_read_answer (is_known l.memory) l.loans bytes ≡ Fine → values l bytes ≡ map w bytes
@@ -95,7 +95,7 @@ module _ (own : ℕ → Bool) (l : LaneState) (traces : Traces) (w : Wire) (f : 
         (sym (cpu_write_passes (lent in_any_way a l.loans) CpuWriteLent
         (fine_at (cpu_write_refusal l.loans) 0 bytes free k a at)) ∙ lent_by in_any_way a l.loans m i p h e any)
 
-    -- so no bus address of a position that lends is written
+    -- no bus address of a position that lends is written
     apart : (m i : ℕ) (p : Position) (t : Placed) → IsAt l.loans m i p → IsPlacedAt traces m i t →
         in_any_way p ≡ true → (k a : ℕ) → slice_get bytes k ≡ Some a → (p.pa == a) ≡ (t.bus == a)
     apart m i p t h g any k a at =
@@ -144,7 +144,7 @@ module _ (own : ℕ → Bool) (l : LaneState) (traces : Traces) (w : Wire)
       same_range (λ (p : Position). p.pa) (λ (t : Placed). t.pa) off len
       (loan_of l.loans m).positions (traces m) (sym (f.placed.buffer m))
 
-  -- a place of the range: the position, and where it stands in the trace
+  -- a place of the range: the position, and its place in the trace
   record At (k : ℕ) (t : Placed) : Type 0 where
     position : Position
     in_range : slice_get (stretch off len (loan_of l.loans m).positions) k ≡ Some position

@@ -1,4 +1,4 @@
--- Accesses by a device to bytes of loads, wherever these stand: of a faithful wire.
+-- Accesses by a device to bytes of loads, at any places, of a faithful wire.
 use Rattle.std.proofs.Common.{◌≡◌, ℕ, Bool, true, false, ◌==◌, List, map, slice_get, Some, ◌⊎◌, inl, inr, refl, sym}
 use Rattle.std.proofs.Common.{ap, ◌∙◌}
 use Rattle.std.proofs.lemmas.Bool.{false≢true}
@@ -15,8 +15,8 @@ use Rattle.ideal_wire.proofs.Lent.{lender_of, lent_by}
 use Rattle.ideal_wire.proofs.Placed.{Faithful}
 use Rattle.ideal_wire.proofs.Positions.{twin_of}
 
--- a byte of a load, by its physical and its bus address: the place of a map's load where it stands, of which the map is
--- coherent or the position is lent in a way
+-- a byte of a load, by its physical and its bus address: its place in a map's load. The map is coherent, or the
+-- position is lent in some way
 pub record Spot (l : LaneState) (traces : Traces) (way : Position → Bool) (pa bus : ℕ) : Type 0 where
   pub by_map : ℕ
   pub place : ℕ
@@ -33,7 +33,7 @@ module _ (own : ℕ → Bool) (l : LaneState) (traces : Traces) (w : Wire) (f : 
   traced : {way : Position → Bool} {a b : ℕ} (s : Spot l traces way a b) → s.placed.pa ≡ a
   traced s = sym (same_pa own l traces f.placed s.by_map s.place s.position s.placed s.at s.stands) ∙ s.is_pa
 
-  -- ---- a Known byte that the device may read stands at its bus address
+  -- ---- a Known byte that the device may read is at its bus address
   pub spot_stands : {a b : ℕ} (s : Spot l traces to_read a b) (v : ℕ) → l.memory a ≡ Some (Known v) → w b ≡ v
   spot_stands {a} {b} s v is =
       ap w (sym s.is_bus) ∙ by s.lends (lent to_write s.position.pa l.loans) refl

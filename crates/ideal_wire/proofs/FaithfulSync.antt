@@ -52,7 +52,7 @@ module _ (own : ℕ → Bool) (l : LaneState) (traces : Traces) (w : Wire)
       (known_before (addresses_of (filter (loses ops) (stretch off len (loan_of l.loans m).positions))) l.memory a v
       h).1
 
-  -- a position of the range stands in it
+  -- a position of the range is in it
   in_range : (n i : ℕ) (p : Position) → IsAt l.loans n i p → Inside l.loans m off len ops n i →
       slice_get (stretch off len (loan_of l.loans m).positions) (i - off) ≡ Some p
   in_range n i p h s = to_range (loan_of l.loans m).positions off len i s.1 s.2
@@ -162,7 +162,7 @@ module _ (own : ℕ → Bool) (l : LaneState) (traces : Traces) (w : Wire)
               ∙ r.lends)))
         ]
 
-    -- a byte that PREREAD newly lends is lent by nobody else, and stands once
+    -- a byte that PREREAD newly lends is lent by nobody else, and is there once
     clear : (n i : ℕ) (p : Position) → IsAt l.loans n i p → Inside l.loans m off len ops n i →
         preread ops ≡ true → p.to_write ≡ false
         → (lent_elsewhere in_any_way m p.pa l.loans ≡ false) × (stands_twice p.pa (loan_of l.loans m) ≡ false)
@@ -238,7 +238,7 @@ module _ (own : ℕ → Bool) (l : LaneState) (traces : Traces) (w : Wire)
     rests e b = ap (λ x. cond x (copied_in range w) (cond (postread ops) (copied_out range w) w) b) e
         ∙ ap (λ x. cond x (copied_out range w) w b) no_postread
 
-    -- a Known byte of a range that PREWRITE lends stands in the buffer
+    -- a Known byte of a range that PREWRITE lends is in the buffer
     in_buffer : (k v : ℕ) (t : Placed) → slice_get range k ≡ Some t → prewrite ops ≡ true →
         l.memory t.pa ≡ Some (Known v) → w t.pa ≡ v
     in_buffer k v t h e is =
@@ -248,7 +248,7 @@ module _ (own : ℕ → Bool) (l : LaneState) (traces : Traces) (w : Wire)
         free : (r : Ranged k t) → lent to_write r.position.pa l.loans ≡ false
         free r = free_to_write m (off + k) r.position r.at r.inside e (lent to_write r.position.pa l.loans) refl
 
-    -- what stood at a bus address stands there
+    -- what was at a bus address is still there
     stays_at : (n j v : ℕ) (q : Position) (u : Placed) → IsAt l.loans n j q → IsPlacedAt traces n j u →
         l.memory q.pa ≡ Some (Known v) → w u.bus ≡ v → (b : Bool) → prewrite ops ≡ b → w' u.bus ≡ v
     stays_at n j v q u h g is here false e = rests e u.bus ∙ here
@@ -285,7 +285,7 @@ module _ (own : ℕ → Bool) (l : LaneState) (traces : Traces) (w : Wire)
             ∙ in_buffer k v u at e (ap l.memory
             (bus_of_one own l traces f.placed m n (off + k) i u t r.placed g same) ∙ here)
 
-    -- and each byte of a buffer that is not lent to write stays
+    -- each byte of a buffer that is not lent to write stays
     keeps : (a v : ℕ) → lent to_write a l.loans ≡ false → l.memory a ≡ Some (Known v) →
         (b : Bool) → prewrite ops ≡ b → w' a ≡ v
     keeps a v free is false e = rests e a ∙ f.agrees.kept a v free is
@@ -502,7 +502,7 @@ module _ (own : ℕ → Bool) (l : LaneState) (traces : Traces) (w : Wire)
         ap (λ x. cond x (copied_in range w) (cond (postread ops) (copied_out range w) w) b) no_prewrite
         ∙ ap (λ x. cond x (copied_out range w) w b) e
 
-    -- a Known byte of a range that POSTREAD takes back stands at its bus address
+    -- a Known byte of a range that POSTREAD takes back is at its bus address
     in_page : (k v : ℕ) (t : Placed) → slice_get range k ≡ Some t → postread ops ≡ true →
         l.memory t.pa ≡ Some (Known v) → w t.bus ≡ v
     in_page k v t h e is =
@@ -512,7 +512,7 @@ module _ (own : ℕ → Bool) (l : LaneState) (traces : Traces) (w : Wire)
         (postread_part l.loans m ops r.position (passes m (off + k) r.position r.at r.inside) e) in
         f.agrees.written m (off + k) r.position t v r.at r.placed tw (ap l.memory r.same ∙ is)
 
-    -- what stood at an address of the driver's own, or at a bus address of the byte
+    -- what was at an address of the driver's own, or at a bus address of the byte
     holds : (a v : ℕ) → w a ≡ v → ((k : ℕ) (t : Placed) → slice_get range k ≡ Some t → t.pa ≡ a →
         l.memory t.pa ≡ Some (Known v)) → (b : Bool) → postread ops ≡ b → left a ≡ v
     holds a v here back false e = stays_so e a ∙ here

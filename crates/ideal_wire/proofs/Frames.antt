@@ -1,4 +1,4 @@
--- Bounce pages, the frames of the driver's pages and those of its memories are apart, where driver and account agree.
+-- Bounce pages, the frames of the driver's pages and the frames of its memories are apart, if driver and account agree.
 use mathlib.Core.Logic.{∥∥₁_elim}
 use Rattle.std.proofs.Common.{◌≡◌, ◌≢◌, ℕ, zero, suc, ◌+◌, ◌*◌, ◌/◌, ◌%◌, ◌<◌, ◌≤◌, ◌==◌, ◌&&◌, Bool, true, false}
 use Rattle.std.proofs.Common.{cond, List, [], ◌∷◌, ◌++◌, Option, Some, None, slice_get, refl, ap, sym, ◌∙◌}
@@ -117,7 +117,7 @@ off-named l m n ne e = ne (ap (λ (k : MapId). k.made_at) e)
 abbrev pub frame_of : ℕ → ℕ
 frame_of a = a / 4096 * 4096
 
--- a frame of whole frames that follow one another is among them
+-- a frame of complete frames that follow one another is among them
 frame-in : (n first f : ℕ) → first % 4096 ≡ 0 → f % 4096 ≡ 0 → first ≤ f → f < first + 4096 * n →
     1 ≤ times f (frames_from n first)
 frame-in zero first f whole w low high = absurd (omega (arith, low, high))
@@ -138,7 +138,7 @@ frame-in (suc n) first f whole w low high =
       | inr le ↦ le
     ]
 
--- the frame of a byte of whole frames is among them
+-- the frame of a byte of complete frames is among them
 pub run-frame : (n first a : ℕ) → first % 4096 ≡ 0 → in_run first n a ≡ true →
     1 ≤ times (frame_of a) (frames_from n first)
 run-frame n first a whole h =
@@ -147,7 +147,7 @@ run-frame n first a whole h =
     let high : a < first + 4096 * n = ltb-true a (first + 4096 * n) parts.1 in
     frame-in n first (frame_of a) whole (omega arith) (omega (arith, whole, low)) (omega (arith, high))
 
--- so is that of a byte of pages
+-- the frame of a byte of pages is among them
 pub own-frame : (runs : List PageRun) (a : ℕ) → is_own runs a ≡ true → is_own runs (frame_of a) ≡ true
 own-frame [] a h = absurd (cc)
 own-frame (r ∷ rs) a h = by (within a) refl (own-frame rs a) h
@@ -173,7 +173,7 @@ own-frame (r ∷ rs) a h = by (within a) refl (own-frame rs a) h
         or-true true y g = refl
         or-true false y g = g
 
--- each page of chunks is whole
+-- each page of chunks is a complete page
 zip-whole : (cs : List Chunk) (ps : List ℕ) (i page : ℕ) → AllZip IsInPage cs ps → slice_get ps i ≡ Some page →
     page % 4096 ≡ 0
 zip-whole [] [] i page z has = absurd (cc)
@@ -187,7 +187,7 @@ zip-whole (c ∷ cs) (p ∷ ps) (suc i) page z has = zip-whole cs ps i page z.1 
 
 -- ---- a driver that agrees with the account
 module _ (l : LaneState) (a : Account) (agrees : AgreesWith l a) where
-  -- a page that a map holds stands with the maps' pages
+  -- a page that a map holds is among the maps' pages
   page-held : (m : ℕ) (o : LaneMap) (z : ℕ) (cs : List Chunk) (ss : List Segment) (ps : List ℕ) (p : ℕ) →
       get l.maps m ≡ Some o → o.zone ≡ Some z → o.stage ≡ Loaded cs ss ps → times p ps ≤ times_held (named l m) z p a
   page-held m o z cs ss ps p there zone stage =
@@ -198,7 +198,7 @@ module _ (l : LaneState) (a : Account) (agrees : AgreesWith l a) where
       (λ q. ap (λ b. (q == p) && b) (eq-eqb z z refl) ∙ Rattle.lane_agreement.proofs.Own.and-true (q == p)) in
       omega (arith, (agrees.names (named l m) refl).holds_page z p, pages)
 
-  -- a frame of a memory stands with the memories' frames
+  -- a frame of a memory is among the memories' frames
   pub memory-held : (k : ℕ) (x : LaneMemory) (f : ℕ) → get l.mems k ≡ Some x →
       times f (frames_of (named l k) a.mems) ≡ times f (frames_from x.count x.first)
   memory-held k x f there =
@@ -272,7 +272,7 @@ module _ (l : LaneState) (a : Account) (agrees : AgreesWith l a) where
     pub counted-page : (ps : List ℕ) (i p : ℕ) → slice_get ps i ≡ Some p → 1 ≤ times p ps
     counted-page ps i p e = Rattle.ideal_wire.proofs.Lent.counted_one (λ q. q == p) ps i p e (eq-eqb p p refl)
 
-    -- a page that a map holds stands among the account's frames
+    -- a page that a map holds is among the account's frames
     page-placed : (m i p : ℕ) (cs : List Chunk) (ss : List Segment) (ps : List ℕ) → stage_at l m ≡ Loaded cs ss ps →
         slice_get ps i ≡ Some p → 1 ≤ times_lent p a
     page-placed m i p cs ss ps loaded has =
@@ -332,7 +332,7 @@ module _ (l : LaneState) (a : Account) (agrees : AgreesWith l a) where
               run-frame y.count y.first b (runs j y there).whole h,
             ))
 
-    -- it stands at one place of one map
+    -- such a page is at one place of one map
     page-one : (m n i j page : ℕ) → HoldsPage l m i page → HoldsPage l n j page → (m ≡ n) × (i ≡ j)
     page-one m n i j page holds too = by (decided m n)
       where

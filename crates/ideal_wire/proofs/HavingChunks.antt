@@ -78,7 +78,7 @@ drop-past (x ∷ xs) ys (suc k) j h = drop-past xs ys k j (omega (arith, h))
 take-all-of : (n : ℕ) (u w : List Placed) → n ≡ length u → take n (u ++ w) ≡ u
 take-all-of n u w e = take-append-le n u w (omega (arith, e)) ∙ take_all n u (omega (arith, e))
 
--- a chunk stands behind positions that are not bounced, and others behind it
+-- a chunk follows positions that are not bounced, and other positions follow it
 one-chunk : (place : ℕ) (u v w : List Placed) (c : Chunk) → place + length u ≡ c.at → AreOwn u →
     length v ≡ chunk_len c → v ≡ positions_of c → HasChunk place (u ++ (v ++ w)) c
 one-chunk place u v w c at own len is = record {

@@ -1,4 +1,4 @@
--- What drivers hold that agree with one account is apart, and a device finds bytes alone that its driver holds.
+-- What drivers that agree with one account hold is apart, and a device finds only bytes that its driver holds.
 use Rattle.std.proofs.Common.{◌≡◌, ◌≢◌, ℕ, zero, suc, ◌+◌, ◌*◌, ◌%◌, ◌<◌, ◌≤◌, ◌==◌, ◌&&◌, ◌||◌, Bool, true, false}
 use Rattle.std.proofs.Common.{cond, not, List, [], ◌∷◌, ◌++◌, map, length, Option, Some, None, slice_get, refl, ap, sym, ◌∙◌}
 use Rattle.std.proofs.Common.{subst, arith, nat_le, nat_lt, ◌⊎◌, inl, inr}
@@ -165,7 +165,7 @@ returned-in m a (r ∷ rs) h = by (r.map == m) refl (returned-in m a rs) h
     by true e more g = here e (in_run r.page 1 a) refl more g
     by false e more g = further (more g)
 
--- a page that a map holds is whole
+-- a page that a map holds is a complete page
 whole-held : (c : Account) → IsFit c → (m : MapId) (z p : ℕ) → 1 ≤ times_held m z p c → p % 4096 ≡ 0
 whole-held c fit m z p some = by (p % 4096 == 0) refl
   where
@@ -184,7 +184,7 @@ whole-held c fit m z p some = by (p % 4096 == 0) refl
             let is : h.page ≡ p = eqb-true h.page p (and_parts (h.page == p) _ on).0 in
             ap (λ q. not (q % 4096 == 0)) is ∙ ap not e
 
--- the frame of a byte of a whole page
+-- the frame of a byte of a complete page
 page-frame : (p a : ℕ) → p % 4096 ≡ 0 → in_run p 1 a ≡ true → p ≡ frame_of a
 page-frame p a whole inside =
     let parts = and_parts (nat_le p a) (nat_lt a (p + 4096 * 1)) inside in

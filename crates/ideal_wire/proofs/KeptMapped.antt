@@ -29,7 +29,7 @@ use Rattle.ideal_wire.proofs.SyncedPositions.{decided}
 
 -- ---- one space
 
--- addresses are found in one space as in another, where their pages stand for the same frames
+-- addresses are found in one space as in another if the same pages are mapped to the same frames
 same-found : (s t : Space) (run : DeviceRun) (bs : List ℕ) → AllByRecursion (λ a. has_page (a / 4096) run ≡ true) bs →
     ((p : ℕ) → has_page p run ≡ true → frame_at t.runs p ≡ frame_at s.runs p) →
     map (translated t) bs ≡ map (translated s) bs

@@ -118,7 +118,7 @@ some-frames : (n : ℕ) → (n == 0) ≡ false → 1 ≤ n
 some-frames zero e = absurd (cc)
 some-frames (suc n) e = omega arith
 
--- a tag that could bounce is none of a device behind an IOMMU
+-- a tag that could bounce is not an IOMMU tag
 unbehind : (device could : Bool) → (not device && could) ≡ true → device ≡ false
 unbehind true could e = absurd (cc)
 unbehind false could e = refl
@@ -137,7 +137,7 @@ module _ (l : LaneState) (stands : Stands l) (laid : AreLaid l) (machine : IsInM
     none = λ j off. (λ i. spaces i j) ∙ spaced.none j (sym (λ i. is-device (get (tags i) j)) ∙ off);
   }
 
-  -- a tag is put that is no IOMMU tag, where none was
+  -- a tag that is not an IOMMU tag is put at a place without a tag
   plain-put : (at : ℕ) (g : LaneTag) → g.device ≡ false → is_spaced l at ≡ false → (k : LaneState) →
       k.tags ≡ insert l.tags at g → k.spaces ≡ l.spaces → AreSpaced k
   plain-put at g off was k tags spaces = record {
@@ -162,7 +162,7 @@ module _ (l : LaneState) (stands : Stands l) (laid : AreLaid l) (machine : IsInM
       empty-at j true e none = spaced.none j (ap (is_spaced l) (eqb-true j at e) ∙ was)
       empty-at j false e none = spaced.none j none
 
-  -- a tag is put at the place of the script, where nothing was made yet
+  -- a tag is put at the place of the script, at which nothing was made yet
   new-put : (g : LaneTag) → g.device ≡ false → (k : LaneState) → k.tags ≡ insert l.tags l.place g →
       k.spaces ≡ l.spaces → AreSpaced k
   new-put g off = plain-put l.place g off (ap is-device (stands.no_tag l.place (omega arith)))

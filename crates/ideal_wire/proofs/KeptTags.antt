@@ -1,4 +1,4 @@
--- What the tags of maps say stays, where tags come and go.
+-- What the tags of maps say is unchanged when tags come and go.
 use Rattle.std.proofs.Common.{◌≡◌, ◌≢◌, ℕ, ◌==◌, Bool, true, false, cond, Option, Some, None, refl, ap, sym, ◌∙◌}
 use Rattle.std.proofs.Common.{arith, eq-eqb, unwrap_or, option_map}
 use Rattle.std.proofs.lemmas.Bool.{false≢true, ne_eqb, eqb-true}

@@ -118,7 +118,7 @@ module _ (l : LaneState) (a : Account) (stands : Stands l) (agrees : AgreesWith 
     abbrev cut-as : Bool → List Chunk
     cut-as memory = chunks_for l b.o memory (asks b).entries
 
-    -- of a memory's own map it needs no page
+    -- a load of a memory's own map needs no page
     memory-load : (y : LaneMemory) → get l.mems b.m ≡ Some y →
         IsReady l b.m (limits_of l b.o) (asks b).entries (cut-as true) []
     memory-load y e = memory-ready l laid machine stands b.m b.o b.there y e b.bio b.fine
@@ -142,7 +142,7 @@ module _ (l : LaneState) (a : Account) (stands : Stands l) (agrees : AgreesWith 
             subst (λ c. Ready c pages) (sym (ap is_some e))
             (subst (Ready true) (sym (no-pages pages (count ∙ memory-need y e))) (memory-load y e))
 
-    -- of an IOMMU tag's map, too, each byte may be loaded
+    -- each byte of a load of an IOMMU tag's map may be loaded
     loadable : (q : Option LaneMemory) → get l.mems b.m ≡ q →
         AllByRecursion (λ a. is_loadable (get l.mems b.m) l a ≡ true) (entries_addresses (asks b).entries)
     loadable None e =
@@ -151,11 +151,11 @@ module _ (l : LaneState) (a : Account) (stands : Stands l) (agrees : AgreesWith 
         (length-replicate (need_of (cut-as false)) 0)).loadable
     loadable (Some y) e = (memory-load y e).loadable
 
-    -- and a memory's load has its first bytes
+    -- a load of a memory's own map has the memory's first bytes
     begins : (y : LaneMemory) → get l.mems b.m ≡ Some y → AreFirst y (entries_addresses (asks b).entries)
     begins y e = (memory-load y e).first y e
 
-    -- what waits is of the driver's pages, and the load at this place of the script
+    -- a load that waits is of the driver's pages, and is the load at this place of the script
     waits-laid : IsNext l d → (need_of (chunks b) == 0) ≡ false →
         AreLaid (staged b.m b.o (Waiting (waits_for b)) l)
     waits-laid next some = by (get l.mems b.m) refl

@@ -151,7 +151,7 @@ lends_at : (way : Position → Bool) (a : ℕ) (loan : Loan) (i : ℕ) (p : Posi
 lends_at way a loan i p h e k =
     any_at (λ q. is_at a q && way q) loan.positions i p h (both (p.pa == a) (way p) (eq-eqb p.pa a e) k)
 
--- a position that lends a byte
+-- a byte is lent if a position lends it
 pub lent_by : (way : Position → Bool) (a : ℕ) (loans : Loans) (m i : ℕ) (p : Position) → IsAt loans m i p →
     p.pa ≡ a → way p ≡ true → lent way a loans ≡ true
 lent_by way a loans m i p h e k =
@@ -159,7 +159,7 @@ lent_by way a loans m i p h e k =
     (sym (get-entries loans m) ∙ loaded_at loans m i p h)
     (lends_at way a (loan_of loans m) i p h e k)
 
--- and one of another map
+-- a byte is lent elsewhere if a position of another map lends it
 pub lent_by_another : (way : Position → Bool) (a : ℕ) (loans : Loans) (m n i : ℕ) (p : Position) → n ≢ m →
     IsAt loans n i p → p.pa ≡ a → way p ≡ true → lent_elsewhere way m a loans ≡ true
 lent_by_another way a loans m n i p ne h e k =
@@ -191,7 +191,7 @@ lender_of way a loans h =
       lends = two.1;
     }
 
--- ---- a byte that stands twice
+-- ---- a byte that is there twice
 counted : {X : Type 0} (test : X → Bool) (y : X) (xs : List X) (b : Bool) → test y ≡ b →
     count_by test (y ∷ xs) ≡ cond b 1 0 + count_by test xs
 counted test y xs b e = sum_by-cons (λ x. cond (test x) 1 0) y xs ∙ ap (λ c. cond c 1 0 + count_by test xs) e

@@ -1,4 +1,4 @@
--- A load that has its pages lies in them.
+-- A load that has its pages is laid in them.
 use Rattle.std.proofs.Common.{◌≡◌, ℕ, zero, suc, ◌≤◌, Bool, true, false, cond, if◌then◌else◌, List, [], ◌∷◌, length}
 use Rattle.std.proofs.Common.{Some, slice_get, is_some, refl, ap, sym, ◌∙◌, subst, arith, nat_le, unwrap_or}
 use Rattle.std.proofs.Common.{drop}
@@ -75,8 +75,9 @@ unlent-at P (a ∷ bytes) (suc i) p all h = unlent-at P bytes i p all.1 h
 
 -- ---- what a load has that can end with its pages
 
--- its chunks follow one another and have its bytes, each in its place and its extents in frames; its pages are as many
--- as it needs; a memory's needs none, and has its first bytes; and its bytes are those that its map may load
+-- a load can end with its pages: its chunks follow one another and have its bytes, each in its place and with its
+-- extents in frames; its pages are as many as it needs; a load of a memory's map needs none, and has the memory's first
+-- bytes; and its map may load its bytes
 pub record IsReady (l : LaneState) (m : ℕ) (t : TagLimits) (es : List Entry) (chunks : List Chunk) (pages : List ℕ)
     : Type 0 where
   pub some : 1 ≤ t.maxsegsz
@@ -90,7 +91,7 @@ pub record IsReady (l : LaneState) (m : ℕ) (t : TagLimits) (es : List Entry) (
   pub first : (y : LaneMemory) → get l.mems m ≡ Some y → AreFirst y (entries_addresses es)
   pub loadable : AllByRecursion (λ a. is_loadable (get l.mems m) l a ≡ true) (entries_addresses es)
 
--- so it is with the chunks of entries by an effective tag
+-- a load can end with its pages if its chunks are cut from its entries by an effective tag
 pub ready : (l : LaneState) (m : ℕ) (t t' : TagLimits) (maxmem : ℕ) (es : List Entry) (pages : List ℕ) →
     1 ≤ t.maxsegsz → IsEffective t' → t'.flags ≡ t.flags → AllByRecursion IsEntry es →
     AllByRecursion IsPage (as_pages pages) → length pages ≡ need_of (chunks_of t' maxmem es) →
@@ -116,7 +117,7 @@ ready l m t t' maxmem es pages some eff flags entries whole count direct first l
     chunks : List Chunk
     chunks = chunks_of t' maxmem es
 
--- so it is with other entries of the same bytes
+-- a load can end with its pages if a load with other entries of the same bytes can
 pub of-bytes : (l : LaneState) (m : ℕ) (t : TagLimits) (es fs : List Entry) (chunks : List Chunk) (pages : List ℕ) →
     entries_addresses es ≡ entries_addresses fs → IsReady l m t es chunks pages → IsReady l m t fs chunks pages
 of-bytes l m t es fs chunks pages same r = record {
@@ -208,12 +209,12 @@ pub device-direct : (page at : ℕ) (es : List Entry) → bounced_of (device_chu
 device-direct page at [] = refl
 device-direct page at (e ∷ es) = device-direct (page + length e.parts) (at + byte_count e.parts) es
 
--- where no chunk is bounced each byte is at its own address
+-- if no chunk is bounced, each byte is at its own address
 all-own : (at : ℕ) (pas : List ℕ) → AllByRecursion (λ p. is_bounced p ≡ false) (placed_from [] at pas)
 all-own at [] = tt
 all-own at (pa ∷ pas) = (ap not (eq-eqb pa pa refl), all-own (at + 1) pas)
 
--- such a load lies where it is, whose bytes its map may load
+-- such a load is laid at its own addresses if the map may load its bytes
 module _ (l : LaneState) (laid : AreLaid l) (m : ℕ) (o : LaneMap) (there : get l.maps m ≡ Some o)
     (device : is_device l o ≡ true) (none : loan_of l.loans m ≡ no_loan) (load_at : ℕ) (x : Asked) (first : ℕ)
     (loadable : AllByRecursion (λ a. is_loadable (get l.mems m) l a ≡ true) (entries_addresses x.entries))
@@ -226,7 +227,7 @@ module _ (l : LaneState) (laid : AreLaid l) (m : ℕ) (o : LaneMap) (there : get
   device-rest : KeepsRest l (fits l m o load_at x (device_chunks first 0 x.entries) [])
   device-rest = record { script = refl; pages = refl; maxmem = refl; own = λ a. refl; mems = refl }
 
-  -- it is none of whose tag the device finds its bytes where they are
+  -- the map is one of an IOMMU tag
   behind : is_behind (fits l m o load_at x (device_chunks first 0 x.entries) []) m ≡ true
   behind = ap (λ y. option_map_or (is_device l) y false) (put-there l.maps m _) ∙ device
 

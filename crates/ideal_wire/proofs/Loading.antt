@@ -71,7 +71,7 @@ zipped keep (c ∷ cs) pages all are few = by (λ ps. zipped keep cs ps) c.bounc
 
 -- ---- chunks that follow one another
 
--- each chunk stands behind the bytes of those before it
+-- each chunk follows the bytes of the chunks before it
 abbrev pub Follow : ℕ → List Chunk → Type 0
 Follow at [] = Unit {0}
 Follow at (c ∷ cs) = (c.at ≡ at) × Follow (at + chunk_len c) cs
@@ -125,7 +125,7 @@ buses-append : (xs ys : List Placed) → buses (xs ++ ys) ≡ buses xs ++ buses 
 buses-append [] ys = refl
 buses-append (x ∷ xs) ys = ap (λ zs. x.bus ∷ zs) (buses-append xs ys)
 
--- no chunk behind a place has a byte before it
+-- no chunk after a place has a byte before it
 pub before-all : (cs : List Chunk) (at k pa : ℕ) → Follow at cs → k < at → bus_at (bounced_of cs) k pa ≡ pa
 before-all [] at k pa h lt = refl
 before-all (c ∷ cs) at k pa h lt = by (before-all cs (at + chunk_len c) k pa h.1 (omega (arith, lt))) c.bounced
@@ -162,7 +162,7 @@ page-buses c cs (pa ∷ pas) k le =
     ∙ ap (λ j. run_of j (length pas)) bus in
     λ i. here i ∷ rest i
 
--- the bytes behind a chunk are not in it
+-- the bytes after a chunk are not in it
 pub past-chunk : (c : Chunk) (cs : List Chunk) (at : ℕ) (pas : List ℕ) → c.at + chunk_len c ≤ at →
     placed_from (c ∷ cs) at pas ≡ placed_from cs at pas
 past-chunk c cs at [] le = refl

@@ -29,7 +29,7 @@ numbered before (r ∷ frames) h =
     let end : r.first + r.count ≤ 2 ^ 30 = h.0.numbered in
     omega (arith, end, numbered (before ++ r ∷ []) frames h.1)
 
--- a frame of the machine lies below it
+-- a frame of the machine is below the end of memory
 frame-below : (frames : List FrameRun) (f : ℕ) → list_any (is_in f) frames ≡ true → f < maxmem_of frames
 frame-below [] f h = absurd (cc)
 frame-below (r ∷ frames) f h = by (is_in f r) refl (frame-below frames f) h
@@ -41,7 +41,7 @@ frame-below (r ∷ frames) f h = by (is_in f r) refl (frame-below frames f) h
         omega (arith, high)
     by false e rest g = let low = rest g in omega (arith, low)
 
--- so do frames that follow one another
+-- frames of the machine that follow one another are below the end of memory
 frames-below : (frames : List FrameRun) (first n : ℕ) → 1 ≤ n → all_in frames first n ≡ true →
     first + n ≤ maxmem_of frames
 frames-below frames first zero some h = absurd (omega (arith, some))
@@ -75,7 +75,7 @@ record IsOfDriver (frames : List FrameRun) (d : Driver) : Type 0 where
   pub clusters : HaveClusters d.script
   pub unlike : (va vb pa : ℕ) → physical_in d.pages va ≡ Some pa → physical_in d.pages vb ≡ Some pa → va ≡ vb
 
--- so is each driver of a valid scenario
+-- each driver of a valid scenario has such pages and such a script
 of-driver : (frames : List FrameRun) (before drivers : List Driver) (i : ℕ) (d : Driver) →
     EachAfter (IsDriver frames) before drivers → slice_get drivers i ≡ Some d → IsOfDriver frames d
 of-driver frames before [] i d h at = absurd (cc)

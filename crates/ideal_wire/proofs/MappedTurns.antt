@@ -208,7 +208,7 @@ module _ (l : LaneState) (stands : Stands l) (laid : AreLaid l) (machine : IsInM
       first : ℕ
       first = first_of (segments_in o.stage)
 
-      -- of another load of the tag
+      -- the run of another load of the tag stays
       others : (n : ℕ) (q : LaneMap) → n ≢ m → get l.maps n ≡ Some q → IsDeviceLoad l q → q.tag ≡ o.tag →
           (ss : List Segment) → segments_in o.stage ≡ ss →
           KeepsLoad (l.spaces o.tag) (left (first_of ss) (l.spaces o.tag)) (segments_in q.stage)
@@ -515,7 +515,7 @@ module _ (l : LaneState) (stands : Stands l) (laid : AreLaid l) (machine : IsInM
       (keeps-put l stands (with_tag l.place t done l) l.place (record { limits = t; first_done = done; device = false }) refl
       (λ g e. new-tag l stands g e)) refl (λ n. refl) (stay (with_tag l.place t done l) l.place refl)
 
-  -- no load stands in the space of a new tag
+  -- no load is in the space of a new tag
   iommu-tag : (t : TagLimits) → AreMapped (with_device_tag t l)
   iommu-tag t =
       none-changed (with_device_tag t l)

@@ -1,4 +1,4 @@
--- The loads of a driver stay laid where a memory is made or ends.
+-- The loads of a driver stay laid when a memory is made or ends.
 use mathlib.Core.Logic.{∥∥₁_map}
 use Rattle.std.proofs.Common.{◌≡◌, ◌≢◌, ℕ, Bool, true, false, if◌then◌else◌, Some, None, is_some, refl, ap, sym, ◌∙◌}
 use Rattle.std.proofs.Common.{subst, arith, inl, inr, ◌⊎◌, unwrap_or, option_map}

@@ -48,7 +48,7 @@ drop-run (suc k) a (suc n) =
     let many : n - k ≡ suc n - suc k = omega arith in
     drop-run k (a + 1) n ∙ (λ i. run_of (first i) (many i))
 
--- by two tags of which neither bounces a first byte of a frame of the run
+-- the chunks by two tags of which neither bounces a first byte of a frame of the run
 module _ (t u : TagLimits) (m n : ℕ) where
   -- each first byte of a frame of a run
   abbrev pub IsUnbounced : ℕ → ℕ → Type 0

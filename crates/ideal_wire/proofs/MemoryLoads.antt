@@ -55,7 +55,7 @@ unaligned t e = record {
   highaddr = e.highaddr;
 }
 
--- no page has an address where those of memories are
+-- no page has an address among those of memories
 pub no-page : (maxmem : ℕ) (runs : List PageRun) (va : ℕ) → AllByRecursion (IsOfMachine maxmem) runs → pages_end ≤ va →
     physical_in runs va ≡ None
 no-page maxmem [] va all high = refl
@@ -71,7 +71,7 @@ no-page maxmem (r ∷ runs) va all high =
     outside = let end : r.va.0 + 4096 * r.count ≤ va = omega (arith, all.0.low, high) in
         ap (λ b. nat_le r.va.0 va && b) (le-ltb va (r.va.0 + 4096 * r.count) end) ∙ off (nat_le r.va.0 va)
 
--- bytes that stand at their places from a first one on are a run
+-- bytes that are at their places from a first one on are a run
 run-of-map : (f : ℕ → ℕ) (begin : ℕ) (vas : List ℕ) →
     ((k va : ℕ) → slice_get vas k ≡ Some va → f va ≡ begin + k) → map f vas ≡ run_of begin (length vas)
 run-of-map f begin [] h = refl
@@ -89,7 +89,7 @@ run-of-places : (begin : ℕ) (vas : List ℕ) → ((k va : ℕ) → slice_get v
     vas ≡ run_of begin (length vas)
 run-of-places begin vas h = sym (same-map vas) ∙ run-of-map (λ va. va) begin vas h
 
--- bytes that are a run from a memory's first byte on are its first ones
+-- bytes that are a run from a memory's first byte on are the memory's first bytes
 first-run : (y : LaneMemory) (bytes : List ℕ) (n : ℕ) → bytes ≡ run_of y.first n → AreFirst y bytes
 first-run y bytes n same = same ∙ ap (run_of y.first) (sym (ap length same ∙ run_length y.first n))
 
@@ -174,7 +174,7 @@ module _ (l : LaneState) (laid : AreLaid l) (machine : IsInMachine l) (stands : 
         are-bytes ∙ run-of-map (physical_or_0 (physical l)) y.first vas (λ k va e. (own-byte k va e).physical_is)
         ∙ ap (run_of y.first) (count-spans spans)
 
-    -- and one span
+    -- the bytes together are one span of the memory
     abbrev one : List Span
     one = one_span (begin_of y) (length vas)
 
@@ -247,7 +247,7 @@ module _ (l : LaneState) (laid : AreLaid l) (machine : IsInMachine l) (stands : 
       let none : 0 ≡ span_bytes (one_span off 0) = count-spans (one_span off 0) in ap (run_of y.first) none
   memory-bytes (Unmapped frames off (suc n)) fine = absurd (no-frames frames off n fine)
 
-  -- so the load's bytes are the memory's first ones
+  -- the bytes of the load are the memory's first bytes
   pub memory-addresses : (b : Bio) → load_judged l m b ≡ Fine →
       load_addresses l b ≡ run_of y.first (span_bytes (bio_spans b))
   memory-addresses (Mapped span) fine = sym (are-bytes (span ∷ []) fine) ∙ first-bytes (span ∷ []) fine
@@ -256,7 +256,7 @@ module _ (l : LaneState) (laid : AreLaid l) (machine : IsInMachine l) (stands : 
       let none : 0 ≡ span_bytes (one_span off 0) = count-spans (one_span off 0) in ap (run_of y.first) none
   memory-addresses (Unmapped frames off (suc n)) fine = absurd (no-frames frames off n fine)
 
-  -- one entry has them, and lies in frames
+  -- one entry has the bytes of the load, and is in frames
   pub one-bytes : (b : Bio) → load_judged l m b ≡ Fine →
       entries_addresses (one_entry (load_entries l b)) ≡ entries_addresses (load_entries l b)
   one-bytes (Mapped span) fine = ap entries_addresses (one-entry (span ∷ []) fine) ∙ same-bytes (span ∷ []) fine

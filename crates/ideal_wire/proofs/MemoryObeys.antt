@@ -80,7 +80,7 @@ module _ (l : LaneState) (laid : AreLaid l) (machine : IsInMachine l) (stands : 
       subst (λ q. AllByRecursion (λ a. is_loadable q l a ≡ true) (run_of y.first x.len)) memory
       (subst (AllByRecursion (λ a. is_loadable (get l.mems m) l a ≡ true)) are-bytes ready.loadable)
 
-  -- of which the device reaches each
+  -- the device reaches each of these bytes
   unbounced : IsUnbounced t (record t { alignment = 1 }) l.maxmem 0 y.first x.len
   unbounced a low high whole =
       let own = in-run (λ a. is_loadable (Some y) l a ≡ true) y.first x.len inside a low high in
@@ -89,7 +89,7 @@ module _ (l : LaneState) (laid : AreLaid l) (machine : IsInMachine l) (stands : 
         needs-none (record t { alignment = 1 }) (unaligned t eff) 0 a reached whole,
       )
 
-  -- so its chunks are those of the tag
+  -- the chunks of the load are those of the tag
   tag-chunks : chunks_of t l.maxmem (one_entry x.entries) ≡ memory-chunks
   tag-chunks =
       chunks-alike t (record t { alignment = 1 }) l.maxmem 0 (entries_addresses x.entries) y.first x.len one-are

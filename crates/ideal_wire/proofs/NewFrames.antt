@@ -31,7 +31,7 @@ use Rattle.ideal_wire.proofs.Positions.{found_one}
 
 -- ---- the lowest run of free frames
 
--- what holds of each frame holds of one that stands among them
+-- what holds of each frame holds of a frame that is among them
 of-times : (P : ℕ → Type 0) (frames : List ℕ) (p : ℕ) → All P frames → 1 ≤ times p frames → P p
 of-times P [] p all some = absurd (omega (arith, some))
 of-times P (f ∷ frames) p all some = by (f == p) refl (of-times P frames p (All-tail P f frames all))
@@ -40,7 +40,7 @@ of-times P (f ∷ frames) p all some = by (f == p) refl (of-times P frames p (Al
     by true e rest = subst P (eqb-true f p e) (All-head P f frames all)
     by false e rest = rest (omega (arith, some, count-one (λ g. g == p) f frames, ap one_if e))
 
--- frames that follow one another at the head of others stand among them
+-- frames that follow one another at the head of other frames are among them
 followed : (n f p : ℕ) (gs : List ℕ) → follow n f gs ≡ true → times p (frames_from n f) ≤ times p gs
 followed zero f p gs h = omega arith
 followed (suc n) f p [] h = absurd (cc)
@@ -109,11 +109,11 @@ run-is m n (Some f) a first count e =
 module _ (l : LaneState) (a : Account) (agrees : AgreesWith l a) (frames : EachFrame IsFrame a)
     (low : LiesBelowMaxmem a) (laid : AreLaid l) where
   module _ (limit n first : ℕ) (some : 1 ≤ n) (is : IsGiven limit a.bank n first) where
-    -- the frame of each of their bytes is a free one
+    -- the frame of each byte of the run is a free one
     is-free : (b : ℕ) → in_run first n b ≡ true → 1 ≤ times (frame_of b) a.bank
     is-free b h = omega (arith, run-frame n first b is.frame.whole h, is.among (frame_of b))
 
-    -- so no byte is one of the driver's
+    -- no byte of the run is the driver's own
     not-own : (b : ℕ) → in_run first n b ≡ true → IsOwnByte l b → ⊥
     not-own b h (OfPages e) =
         absurd (omega (arith, agrees.apart (frame_of b) (own-frame l.pages b e), is-free b h))

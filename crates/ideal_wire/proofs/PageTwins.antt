@@ -1,4 +1,4 @@
--- No two virtual addresses of a driver's pages are of one byte, in a valid scenario.
+-- No two virtual addresses of a driver's pages are of the same byte, in a valid scenario.
 use Rattle.std.proofs.Common.{◌≡◌, ℕ, zero, suc, ◌+◌, ◌-◌, ◌*◌, ◌<◌, ◌≤◌, ◌&&◌, ◌||◌, Bool, true, false, cond, List}
 use Rattle.std.proofs.Common.{[], ◌∷◌, ◌++◌, Some, slice_get, length, refl, sym, ◌∙◌, arith, nat_le, nat_lt}
 use Rattle.std.proofs.Common.{inl, inr}
@@ -11,12 +11,12 @@ use Rattle.busdma_base.specs.Scenarios.PageRuns.{IsPageRun, is_in_run, physical_
 use Rattle.ideal_wire.proofs.Lent.{any_at}
 use Rattle.ideal_wire.proofs.Positions.{found_one}
 
--- a byte lies in a frame of a run
+-- a byte is in a frame of a run
 pub record HasByte (r : PageRun) (pa : ℕ) : Type 0 where
   pub low : 4096 * r.frame ≤ pa
   pub high : pa < 4096 * (r.frame + r.count)
 
--- so it does where it is reached by the run
+-- a byte that a run reaches is in a frame of the run
 by-run : (r : PageRun) (va pa : ℕ) → is_in_run va r ≡ true → 4096 * r.frame + (va - r.va.0) ≡ pa → HasByte r pa
 by-run r va pa inside is =
     let parts = and_parts (nat_le r.va.0 va) (nat_lt va (r.va.0 + 4096 * r.count)) inside in
@@ -44,7 +44,7 @@ shares q r pa x y = elim (cases_lt q.frame r.frame) as (λ _. share_frame q r �
     or-true true b h = refl
     or-true false b h = h
 
--- what stands in front stands there
+-- what is at a place of a list is still there with another list after it
 pub in-front : {X : Type 0} (xs ys : List X) (i : ℕ) (x : X) → slice_get xs i ≡ Some x → slice_get (xs ++ ys) i ≡ Some x
 in-front [] ys i x e = absurd (cc)
 in-front (z ∷ xs) ys zero x e = e
@@ -55,7 +55,7 @@ at-end [] x = refl
 at-end (z ∷ xs) x = at-end xs x
 
 module _ (frames : List FrameRun) (earlier : List Driver) where
-  -- a byte of a run is none of those behind it
+  -- a byte of a run is in no run after it
   none-behind : (before runs : List PageRun) → EachAfter (IsPageRun frames earlier) before runs → (i : ℕ)
       (r : PageRun) → slice_get before i ≡ Some r → (pa : ℕ) → HasByte r pa → (vb : ℕ) →
       physical_in runs vb ≡ Some pa → ⊥

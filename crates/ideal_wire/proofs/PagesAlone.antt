@@ -1,4 +1,4 @@
--- A load of bytes of the driver's pages that needs a bounce page is told by no memory.
+-- A load of bytes of the driver's pages that needs a bounce page names no memory.
 use Rattle.std.proofs.Common.{◌≡◌, ℕ, zero, suc, ◌+◌, ◌≤◌, Option, Some, None, refl, ap, sym, ◌∙◌, subst, arith}
 use Rattle.std.specs.Option.{option_map}
 use Rattle.std.specs.FinMap.{get}
@@ -23,7 +23,7 @@ module _ (l : LaneState) (machine : IsInMachine l) (t : TagLimits) where
   abbrev need : Bio → ℕ
   need b = need_of (chunks_of t l.maxmem (load_entries l b))
 
-  -- no byte of pages has an address where those of memories are
+  -- no byte of pages has an address among those of memories
   none-high : (len va : ℕ) → pages_end ≤ va → AreOfPages l (flat_bio len va) → 1 ≤ need (flat_bio len va) → ⊥
   none-high zero va high own some = absurd (omega (arith, some))
   none-high (suc n) va high own some =
@@ -39,7 +39,7 @@ module _ (l : LaneState) (machine : IsInMachine l) (t : TagLimits) where
       let is : flat_bio len va ≡ b = found_one (Some (flat_bio len va)) (flat_bio len va) b refl e in
       none-high len va (omega arith) (subst (AreOfPages l) (sym is) own) (subst (λ c. 1 ≤ need c) (sym is) some)
 
-  -- so the load's bio is the same in each state of the driver
+  -- the bio of the load is the same in each state of the driver
   pub paged-alone : (x : Buffer) (b : Bio) → bio_at l x ≡ Some b → AreOfPages l b → 1 ≤ need b → (s : LaneState) →
       bio_at s x ≡ Some b
   paged-alone x b e own some s = by (told x)

@@ -8,9 +8,9 @@ use Rattle.ideal_lane.specs.Places.{physical}
 use Rattle.ideal_lane.specs.State.{LaneState}
 use Rattle.ideal_wire.specs.Centre.{IsAt, IsPlacedAt, Agrees, IsExclusive}
 
--- What frames give, where `own` tells the driver's own bytes: what the driver reaches, what is Known and what stands
--- in a buffer is its own; a bus address that is so is the byte's own; one in a page is that of one position; and a
--- coherent map has no page and no byte of another map.
+-- What frames give, if `own` marks the driver's own bytes: what the driver reaches, what is Known and what is in a
+-- buffer is its own; a bus address that is its own is the byte's own address; a bus address in a page belongs to one
+-- position; and a coherent map has no page and no byte of another map.
 pub record ArePlaced (own : ℕ → Bool) (l : LaneState) (traces : Traces) : Type 0 where
   pub reached : (va pa : ℕ) → physical l va ≡ Some pa → own pa ≡ true
   pub known : (a v : ℕ) → l.memory a ≡ Some (Known v) → own a ≡ true

@@ -1,4 +1,4 @@
--- The loads of a driver are placed, where what it holds lies apart.
+-- The loads of a driver are placed if what it holds is apart.
 use Rattle.std.proofs.Common.{◌≡◌, ℕ, ◌+◌, ◌-◌, ◌*◌, ◌<◌, ◌≤◌, ◌&&◌, ◌||◌, Bool, true, false, cond, List, [], ◌∷◌}
 use Rattle.std.proofs.Common.{Option, Some, None, slice_get, is_some, inl, inr, refl, ap, sym, ◌∙◌, subst, arith}
 use Rattle.std.proofs.Common.{nat_le, nat_lt}
@@ -66,7 +66,7 @@ module _ (l : LaneState) (laid : AreLaid l) where
       by None e g = OfPages g
       by (Some x) e g = OfMemory m x e g
 
-  -- the driver reaches its own bytes alone
+  -- the driver reaches only its own bytes
   pub reaches : (va pa : ℕ) → physical l va ≡ Some pa → IsOwnByte l pa
   reaches va pa h = by (physical_in l.pages va) refl h
     where
@@ -155,7 +155,7 @@ module _ (l : LaneState) (laid : AreLaid l) where
       ]
 
   module _ (apart : IsApart l) where
-    -- the page in which a place of a load lies
+    -- the page that has a place of a load
     holds-page : (m k b : ℕ) (x : Load m) (e : IsBounced x.bounced x.pages k b) → HoldsPage l m e.index e.page
     holds-page m k b x e = ap (λ s. slice_get (pages_of s) e.index) x.stage ∙ e.has_page
 
@@ -167,7 +167,7 @@ module _ (l : LaneState) (laid : AreLaid l) where
         inside = let high : b < e.page + 4096 * 1 = omega (arith, e.high) in
             rw (le-leb e.page b e.low, lt-ltb b (e.page + 4096 * 1) high) refl
 
-    -- it is that of one place of one map
+    -- a bus address in a page belongs to one place of one map
     page-one : (m n k j b d : ℕ) (x : Load m) (y : Load n) → IsBounced x.bounced x.pages k b →
         IsBounced y.bounced y.pages j d → b ≡ d → (m ≡ n) × (k ≡ j)
     page-one m n k j b d x y e g same = (one.0, place)

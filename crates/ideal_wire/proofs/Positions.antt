@@ -15,7 +15,7 @@ found_one o x y h k = ap (λ z. unwrap_or z x) (sym h ∙ k)
 pub none_some : {X : Type 0} (o : Option X) (x : X) → o ≡ None → o ≡ Some x → ⊥
 none_some o x h k = absurd (cc)
 
--- what stands at a place of one list stands at that place of another with the same addresses
+-- what is at a place of one list is at that place of another list with the same addresses
 pub record Twin {A B : Type 0} (f : A → ℕ) (g : B → ℕ) (ys : List B) (i : ℕ) (x : A) : Type 0 where
   pub twin : B
   pub found : slice_get ys i ≡ Some twin
@@ -32,7 +32,7 @@ twin_of f g xs ys e i x h =
     twin_in f g ys i x (slice_get ys i) refl
     (sym (ap (option_map f) h) ∙ sym (slice_get-map f xs i) ∙ ap (λ zs. slice_get zs i) e ∙ slice_get-map g ys i)
 
--- a place of a range is a place of the whole
+-- a place of a range is a place of the complete list
 pub record InRange {X : Type 0} (xs : List X) (off len k : ℕ) (x : X) : Type 0 where
   pub below : k < len
   pub whole : slice_get xs (off + k) ≡ Some x
@@ -61,7 +61,7 @@ to_front [] (suc len) k lt = refl
 to_front (y ∷ xs) (suc len) zero lt = refl
 to_front (y ∷ xs) (suc len) (suc k) lt = to_front xs len k (omega arith)
 
--- a place of the whole that lies in a range is a place of it
+-- a place of the complete list that is in a range is a place of the range
 pub to_range : {X : Type 0} (xs : List X) (off len i : ℕ) → off ≤ i → i < off + len →
     slice_get (take len (drop off xs)) (i - off) ≡ slice_get xs i
 to_range xs off len i le lt =
@@ -136,7 +136,7 @@ module _ {X : Type 0} (f : X → X) where
       ∙ changed_out off len xs i (elim out as (λ _. (i < off) ⊎ (off + len ≤ i))
       [ inl a ↦ inl (omega arith) | inr b ↦ inr (omega arith) ])
 
-  -- what stands in the changed list stood there before, changed in the range
+  -- what is in the changed list was there before, and is changed if it is in the range
   pub record Changed (off len : ℕ) (xs : List X) (i : ℕ) (x : X) : Type 0 where
     pub before : X
     pub found : slice_get xs i ≡ Some before

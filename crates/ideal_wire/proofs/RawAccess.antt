@@ -1,4 +1,4 @@
--- A raw access that is not refused is one of bytes of loads, which stand at their own addresses.
+-- A raw access that is not refused is one of bytes of loads, which are at their own addresses.
 use Rattle.std.proofs.Common.{◌≡◌, ℕ, ◌+◌, ◌^◌, Bool, true, false, ◌||◌, not, cond, List, [], ◌∷◌}
 use Rattle.std.proofs.Common.{slice_get, Option, Some, None, is_some, unwrap_or, nat_le, refl, sym, ap, ◌∙◌, subst, inr}
 use Rattle.std.specs.FinMap.{get, entries}
@@ -30,7 +30,7 @@ use Rattle.ideal_wire.proofs.FaithfulSpots.{Spot}
 use Rattle.ideal_wire.proofs.Positions.{Twin, found_one, twin_of}
 use Rattle.ideal_wire.proofs.RawPlaces.{HasByte, position-found}
 
--- where no page is held no chunk is bounced
+-- if no page is held, no chunk is bounced
 no-chunk : (cs : List Chunk) (pages : List ℕ) → AllZip IsInPage cs pages → pages ≡ [] → cs ≡ []
 no-chunk [] pages paged none = refl
 no-chunk (c ∷ cs) [] paged none = absurd paged

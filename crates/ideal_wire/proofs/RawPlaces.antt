@@ -18,7 +18,7 @@ use Rattle.ideal_wire.proofs.Positions.{found_one}
 
 -- ---- the place of a device address among the bytes of segments
 
--- the bytes of a run, and those behind it
+-- the bytes of a run, and the bytes after it
 in_run : (a n k : ℕ) (rest : List ℕ) → k < n → slice_get (run_of a n ++ rest) k ≡ Some (a + k)
 in_run a zero k rest lt = absurd (omega (arith, lt))
 in_run a (suc n) zero rest lt = let e : a ≡ a + 0 = omega arith in ap Some e
@@ -31,7 +31,7 @@ behind_run a (suc n) k rest =
     let e : suc n + k ≡ suc (n + k) = omega arith in
     ap (slice_get (run_of a (suc n) ++ rest)) e ∙ behind_run (a + 1) n k rest
 
--- so many bytes stand before the segments, and the byte at a place behind them has the address
+-- so many bytes come before the segments, and the byte at a place after them has the address
 record IsIn (before : ℕ) (ss : List Segment) (a i : ℕ) : Type 0 where
   place : ℕ
   is : i ≡ before + place

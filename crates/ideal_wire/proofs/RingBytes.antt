@@ -142,7 +142,7 @@ module _ (l : LaneState) (stands : Stands l) (laid : AreLaid l) (k : ℕ) (g : F
       next : at + 1 ≡ x.first + (head_at r + 15)
       next = omega arith
 
-  -- they say that it is the driver's, and done
+  -- owner and status say that the descriptor is the driver's and done
   retired-bytes : (b : Bool) (d : Descriptor) (c : Candidate) →
       map (λ a. value ((retired r (if b then l else stored c.map c.off d.len (replicate d.len d.fill) l)).memory a))
       (load_bytes l.loans r.mem (head_at r + 14) 2) ≡ 0 ∷ 1 ∷ []

@@ -37,7 +37,7 @@ yes : (b : Bool) → not b ≡ false → b ≡ true
 yes true e = refl
 yes false e = sym e
 
--- what holds where nothing is done, and where the descriptor at the head is, holds of the step
+-- what holds if the step did nothing, and if it did what the descriptor at the head says, holds of the step
 module _ (l : LaneState) (k : ℕ) (P : Asking Outcome → Type 0) (idle : (a : Answer) → IsUnfetched a → P (gives l a))
     (done : (g : Fetching l k) → P (gives (after_fetch l k g.r (head_of g.r l) g.c) (told (head_of g.r l) g.c l)))
   where
@@ -86,7 +86,7 @@ module _ (l : LaneState) (k : ℕ) (g : Fetching l k) where
   pub allows : judged_at (head_of g.r l) l g.c ≡ Fine
   allows = first-allowed g.r l g.c g.first
 
-  -- its answer says that it is done
+  -- the answer of the step says that it was done
   pub told-fetched : (after w : Wire) → if_fetched (told (head_of g.r l) g.c l) after w ≡ after
   told-fetched after w = by ((head_of g.r l).kind == 1)
     where

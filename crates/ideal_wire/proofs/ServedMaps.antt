@@ -54,7 +54,7 @@ zone-inside t a z some serves = elim (cases_lt z (length a.zones)) as (λ _. z <
       absurd (omega (arith, some, zero))
 ]
 
--- it serves it as long as it has its lowaddr and its alignment
+-- a zone serves a tag as long as the zone keeps its lowaddr and its alignment
 still-serves : (t : TagLimits) (a b : Account) (z : ℕ) → 1 ≤ t.alignment → KeepsZones a b →
     serves_tag t (zone_at a z) ≡ true → serves_tag t (zone_at b z) ≡ true
 still-serves t a b z some kept serves =
@@ -75,7 +75,7 @@ module _ (l : LaneState) (stands : Stands l) (a : Account) (machine : IsInMachin
   pub served-on : (es : List HoldEntry) → AreServed l (account_of a es)
   served-on es = kept-served l (account_of a es) (keeps-history a es) (same l stands)
 
-  -- the making of a map, whose zone the account tells
+  -- the making of a map, with the zone that the account's reply names
   module _ (t : ℕ) (g : LaneTag) (there : get l.tags t ≡ Some g) where
     abbrev asks : HubCall
     asks = call.CreateMap (named l l.place) g.limits g.first_done

@@ -99,7 +99,7 @@ module _ (l : LaneState) (laid : AreLaid l) where
   abbrev pub HadTag : ℕ → ℕ → Type 0
   HadTag m t = (o : LaneMap) × (get l.maps m ≡ Some o) × (o.tag ≡ t)
 
-  -- what the tag of a map says stays, where the map that comes has the tag of the one that was there
+  -- what the tag of a map says is unchanged if the map that comes has the tag of the one that was there
   pub put-limits : (l' : LaneState) → KeepsTags l l' → (m : ℕ) (x : LaneMap) → get l'.maps m ≡ Some x →
       HadTag m x.tag → KeepsLimits l l' m
   put-limits l' tags m x now had o' at =
@@ -111,7 +111,7 @@ module _ (l : LaneState) (laid : AreLaid l) where
             ∙ ap (λ x. x.0) (tags m had.0 had.1),
       )
 
-  -- one map has another stage, and lends as it lent; a memory's has its tag
+  -- one map has another stage and lends as it lent; a memory's map keeps its tag
   pub put : (l' : LaneState) → KeepsRest l l' → KeepsTags l l' → (m : ℕ) (x : LaneMap) → l'.maps ≡ insert l.maps m x →
       l'.loans ≡ l.loans → ((y : LaneMemory) → get l.mems m ≡ Some y → HadTag m x.tag) → LiesIn l' m x.stage →
       AreLaid l'
@@ -196,13 +196,13 @@ module _ (l : LaneState) (laid : AreLaid l) where
 
   -- ---- the ends of loads
 
-  -- a map whose pages are on their way back, or that has none, lies where it lends nothing
+  -- a map whose pages are on their way back, or that has none, is laid if it lends nothing
   pub emptied-lies : (l' : LaneState) (m : ℕ) (pages : List ℕ) → loan_of l'.loans m ≡ no_loan →
       LiesIn l' m (emptied pages)
   emptied-lies l' m [] none = none
   emptied-lies l' m (p ∷ ps) none = none
 
-  -- a map stands with no load
+  -- a map becomes idle
   pub staged-still : (m : ℕ) (o : LaneMap) → get l.maps m ≡ Some o → loan_of l.loans m ≡ no_loan →
       AreLaid (staged m o Idle l)
   staged-still m o there none =
@@ -238,7 +238,7 @@ module _ (l : LaneState) (laid : AreLaid l) where
       new : LaneMap
       new = record o { tried = true; stage = emptied (pages_of o.stage) }
 
-  -- with other address spaces
+  -- the loads stay laid with other address spaces
   pub spaced-still : (s : ℕ → Space) → AreLaid (record l { spaces = s })
   spaced-still s =
       like (record l { spaces = s })
@@ -289,7 +289,7 @@ module _ (l : LaneState) (laid : AreLaid l) where
     none-here : loan_of l.loans l.place ≡ no_loan
     none-here = no-loan-in l.place Idle (ap stage_in (stands.no_map l.place (omega arith))) refl
 
-    -- so no memory was
+    -- no memory was made yet at the place of the script
     no-memory-here : (t : ℕ) (y : LaneMemory) → get l.mems l.place ≡ Some y → HadTag l.place t
     no-memory-here t y e =
         let none : get l.mems l.place ≡ None = stands.no_memory l.place (omega arith) in absurd (cc)

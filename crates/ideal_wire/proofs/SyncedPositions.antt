@@ -151,7 +151,7 @@ module _ (loans : Loans) (m off len ops : ℕ) where
         ∙ (sym (λ x. slice_get (loan_of loans (e x)).positions i) ∙ h)
   ]
 
-  -- what stood at a place before
+  -- what was at a place before
   pub record Before (n i : ℕ) (p : Position) : Type 0 where
     pub before : Position
     pub at : IsAt loans n i before

@@ -252,7 +252,7 @@ module _ (l : LaneState) (a : Account) (w : Wire) (stands : Stands l) (agrees : 
   Stays after t = (r : HubReply) (w' : Wire) → BringsNew l r → Follows l (by_reply t r).lane after w' →
       IsFaithful (by_reply t r).lane w'
 
-  -- what is followed tells the driver's memory, its maps and no more
+  -- `Follows` is about the driver's memory and its maps only
   went : (b : Bool) (k : Outcome) (after w' : Wire) →
       Follows l (if b then turns.kept l.place k else turns.advanced l.place k).lane after w' → Follows l k.lane after w'
   went true k after w' g = record { own = g.own; pages = g.pages; known = g.known }
@@ -349,7 +349,7 @@ module _ (l : LaneState) (a : Account) (w : Wire) (stands : Stands l) (agrees : 
 
   -- ---- a resend
 
-  -- a refused one changes nothing
+  -- a refused resend changes nothing
   refused-stays : (x : Report) → Stays w (goes_on (turns.resent l.place) (gives l (answer.Report x)))
   refused-stays x r w' new h = still w' (record { own = h.own; pages = h.pages; known = h.known })
 
@@ -357,7 +357,7 @@ module _ (l : LaneState) (a : Account) (w : Wire) (stands : Stands l) (agrees : 
     abbrev resent-by : Asking Outcome → Asking Turned
     resent-by = goes_on (turns.resent l.place)
 
-    -- one that has copied ends as the load of the clusters does
+    -- a resend that has copied ends like the load of its clusters
     module _ (fine : load_judged l s.map (Vector s.clusters) ≡ Fine)
         (reads : cpu_read_answer (is_known l.memory) l.loans (chain_bytes s l) ≡ Fine)
         (writes : cpu_write_answer l.loans (cluster_bytes s l) ≡ Fine) where

@@ -1,4 +1,4 @@
--- Lists in which nothing stands twice, and what stands in bytes that are written once each.
+-- Lists in which nothing is twice, and the values of bytes that are written once each.
 use Rattle.std.proofs.Common.{◌≡◌, ℕ, zero, suc, ◌==◌, ◌||◌, Bool, true, false, cond, List, [], ◌∷◌, ◌++◌, map, length}
 use Rattle.std.proofs.Common.{slice_get, Option, Some, None, is_some, refl, ap, sym, ◌∙◌, subst, arith, eq-eqb}
 use Rattle.std.proofs.lemmas.Bool.{eqb-true}
@@ -9,7 +9,7 @@ use Rattle.busdma_base.specs.Scenarios.Buffers.{IsNoneOf}
 use Rattle.ideal_lane.specs.IdealMemory.{Content, IdealMemory, Known, value, written, written_at}
 use Rattle.ideal_wire.proofs.Positions.{found_one}
 
--- no number stands at two places of a list
+-- no number is at two places of a list
 abbrev pub HasNoTwins : List ℕ → Type 0
 HasNoTwins xs = (i j a : ℕ) → slice_get xs i ≡ Some a → slice_get xs j ≡ Some a → i ≡ j
 
@@ -32,7 +32,7 @@ none-before before (x ∷ xs) h zero a e = subst (IsNoneOf before) (found_one (S
 none-before before (x ∷ xs) h (suc j) a e =
     (any-parts a before (x ∷ []) (none-before (before ++ x ∷ []) xs h.1 j a e)).0
 
--- so it is none that stands just before
+-- such a number is not the one just before it
 not-last : (before : List ℕ) (x a : ℕ) → IsNoneOf (before ++ x ∷ []) a → x ≡ a → ⊥
 not-last before x a h same = by (a == x) (eq-eqb a x (sym same)) (any-parts a before (x ∷ []) h).1
   where
@@ -40,7 +40,7 @@ not-last before x a h same = by (a == x) (eq-eqb a x (sym same)) (any-parts a be
     by true e g = absurd (cc)
     by false e g = absurd (cc)
 
--- so none stands twice
+-- no number is at two places of such a list
 pub no-twins : (before xs : List ℕ) → EachAfter IsNoneOf before xs → HasNoTwins xs
 no-twins before [] h i j a e f = absurd (cc)
 no-twins before (x ∷ xs) h zero zero a e f = refl
@@ -52,7 +52,7 @@ no-twins before (x ∷ xs) h (suc i) (suc j) a e f = ap suc (no-twins (before ++
 
 -- ---- bytes that are written
 
--- one that is not written stays
+-- a byte that is not written stays
 unwritten : (keys vs : List ℕ) (memory : IdealMemory) (a : ℕ) → ((j : ℕ) → slice_get keys j ≡ Some a → ⊥) →
     written keys vs memory a ≡ memory a
 unwritten [] vs memory a none = refl
@@ -64,7 +64,7 @@ unwritten (k ∷ keys) (v ∷ vs) memory a none =
     by true e = absurd (none 0 (ap (λ x. Some x) (sym (eqb-true a k e))))
     by false e = refl
 
--- one byte that is written is there as it was
+-- a byte of the driver's own is still its own after a write
 still-there : (k v : ℕ) (memory : IdealMemory) (a : ℕ) → is_some (memory a) ≡ true →
     is_some (written_at k v memory a) ≡ true
 still-there k v memory a own = by (a == k) (memory a) own

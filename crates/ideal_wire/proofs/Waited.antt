@@ -20,7 +20,7 @@ module _ (l : LaneState) (stands : Stands l) (laid : AreLaid l) (k z need : ℕ)
   abbrev pub waited-asked : Asked
   waited-asked = asked k w.load.bio false w.load.items l
 
-  -- it is not a memory's, and its load is of the driver's pages
+  -- the map that waited is not a memory's, and its load is of the driver's pages
   pub waited-direct : get l.mems k ≡ None
   waited-direct = by (get l.mems k) refl
     where
@@ -32,7 +32,7 @@ module _ (l : LaneState) (stands : Stands l) (laid : AreLaid l) (k z need : ℕ)
   pub waited-own : AreOfPages l w.load.bio
   waited-own = of-pages l w.load.bio waited-lies.own
 
-  -- its need is that of its chunks
+  -- the need of the load is the need of its chunks
   pub waited-need : need ≡ need_of (chunks_of (limits_of l w.map) l.maxmem waited-asked.entries)
   waited-need =
       sym w.counted

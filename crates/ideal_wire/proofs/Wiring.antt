@@ -87,8 +87,8 @@ own-fetched l r d c a = by (d.kind == 1)
         (written (load_bytes l.loans c.map c.off d.len) (replicate d.len d.fill) l.memory) a
         ∙ own-written (load_bytes l.loans c.map c.off d.len) (replicate d.len d.fill) l.memory a
 
--- what a step needs besides, to leave the wire faithful: one that writes at device addresses, that these are found. The
--- steps of a ring's device are not told by `Done` alone, and stand in `FaithfulRings`.
+-- what a step needs besides, to leave the wire faithful: a step that writes at device addresses needs these to be
+-- found. The steps of a ring's device also end with an answer other than `Done`, and are in `FaithfulRings`.
 abbrev pub Needs : LaneState → Work → Type 0
 Needs l (Transfer (item.DevWriteAt t addr bs)) = AreFound l
 Needs l (Transfer (item.RingStep k)) = ⊥
@@ -103,7 +103,7 @@ module _ (l : LaneState) (w : Wire) (apart : IsApart l) (laid : AreLaid l) (f : 
     agrees = f.agrees;
   }
 
-  -- the wire that an operation or an item makes, where it is done
+  -- the wire that an operation or an item makes, if it is done
   abbrev pub now : Work → Wire
   now (Operation (op.Sync m ops)) = wire.synced m 0 (load_length l m) ops l w
   now (Operation (op.SyncRange m off len ops)) = wire.synced m off len ops l w

@@ -15,20 +15,20 @@ use Rattle.busdma_rules.specs.Segments.Segmentation.{segment_bytes}
 use Rattle.ideal_lane.specs.State.{LaneState}
 use Rattle.ideal_wire.specs.Traces.{traces_of}
 
--- as many pages as chunks need, each of which the device of a tag reaches
+-- pages are as many as chunks need, and the device of a tag reaches each of them
 pub record ArePagesFor (t : TagLimits) (chunks : List Chunk) (pages : List ℕ) : Type 0 where
   pub count : length pages ≡ need_of chunks
   pub reachable : AllByRecursion (IsReachable t) (as_pages pages)
 
 -- the load of a map is of these bytes, in order; what the device finds at the bytes of its segments are the bus
--- addresses of these bytes, in order; and the segments of its chunks in their pages obey the tag
+-- addresses of these bytes, in order; and the segments obey the tag for these chunks in these pages
 pub record IsAcceptedLoad (l : LaneState) (m : ℕ) (find : ℕ → Option ℕ) (t : TagLimits) (bytes : List ℕ)
     (chunks : List Chunk) (pages : List ℕ) (segments : List Segment) : Type 0 where
   pub buffer : buffers (traces_of l m) ≡ bytes
   pub trace : map find (segment_bytes segments) ≡ map (λ a. Some a) (buses (traces_of l m))
   pub obeys : Obeys t (tag_placed t chunks (as_pages pages)) segments
 
--- P holds of the segments, where there are segments
+-- P holds of the segments that an answer has, if it has segments
 abbrev pub IfSegments : Answer → (List Segment → Type 0) → Type 0
 IfSegments (answer.Segments segments) P = P segments
 IfSegments _ P = Unit {0}

@@ -1,4 +1,4 @@
--- When the ideal memory and the wire agree, whatever the traces of the loads are.
+-- When the ideal memory and the wire agree, for any traces of the loads.
 use Rattle.std.specs.Prelude.{◌≡◌, ℕ, true, false, Some, slice_get}
 use Rattle.busdma_rules.specs.declared.position.Position.{Position}
 use Rattle.busdma_rules.specs.Lending.Loans.{Loans, loan_of, to_write, in_any_way, lent}
@@ -7,16 +7,17 @@ use Rattle.ideal_lane.specs.IdealMemory.{IdealMemory, Known}
 use Rattle.ideal_lane.specs.State.{LaneState}
 use Rattle.ideal_wire.specs.Traces.{traces_of}
 
--- the position of a map's load at a place, and its place in the trace
+-- a position is at a place of a map's load
 abbrev pub IsAt : Loans → ℕ → ℕ → Position → Type 0
 IsAt loans m i p = slice_get (loan_of loans m).positions i ≡ Some p
 
+-- a byte with its bus address is at a place of the trace of a map's load
 abbrev pub IsPlacedAt : Traces → ℕ → ℕ → Placed → Type 0
 IsPlacedAt traces m i t = slice_get (traces m) i ≡ Some t
 
--- A Known byte that is lent to write stands at the bus address of the position that lends it; one that is lent to
--- read alone stands at the bus address of each position that lends it; and each that is not lent to write stands in
--- the buffer.
+-- A Known byte that is lent to write is at the bus address of the position that lends it. A Known byte that is lent
+-- only to read is at the bus address of each position that lends it. A Known byte that is not lent to write is in the
+-- buffer.
 pub record Agrees (memory : IdealMemory) (loans : Loans) (traces : Traces) (w : Wire) : Type 0 where
   pub written : (m i : ℕ) (p : Position) (t : Placed) (v : ℕ) → IsAt loans m i p → IsPlacedAt traces m i t →
       p.to_write ≡ true → memory p.pa ≡ Some (Known v) → w t.bus ≡ v
@@ -24,8 +25,8 @@ pub record Agrees (memory : IdealMemory) (loans : Loans) (traces : Traces) (w : 
       p.to_read ≡ true → lent to_write p.pa loans ≡ false → memory p.pa ≡ Some (Known v) → w t.bus ≡ v
   pub kept : (a v : ℕ) → lent to_write a loans ≡ false → memory a ≡ Some (Known v) → w a ≡ v
 
--- What the rules of lending keep: a byte that is lent to write stands once in the buffer of its map, and no other map
--- lends it; a coherent map lends nothing.
+-- What the rules of lending keep: a byte that is lent to write is once in the buffer of its map, and no other map lends
+-- it. A coherent map lends nothing.
 pub record IsExclusive (loans : Loans) : Type 0 where
   pub once : (m i j : ℕ) (p q : Position) → IsAt loans m i p → IsAt loans m j q →
       p.to_write ≡ true → p.pa ≡ q.pa → i ≡ j

@@ -11,23 +11,24 @@ use Rattle.ideal_lane.specs.Unloads.{pages_of, segments_in}
 use Rattle.ideal_wire.specs.Answered.{found_at}
 use Rattle.ideal_wire.specs.Traces.{is_in_pages, stage_at}
 
--- by what a driver holds a byte: by its pages, by one of its memories, or by one of its maps
+-- the ways in which a driver holds a byte: by its pages, by one of its memories, or by one of its maps
 pub data Holder : Type 0 where
   ItsPages : Holder
   ItsMemory : (place : ℕ) → Holder
   ItsMap : (place : ℕ) → Holder
 
--- the bounce pages of a map: those that it has, and those that stand in the return queue
+-- the bounce pages of a map: the pages that it has, and its pages in the return queue
 abbrev pub bounce_pages : LaneState → ℕ → List ℕ
 bounce_pages l m = pages_of (stage_at l m) ++ map (λ r. r.page) (filter (λ r. r.map == m) l.returns)
 
--- a byte is one of the driver's pages, of the frames of a memory, or of the bounce pages of a map
+-- a driver holds a byte in this way: the byte is in its pages, in the frames of this memory, or in the bounce pages of
+-- this map
 abbrev pub holds : LaneState → Holder → ℕ → Bool
 holds l ItsPages a = is_own l.pages a
 holds l (ItsMemory k) a = option_map_or (λ (x : LaneMemory). in_run x.first x.count a) (get l.mems k) false
 holds l (ItsMap m) a = is_in_pages (bounce_pages l m) a
 
--- a driver holds a byte by something
+-- a driver holds a byte in some way
 pub record IsHeld (l : LaneState) (a : ℕ) : Type 0 where
   pub by : Holder
   pub held : holds l by a ≡ true

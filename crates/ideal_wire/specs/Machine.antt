@@ -13,21 +13,21 @@ use Rattle.ideal_lane.specs.Loads.{load_judged}
 use Rattle.ideal_lane.specs.Sends.{HaveClusters, Send, due_send}
 use Rattle.ideal_lane.specs.State.{LaneState, LaneTag, LaneMemory}
 
--- a run of pages begins a page and ends where those of memories begin at the latest, and its frames have numbers below
--- the end of the machine's memory
+-- a run of pages is in a machine whose frame numbers are below `maxmem`: it begins at a page boundary, it ends at or
+-- below the virtual addresses of memories, and its frames are below `maxmem`
 pub record IsOfMachine (maxmem : ℕ) (r : PageRun) : Type 0 where
   pub aligned : r.va.0 % 4096 ≡ 0
   pub low : r.va.0 + 4096 * r.count ≤ pages_end
   pub below : r.frame + r.count ≤ maxmem
 
--- the bytes of the chain may be loaded of a send whose resend is due
+-- if the resend of a send is due, the bytes of its chain may be loaded
 abbrev pub IsDueFine : LaneState → Type 0
 IsDueFine l = (s : Send) → due_send l ≡ Some s → load_judged l s.map (Vector s.chain) ≡ Fine
 
--- the machine's frames have numbers below 2^30, and the driver's pages and memories have frames of the machine; each
--- of its tags is an effective one; the frames that its script names are of its pages, and the clusters of its sends are
--- as the rules on scripts want them; no two virtual addresses of its pages are of one byte; and the bytes of the chain
--- may be loaded of a send whose resend is due
+-- the machine's frames have numbers below 2^30, and the driver's pages and memories have frames of the machine; each of
+-- its tags is effective; the frames that its script names are in its pages, and the clusters of its sends satisfy the
+-- rules on scripts; no two virtual addresses of its pages are of the same byte; and if the resend of a send is due, the
+-- bytes of its chain may be loaded
 pub record IsInMachine (l : LaneState) : Type 0 where
   pub numbered : l.maxmem ≤ 2 ^ 30
   pub pages : AllByRecursion (IsOfMachine l.maxmem) l.pages

@@ -1,4 +1,4 @@
--- How the loads of IOMMU tags' maps stand in their tags' address spaces.
+-- Where the loads of IOMMU tags' maps are in their tags' address spaces.
 use Rattle.std.specs.Prelude.{◌≡◌, ℕ, ◌/◌, ◌≤◌, true, List, length, map, Some}
 use Rattle.std.specs.FinMap.{get}
 use Rattle.std.specs.List.{AllByRecursion, Contains}
@@ -19,14 +19,14 @@ pub record HasRun (s : Space) (segments : List Segment) : Type 0 where
   pub first : first_of segments ≡ run.first
   pub within : AllByRecursion (λ a. has_page (a / 4096) run ≡ true) (segment_bytes segments)
 
--- the load of a map stands in a live run of its tag, where it has a byte; and what the device finds at the bytes of its
+-- the load of a map is in a live run of its tag, if it has a byte; and what the device finds at the bytes of its
 -- segments are its bytes, in order
 pub record IsMapped (l : LaneState) (m : ℕ) (o : LaneMap) : Type 0 where
   pub run : 1 ≤ length (segments_in o.stage) → HasRun (l.spaces o.tag) (segments_in o.stage)
   pub found : map (translated (l.spaces o.tag)) (segment_bytes (segments_in o.stage))
       ≡ map (λ a. Some a) (buses (traces_of l m))
 
--- so it is of each load of an IOMMU tag's map, and no two loads of a tag stand in one run
+-- each load of an IOMMU tag's map is in a live run of its tag, and no two loads of a tag are in one run
 pub record AreMapped (l : LaneState) : Type 0 where
   pub each : (m : ℕ) (o : LaneMap) → get l.maps m ≡ Some o → is_device l o ≡ true → is_loaded o.stage ≡ true →
       IsMapped l m o

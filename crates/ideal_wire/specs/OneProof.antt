@@ -1,4 +1,4 @@
--- That what a driver keeps of its wire has one proof at most, so that a lane can keep it.
+-- What a driver keeps of its wire has at most one proof, so that a lane can keep it.
 use Rattle.std.proofs.Common.{◌≡◌, ◌<◌, ℕ, ◌+◌, ◌-◌, ◌^◌, List, [], ◌∷◌, ◌++◌, drop, inl, inr, sym, ◌∙◌, arith}
 use Rattle.std.specs.Prelude.{IfSome, Option, Some, None}
 use Rattle.std.proofs.lemmas.Bool.{cases_lt}
@@ -90,7 +90,7 @@ IsApart-prop l = hlevel (props, AllByRecursion-prop)
 pub IsFaithful-prop : (l : LaneState) (w : Wire) → IsProp (IsFaithful l w)
 IsFaithful-prop l w = hlevel (props, AllByRecursion-prop)
 
--- a number is a power of two by one exponent alone
+-- a number is a power of two by one exponent only
 one-power : (i j : ℕ) → 2 ^ i ≡ 2 ^ j → i ≡ j
 one-power i j same = elim (cases_lt i j) as (λ _. i ≡ j) [
   | inl less ↦ let off : 2 ^ i < 2 ^ j = pow-lt less in absurd (omega (arith, off, same))

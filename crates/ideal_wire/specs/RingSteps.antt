@@ -1,4 +1,4 @@
--- What a step of a ring's device reads, and what one that was done found at the head and left there.
+-- What a step of a ring's device reads, and what a step that was done found at the head and left there.
 use Rattle.std.specs.Prelude.{◌≡◌, ℕ, ◌+◌, [], ◌∷◌, map}
 use Rattle.busdma_base.specs.declared.journals.answer.Answer.{Answer}
 use Rattle.busdma_base.specs.declared.journals.answer.Answer.TheVariants as answer
@@ -15,31 +15,32 @@ use Rattle.ideal_lane.specs.Rings.{head_at, head_of, ring_of, ring_step, used_ca
 use Rattle.ideal_lane.specs.State.{LaneState, LaneRing}
 use Rattle.ideal_wire.specs.WireStep.{IsRead, load_buses}
 
--- what really stands at the head of a ring is the descriptor that the ideal memory has, where the device may read it
+-- if the device may read the descriptor at the head of a ring, the bytes that are really there are the descriptor in
+-- the ideal memory
 abbrev pub HeadIsRead : LaneRing → LaneState → Wire → Type 0
 HeadIsRead r l w =
     dev_read_answer (is_known l.memory) (loan_of l.loans r.mem) (head_at r) 16 ≡ Fine →
     head_of r l ≡ descriptor_of (map w (load_buses l r.mem (head_at r) 16))
 
--- a step of a ring that answers bytes answers those that really stand where the descriptor at the head names them, in
--- the load of the map that is used
+-- if a step of a ring answers bytes, they are the bytes that are really at the range which the descriptor at the head
+-- names, in the load of the map that is used
 abbrev pub NamedAreRead : ℕ → LaneState → Wire → Type 0
 NamedAreRead k l w =
     let r = ring_of l k in
     let c = used_candidate r l in IsRead (ring_step k l) (load_buses l c.map c.off (head_of r l).len) w
 
--- the descriptor at the head of a ring was the device's, and is the driver's now, and done
+-- the descriptor at the head of a ring was the device's, and now is the driver's and done
 pub record HandsBack (r : LaneRing) (before after : LaneState) : Type 0 where
   pub owner : (head_of r before).owner ≡ 1
   pub done : values after (load_bytes after.loans r.mem (head_at r + 14) 2) ≡ 0 ∷ 1 ∷ []
 
--- this holds where a step with this answer was done
+-- P holds if a step of a ring with this answer was done
 abbrev pub IfFetched : Answer → Type 0 → Type 0
 IfFetched answer.Done P = P
 IfFetched (answer.Bytes vs) P = P
 IfFetched _ P = Unit {0}
 
--- a step of a ring hands its descriptor back, where it is done
+-- a step of a ring that was done hands its descriptor back to the driver
 abbrev pub HandsBackIn : LaneRing → LaneState → Asking Outcome → Type 0
 HandsBackIn r l (Gives o) = IfFetched o.answer (HandsBack r l o.lane)
 HandsBackIn r l (Asks c k) = Unit {0}

@@ -7,7 +7,8 @@ use Rattle.busdma_machine.specs.Tags.TagFlags.{keep_pg_offset}
 use Rattle.busdma_rules.specs.Iommu.Space.{AreRuns, Space}
 use Rattle.ideal_lane.specs.State.{LaneState, LaneTag, no_space}
 
--- a tag asks no alignment and keeps no offsets, its device reaches no page above lowaddr, and its live runs rise
+-- a tag's address space is in order: the tag asks for no alignment and keeps no offsets, its device reaches no page
+-- above lowaddr, and its live runs rise
 pub record IsSpaced (t : TagLimits) (s : Space) : Type 0 where
   pub alignment : t.alignment ≡ 1
   pub flags : keep_pg_offset t.flags ≡ false
@@ -18,7 +19,7 @@ pub record IsSpaced (t : TagLimits) (s : Space) : Type 0 where
 abbrev pub is_spaced : LaneState → ℕ → Bool
 is_spaced l k = option_map_or (λ (t : LaneTag). t.device) (get l.tags k) false
 
--- so it is of each IOMMU tag, and nothing else has an address space
+-- the address space of each IOMMU tag is in order, and nothing else has an address space
 pub record AreSpaced (l : LaneState) : Type 0 where
   pub each : (k : ℕ) (t : LaneTag) → get l.tags k ≡ Some t → t.device ≡ true → IsSpaced t.limits (l.spaces k)
   pub none : (k : ℕ) → is_spaced l k ≡ false → l.spaces k ≡ no_space

@@ -1,5 +1,5 @@
--- What the steps of a driver make of its wire. Pages and the frames of memories come with any bytes, but with zeros
--- where zeros were asked for. Those that go leave the wire, and nothing is said here of the bytes that they take along.
+-- What the steps of a driver make of its wire. Pages and the frames of memories come with any bytes, but with zeros if
+-- zeros were asked for. Those that go leave the wire, and nothing is said here of the bytes that they take along.
 use Rattle.std.specs.Prelude.{◌≡◌, ℕ, ◌+◌, ◌==◌, Bool, true, false, List, [], ◌∷◌, Option, Some, None, map, length, replicate}
 use Rattle.std.specs.Prelude.{if◌then◌else◌, is_some, slice_get, unwrap_or}
 use Rattle.std.specs.Ordering.{nat_cmp}
@@ -42,89 +42,91 @@ use Rattle.ideal_wire.specs.Traces.{stage_at, stage_in, is_in_pages, traces_of}
 
 -- What is done
 
--- a step with this answer that is not done changes no byte
+-- the wire after a step with this answer: if the answer is not Done, no byte changed
 abbrev pub if_answered : Answer → Wire → Wire → Wire
 if_answered answer.Done after w = after
 if_answered _ after w = w
 
--- nor does one that makes a call
+-- the wire after a step that is done without a call; a step that makes a call changes no byte
 abbrev pub if_done : Asking Outcome → Wire → Wire → Wire
 if_done (Gives o) after w = if_answered o.answer after w
 if_done (Asks c k) after w = w
 
--- PREWRITE copies the bounced bytes of positions to their bus addresses, and POSTREAD copies them back; PREREAD and
--- POSTWRITE copy nothing
+-- the wire after a sync of these positions: PREWRITE copies the bounced bytes to their bus addresses, and POSTREAD
+-- copies them back; PREREAD and POSTWRITE copy nothing
 abbrev pub copied_by : ℕ → List Placed → Wire → Wire
 copied_by ops ps w = if prewrite ops then copied_in ps w else if postread ops then copied_out ps w else w
 
--- a sync of a range of a map's load; that of a coherent map copies nothing
+-- the wire after a sync of a range of a map's load that is done; a sync of a coherent map copies nothing
 abbrev pub synced : ℕ → ℕ → ℕ → ℕ → LaneState → Wire → Wire
 synced m off len ops l w =
     if (loan_of l.loans m).coherent then w else copied_by ops (stretch off len (traces_of l m)) w
 
--- a sync of the whole load
+-- the wire after a sync of the complete load of a map
 abbrev pub sync : ℕ → ℕ → LaneState → Wire → Wire
 sync m ops l w = if_done (syncs.sync m ops l) (synced m 0 (load_length l m) ops l w) w
 
--- a sync of a range
+-- the wire after a sync of a range of a map's load
 abbrev pub sync_range : ℕ → ℕ → ℕ → ℕ → LaneState → Wire → Wire
 sync_range m off len ops l w = if_done (syncs.sync_range m off len ops l) (synced m off len ops l w) w
 
--- the bytes at a place, by their physical addresses
+-- the physical addresses of the bytes at a place
 abbrev pub place_bytes : LaneState → Place → ℕ → List ℕ
 place_bytes l place len = bytes_at l (run_of (unwrap_or (virtual_at l place) 0) len)
 
--- the driver writes the bytes at a place
+-- the wire after the driver writes the bytes at a place
 abbrev pub cpu_write : Place → List ℕ → LaneState → Wire → Wire
 cpu_write place vs l w = if_done (accesses.cpu_write place vs l) (put (place_bytes l place (length vs)) vs w) w
 
--- the bus addresses of a range of a map's load
+-- the bus addresses of a range of a map's load, in order
 abbrev pub load_buses : LaneState → ℕ → ℕ → ℕ → List ℕ
 load_buses l m off len = buses (stretch off len (traces_of l m))
 
--- the device writes the bytes of a range of a map's load
+-- the wire after the device writes the bytes of a range of a map's load
 abbrev pub dev_write : ℕ → ℕ → List ℕ → LaneState → Wire → Wire
 dev_write m off vs l w = if_done (accesses.dev_write m off vs l) (put (load_buses l m off (length vs)) vs w) w
 
--- the device of an IOMMU tag writes the bytes at device addresses: at the addresses of the buffers' own bytes, since no
--- load of such a tag bounces
+-- the wire after the device of an IOMMU tag writes bytes at device addresses: they are written to the buffers' own
+-- bytes, because no load of such a tag bounces
 abbrev pub dev_write_at : ℕ → ℕ → List ℕ → LaneState → Wire → Wire
 dev_write_at t addr vs l w =
     if_done (accesses.dev_write_at t addr vs l) (put (accesses.raw_bytes l t (run_of addr (length vs))) vs w) w
 
--- the driver writes a descriptor into a slot of a ring
+-- the wire after the driver writes a descriptor into a slot of a ring
 abbrev pub ring_post : ℕ → ℕ → ℕ → ℕ → ℕ → ℕ → ℕ → LaneState → Wire → Wire
 ring_post k slot m off len kind fill l w =
     if_done (rings.ring_post k slot m off len kind fill l)
     (put (place_bytes l (rings.slot_place (rings.ring_of l k) slot) 16)
     (descriptor_bytes (rings.posted (segments_in (stage_at l m)) off len kind fill)) w) w
 
--- the device of a ring has done what a descriptor says: the bytes that it names are written, where the device writes
+-- the wire after the device of a ring has done what a descriptor says: if the device writes, the bytes that the
+-- descriptor names are written
 abbrev pub used_wire : Descriptor → rings.Candidate → LaneState → Wire → Wire
 used_wire d c l w = if d.kind == 1 then w else put (load_buses l c.map c.off d.len) (replicate d.len d.fill) w
 
--- and so are two bytes of the descriptor at the head
+-- the wire after a step of a ring that was done: the device has done what the descriptor at the head says, and has
+-- written the descriptor's owner and status
 abbrev pub fetched_wire : LaneRing → LaneState → Wire → Wire
 fetched_wire r l w =
     put (load_buses l r.mem (rings.head_at r + 14) 2) (0 ∷ 1 ∷ [])
     (used_wire (rings.head_of r l) (rings.used_candidate r l) l w)
 
--- a step of a ring with this answer that did nothing changes no byte
+-- the wire after a step of a ring with this answer: if the answer is neither Done nor bytes, no byte changed
 abbrev pub if_fetched : Answer → Wire → Wire → Wire
 if_fetched answer.Done after w = after
 if_fetched (answer.Bytes vs) after w = after
 if_fetched _ after w = w
 
--- nor does one that makes a call
+-- the wire after a step of a ring without a call; a step that makes a call changes no byte
 abbrev pub if_step_done : Asking Outcome → Wire → Wire → Wire
 if_step_done (Gives o) after w = if_fetched o.answer after w
 if_step_done (Asks c k) after w = w
 
--- a step of a ring
+-- the wire after a step of a ring
 abbrev pub ring_step : ℕ → LaneState → Wire → Wire
 ring_step k l w = if_step_done (rings.ring_step k l) (fetched_wire (rings.ring_of l k) l w) w
 
--- an operation; no other changes a byte
+-- the wire after an operation; only syncs, writes of the driver and posts change a byte
 abbrev pub operation : Op → LaneState → Wire → Wire
 operation (op.Tag name parent limits) l w = w
 operation (op.IommuTag name limits) l w = w
@@ -144,7 +146,7 @@ operation (op.Ring name mem slots) l w = w
 operation (op.RingPost ring slot map off len kind fill) l w = ring_post ring slot map off len kind fill l w
 operation (op.Kick ring steps) l w = w
 
--- an item
+-- the wire after an item
 abbrev pub transfer : Item → LaneState → Wire → Wire
 transfer (item.Sync map ops) l w = sync map ops l w
 transfer (item.SyncRange map off len ops) l w = sync_range map off len ops l w
@@ -154,17 +156,17 @@ transfer (item.DevReadAt tag addr len) l w = w
 transfer (item.DevWriteAt tag addr bytes) l w = dev_write_at tag addr (bytes_of bytes) l w
 transfer (item.RingStep ring) l w = ring_step ring l w
 
--- the next operation of the script, if there is one and it does not wait
+-- the wire after the next operation of the script, if there is one and it does not wait
 abbrev pub next_operation : Option Op → LaneState → Wire → Wire
 next_operation None l w = w
 next_operation (Some o) l w = if waits o l then w else operation o l w
 
--- a step changes the wire, unless the judgement before it is a refusal
+-- the wire after a step that changes it, unless the judgement before the step is a refusal
 abbrev pub if_fine : Judged → Wire → Wire → Wire
 if_fine Fine after w = after
 if_fine (Refused r) after w = w
 
--- the clusters of a send have the bytes of its chain, in order
+-- the wire in which the clusters of a send have the bytes of its chain, in order
 abbrev pub copied : Send → LaneState → Wire → Wire
 copied s l w = put (cluster_bytes s l) (map w (chain_bytes s l)) w
 
@@ -173,7 +175,7 @@ abbrev pub is_free : Option LaneMap → Bool
 is_free None = false
 is_free (Some o) = is_idle o.stage
 
--- a resend that is not refused before has copied, however the load of the clusters ends
+-- the wire after a resend: unless it was refused before, it has copied, whatever comes of the load of the clusters
 abbrev pub resend : Send → LaneState → Wire → Wire
 resend s l w =
     if is_free (get l.maps s.map) then (
@@ -181,22 +183,22 @@ resend s l w =
     if_fine (cpu_read_answer (is_known l.memory) l.loans (chain_bytes s l)) (
     if_fine (cpu_write_answer l.loans (cluster_bytes s l)) (copied s l w) w) w) w) else w
 
--- the resend that is due, or else the next operation
+-- the wire after the resend that is due, or else after the next operation
 abbrev pub due_turn : Option Send → LaneState → Wire → Wire
 due_turn None l w = next_operation (slice_get l.script l.place) l w
 due_turn (Some s) l w = resend s l w
 
--- the turn of the script, in which pages go back first
+-- the wire after the script's turn, in which pages go back first
 abbrev pub script_turn : List Return → LaneState → Wire → Wire
 script_turn [] l w = due_turn (due_send l) l w
 script_turn (r ∷ rest) l w = w
 
--- the first item of the transfer queue, if there is one
+-- the wire after the first item of the transfer queue, if there is one
 abbrev pub transfer_turn : List QueuedItem → LaneState → Wire → Wire
 transfer_turn [] l w = w
 transfer_turn (q ∷ rest) l w = transfer q.item l w
 
--- the turn of a side
+-- the wire after the turn of a side
 abbrev pub lane_step : LaneState → Side → Wire → Wire
 lane_step l side.Script w = script_turn l.returns l w
 lane_step l side.Transfer w = transfer_turn l.queue l w
@@ -204,23 +206,23 @@ lane_step l side.Callback w = w
 
 -- What comes and goes
 
--- a byte that is the driver's own before and after stays
+-- a byte that is the driver's own before and after a step is unchanged
 abbrev pub KeepsOwn : IdealMemory → IdealMemory → Wire → Wire → Type 0
 KeepsOwn before after w w' =
     (a : ℕ) → is_some (before a) ≡ true → is_some (after a) ≡ true → w' a ≡ w a
 
--- so does a byte of a page that a map holds before and after
+-- a byte of a page that a map holds before and after a step is unchanged
 abbrev pub KeepsPages : FinMap nat_cmp LaneMap → FinMap nat_cmp LaneMap → Wire → Wire → Type 0
 KeepsPages before after w w' =
     (m a : ℕ) → is_in_pages (pages_of (stage_in (get before m))) a ≡ true →
     is_in_pages (pages_of (stage_in (get after m))) a ≡ true → w' a ≡ w a
 
--- a byte that came to the driver and is Known stands there
+-- a byte that came to the driver and is Known has its Known value in the wire
 abbrev pub BringsKnown : IdealMemory → IdealMemory → Wire → Type 0
 BringsKnown before after w' = (a v : ℕ) → before a ≡ None → after a ≡ Some (Known v) → w' a ≡ v
 
--- what the driver had before and has after keeps its bytes; pages came with any bytes, and frames of memories with what
--- is Known of them
+-- what the driver had before a step and has after it keeps its bytes; pages came with any bytes, and frames of memories
+-- with what is Known of them
 pub record Follows (before after : LaneState) (w w' : Wire) : Type 0 where
   pub own : KeepsOwn before.memory after.memory w w'
   pub pages : KeepsPages before.maps after.maps w w'
@@ -228,12 +230,12 @@ pub record Follows (before after : LaneState) (w w' : Wire) : Type 0 where
 
 -- What is read
 
--- a read that is done answers the bytes at these addresses
+-- if an answer has bytes, they are the bytes of the wire at these addresses
 abbrev pub Reads : Answer → List ℕ → Wire → Type 0
 Reads (answer.Bytes vs) addresses w = vs ≡ map w addresses
 Reads _ addresses w = Unit {0}
 
--- the same of a step
+-- if a step answers bytes, they are the bytes of the wire at these addresses
 abbrev pub IsRead : Asking Outcome → List ℕ → Wire → Type 0
 IsRead (Gives o) addresses w = Reads o.answer addresses w
 IsRead (Asks c k) addresses w = Unit {0}

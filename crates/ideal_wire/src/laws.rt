@@ -63,19 +63,18 @@ ghost use Rattle.ideal_wire.specs.Traces.{traces_of};
 ghost use Rattle.ideal_wire.specs.WireStep.{Follows, IsRead, load_buses, place_bytes};
 ghost use Rattle.ideal_wire.specs.WireStep as wire;
 
-/// A driver opens with a faithful wire, where its pages hold zeros, and with its loads laid, as it has
-/// none.
+/// A driver opens with a faithful wire if its pages hold zeros, and with its loads laid, because it has none.
 pub fn opening_is_faithful()
     ensures faithful { (id maxmem : ℕ) (driver : Driver) (w : Wire) →
         ((a : ℕ) → is_own driver.pages a ≡ true → w a ≡ 0) → IsFaithful (opening_lane id maxmem driver) w }
     ensures laid { (id maxmem : ℕ) (driver : Driver) → AreLaid (opening_lane id maxmem driver) }
 {}
 
-/// A step leaves a faithful wire faithful, where the driver stands, agrees with the account and has its
-/// loads laid, the address spaces of its IOMMU tags in order and their loads in their runs: whatever the
-/// reply to its call that brings no frames but new ones, and whatever bytes its pages bring, where the
-/// frames of a memory that come with zeros have zeros. So does the resend of a send, in whose wire the
-/// clusters have the bytes of the chain.
+/// A step leaves a faithful wire faithful if the driver satisfies `Stands`, agrees with the account and has its loads
+/// laid, and if the address spaces of its IOMMU tags are in order and their loads are in their runs. This holds for any
+/// reply to the step's call that brings only new frames, and for any bytes that pages bring. Frames of a memory that
+/// come with zeros must have zeros. It also holds of the resend of a send, in whose wire the clusters have the bytes of
+/// the chain.
 pub fn step_stays_faithful()
     ensures { (l : LaneState) (s : Side) (a : Account) (r : HubReply) (w w' : Wire) →
         Stands l → AgreesWith l a → AreLaid l → AreSpaced l → AreMapped l → IsFaithful l w → BringsNew l r →
@@ -83,12 +82,12 @@ pub fn step_stays_faithful()
         IsFaithful (by_reply (lane_step l s) r).lane w' }
 {}
 
-/// What is really read is what the ideal memory has: by the driver at the bytes that it names, by its
-/// device at the bus addresses of its load, and by the device of an IOMMU tag where the bytes at its
-/// device addresses lie. So it is of the device of a ring: it reads the descriptor at the head, where it
-/// may read those bytes, and the bytes that the descriptor names, in the load of the map that is used.
-/// The driver stands, agrees with the account and has its loads laid, and its wire is faithful; for the
-/// third, the address spaces of its IOMMU tags are in order, and their loads stand in their runs.
+/// What is really read is what the ideal memory has. The driver reads at the bytes that it names, its device at the bus
+/// addresses of its load, and the device of an IOMMU tag at the bytes to which its device addresses lead. The device of
+/// a ring reads the descriptor at the head, if it may read those bytes, and the bytes that the descriptor names, in the
+/// load of the map that is used. The driver satisfies `Stands`, agrees with the account and has its loads laid, and its
+/// wire is faithful. For the device of an IOMMU tag, the address spaces of the driver's IOMMU tags are also in order,
+/// and their loads are in their runs.
 pub fn reads_are_faithful()
     ensures cpu { (l : LaneState) (a : Account) (w : Wire) (place : Place) (len : ℕ) →
         Stands l → AgreesWith l a → AreLaid l → IsFaithful l w →
@@ -105,25 +104,25 @@ pub fn reads_are_faithful()
         Stands l → AgreesWith l a → AreLaid l → IsFaithful l w → NamedAreRead k l w }
 {}
 
-/// Different virtual bytes that a driver reaches, of its pages and of its memories, are different physical
-/// ones, where it stands, agrees with the account, lies in its machine and has its loads laid. So the
-/// clusters to which the resend of a send copies are written once each, and have all the bytes of the
-/// chain, though one byte may stand in a chain twice.
+/// Different virtual bytes that a driver reaches, of its pages and of its memories, are different physical bytes. The
+/// driver satisfies `Stands`, agrees with the account, is in its machine and has its loads laid. So the clusters to
+/// which the resend of a send copies are written once each and have all the bytes of the chain, even if one byte is in
+/// the chain twice.
 pub fn bytes_are_reached_once()
     ensures { (l : LaneState) (a : Account) (va vb pa : ℕ) → Stands l → AgreesWith l a → IsInMachine l → AreLaid l →
         physical l va ≡ Some pa → physical l vb ≡ Some pa → va ≡ vb }
 {}
 
-/// What a driver holds lies apart, where it stands, agrees with the account and has its loads laid.
+/// What a driver holds is apart if the driver satisfies `Stands`, agrees with the account and has its loads laid.
 pub fn agreeing_pages_are_apart()
     ensures { (l : LaneState) (a : Account) → Stands l → AgreesWith l a → AreLaid l → IsApart l }
 {}
 
-/// A byte that a driver holds it holds by one thing alone: by its pages, by a memory, or by a map, which
-/// may have its bounce pages or have them in the return queue. Of two drivers that agree with one account,
-/// and whose pages are apart, no other holds it. The device of a map finds, at each bus address that the
-/// segments of its load name, a byte that its own driver holds. The drivers stand and have their loads laid, and the
-/// account is one that a sound history leads to.
+/// A byte that a driver holds is held in one way only: by its pages, by a memory, or by a map, which has its bounce
+/// pages or has them in the return queue. If two drivers agree with one account and their pages are apart, a byte that
+/// one of them holds is not held by the other. The device of a map finds, at each bus address that the segments of its
+/// load name, a byte that its own driver holds. The drivers satisfy `Stands` and have their loads laid, and the account
+/// is one to which a sound history leads.
 pub fn holdings_are_apart()
     ensures one { (l : LaneState) (a : Account) (b : ℕ) (by : Holder) (other : Holder) → IsFit a → AgreesWith l a →
         Stands l → AreLaid l → holds l by b ≡ true → holds l other b ≡ true → by ≡ other }
@@ -134,11 +133,10 @@ pub fn holdings_are_apart()
         get l.maps m ≡ Some o → slice_get (bus_addresses o) n ≡ Some bus → FindsHeld l o bus }
 {}
 
-/// A sync, a write, a post to a ring or a step of its device leaves a faithful wire faithful, where what
-/// the driver holds lies apart and its loads are laid; for a step of a ring, where the driver stands; and
-/// for a write at device addresses, where the driver stands, the address spaces of its IOMMU tags are in
-/// order and their loads stand in their runs. Such a call asks nothing of the account, so any reply gives
-/// the driver after it.
+/// A sync, a write, a post to a ring or a step of its device leaves a faithful wire faithful if what the driver holds
+/// is apart and its loads are laid. For a step of a ring, the driver also satisfies `Stands`. For a write at device
+/// addresses, the driver also satisfies `Stands`, the address spaces of its IOMMU tags are in order, and their loads
+/// are in their runs. Such a call asks nothing of the account, so any reply gives the driver after it.
 pub fn calls_stay_faithful()
     ensures sync { (l : LaneState) (w : Wire) (m ops : ℕ) (r : HubReply) →
         IsApart l → AreLaid l → IsFaithful l w →
@@ -164,10 +162,10 @@ pub fn calls_stay_faithful()
         IsFaithful (by_reply (ring_step k l) r).lane (wire.ring_step k l w) }
 {}
 
-/// What is really read is what the ideal memory has, where what the driver holds lies apart, its loads
-/// are laid and its wire is faithful; and for a read at device addresses, where the driver stands, the
-/// address spaces of its IOMMU tags are in order and their loads stand in their runs. So it is of the
-/// descriptor at the head of a ring, where the device may read those bytes, and of the bytes that it names.
+/// What is really read is what the ideal memory has if what the driver holds is apart, its loads are laid and its wire
+/// is faithful. For a read at device addresses, the driver also satisfies `Stands`, the address spaces of its IOMMU
+/// tags are in order, and their loads are in their runs. The same holds of the descriptor at the head of a ring, if the
+/// device may read those bytes, and of the bytes that the descriptor names.
 pub fn calls_read_faithfully()
     ensures cpu { (l : LaneState) (w : Wire) (place : Place) (len : ℕ) → IsApart l → AreLaid l → IsFaithful l w →
         IsRead (cpu_read place len l) (place_bytes l place len) w }
@@ -181,25 +179,29 @@ pub fn calls_read_faithfully()
         NamedAreRead k l w }
 {}
 
-/// A step of a ring that was done, with `Done` or with bytes, found the owner of the descriptor at the
-/// ring's head to be the device, and leaves it the driver's and done: owner 0 and status 1. The driver
-/// stands and has its loads laid. So between two steps that were done on one slot its owner was written,
-/// by a post or by another write. A driver that alone writes these two bytes, and only once it saw them
-/// so, sees each step that was done before the next one on that slot.
+/// A step of a ring that was done, with `Done` or with bytes, found the device to be the owner of the descriptor at the
+/// ring's head. It leaves the descriptor the driver's and done: owner 0 and status 1. The driver satisfies `Stands` and
+/// has its loads laid. So between two steps that were done on one slot its owner was written, by a post or by another
+/// write. If only the driver writes these two bytes, and only after it has read owner 0 and status 1, then it sees each
+/// step that was done before the next one on that slot.
 pub fn ring_steps_hand_back()
     ensures { (l : LaneState) (k : ℕ) → Stands l → AreLaid l → HandsBackIn (ring_of l k) l (ring_step k l) }
 {}
 
-/// The segments that a load of the driver's pages answers are its bytes, in order, and obey its tag,
-/// where it has as many pages as it needs and its device reaches each of them. The load is of a map
-/// that is not a memory's, its bytes are judged fine, and the frames that it names are the driver's.
-/// The segments that a load of a memory's own map answers are the memory's first bytes, in order, and
-/// obey the tag too, though the chunks of such a load are cut as if it had no alignment.
-/// So it is of the segments that a turn answers by the account's reply, where driver and account
-/// agree and the zones of maps serve their tags: it has ended a load in its own step, or at the
-/// callback of one that waited, or by the resend of a send. Then they are the bytes of the send's
-/// clusters, which have the bytes that its chain had, in order. The account is one that a sound history
-/// leads to. In all of this the driver stands, lies in its machine and has its loads laid.
+/// The segments that a load answers are the bytes of the load, in order, and obey the map's tag.
+///
+/// In `load` the load is of the driver's pages: its map is not a memory's, its bytes are judged fine, and the frames
+/// that it names are the driver's. It has as many pages as it needs, and its device reaches each of them. In `memory`
+/// the load is of a memory's own map, and its bytes are the memory's first bytes. The segments obey the tag although
+/// the chunks of such a load are cut as if the tag had no alignment.
+///
+/// In `turn` a turn answers the segments by the account's reply, if driver and account agree, the zones of maps serve
+/// their tags, and the address spaces of the driver's IOMMU tags are in order. The turn has ended a load in its own
+/// step, at the callback of a load that waited, or by the resend of a send. The segments of a resend are the bytes of
+/// the send's clusters, which have the bytes that its chain had, in order. The account is one to which a sound history
+/// leads.
+///
+/// In all three the driver satisfies `Stands`, is in its machine and has its loads laid.
 pub fn accepted_loads_obey()
     ensures load { (l : LaneState) (m : ℕ) (o : LaneMap) (b : Bio) (load_at : ℕ) (nowait : Bool)
         (items : List Item) (pages : List ℕ) → Stands l → AreLaid l → IsInMachine l → IsBioOf l.pages b →
@@ -223,25 +225,24 @@ pub fn accepted_loads_obey()
         AreSpaced l → AnswersLoads l a (lane_step l s) }
 {}
 
-/// A step leaves the loads of a driver laid that are laid, by the account's reply to its call, where the
-/// driver stands, agrees with the account and lies in its machine. The account is one that a sound
-/// history leads to.
+/// A step leaves the loads of a driver laid, by the account's reply to its call, if the driver satisfies `Stands`,
+/// agrees with the account, is in its machine and has its loads laid. The account is one to which a sound history
+/// leads.
 pub fn loads_stay_laid()
     ensures { (l : LaneState) (s : Side) (a : Account) → Stands l → AgreesWith l a → IsFit a → EachFrame IsFrame a →
         IsInMachine l → AreLaid l → KeepsLaid l.id a (lane_step l s) }
 {}
 
-/// The frames that the account's reply to a call brings to a driver are new to it: whole frames of the
-/// machine, and none of its pages or of its memories. Driver and account agree, the driver's loads are
-/// laid, and the account's frames are whole ones of the machine.
+/// The frames that the account's reply to a call brings to a driver are new to it: complete frames of the machine that
+/// are in none of its pages and memories. Driver and account agree, the driver's loads are laid, and the account's
+/// frames are complete frames of the machine.
 pub fn given_runs_are_new()
     ensures { (l : LaneState) (a : Account) (lane : ℕ) (c : HubCall) → AgreesWith l a → EachFrame IsFrame a →
         LiesBelowMaxmem a → AreLaid l → BringsNew l (account_step lane c a).reply }
 {}
 
-/// A driver of a valid scenario opens in its machine, and a step leaves it there, whatever the reply
-/// to its call that brings no frames but new ones: its tags stay effective ones, and the bytes of the
-/// chain of a send may be loaded while its resend is due.
+/// A driver of a valid scenario opens in its machine, and a step leaves it there, for any reply to its call that brings
+/// only new frames: its tags stay effective, and the bytes of a send's chain may be loaded while its resend is due.
 pub fn steps_stay_in_machine()
     ensures opens { (s : Scenario) (i : ℕ) (driver : Driver) → IsValid s → slice_get s.drivers i ≡ Some driver →
         IsInMachine (opening_lane i (maxmem_of s.frames) driver) }
@@ -249,19 +250,18 @@ pub fn steps_stay_in_machine()
         IsInMachine (by_reply (lane_step l s) r).lane }
 {}
 
-/// The address spaces of a driver's IOMMU tags are in order at its opening, where there is none, and stay
-/// so at each step of a driver that stands, lies in its machine and has its loads laid, whatever the reply.
+/// The address spaces of a driver's IOMMU tags are in order at its opening, when it has none. A step keeps them in
+/// order if the driver satisfies `Stands`, is in its machine and has its loads laid, whatever the reply.
 pub fn spaces_stay_in_order()
     ensures opens { (id maxmem : ℕ) (driver : Driver) → AreSpaced (opening_lane id maxmem driver) }
     ensures stays { (l : LaneState) (s : Side) (r : HubReply) → Stands l → AreLaid l → IsInMachine l → AreSpaced l →
         AreSpaced (by_reply (lane_step l s) r).lane }
 {}
 
-/// The loads of IOMMU tags' maps stand in live runs of their tags, no two in one, at a driver's opening,
-/// where there is none, and after each step of a driver that stands, lies in its machine, has its loads
-/// laid and the address spaces of its IOMMU tags in order, whatever the reply. So the device of any
-/// loaded map, of a tag of either kind, finds under the bytes of the load's segments, in order, the bytes
-/// of the load.
+/// The loads of IOMMU tags' maps are in live runs of their tags, no two loads in one run. This holds at a driver's
+/// opening, when there is no load, and after each step of a driver that satisfies `Stands`, is in its machine, and has
+/// its loads laid and the address spaces of its IOMMU tags in order, whatever the reply. So the device of any loaded
+/// map, of a tag of either kind, finds the bytes of the load at the bytes of the load's segments, in order.
 pub fn loads_are_found()
     ensures opens { (id maxmem : ℕ) (driver : Driver) → AreMapped (opening_lane id maxmem driver) }
     ensures stays { (l : LaneState) (s : Side) (r : HubReply) → Stands l → AreLaid l → IsInMachine l → AreSpaced l →
@@ -271,9 +271,9 @@ pub fn loads_are_found()
         map (found_at l o) (segment_bytes segments) ≡ map (λ a. Some a) (buses (traces_of l m)) }
 {}
 
-/// The zone of each map that has one serves the map's tag: at a driver's opening, where there is no map;
-/// after each step with the account's reply of a driver that stands and lies in its machine; and
-/// whatever others call.
+/// The zone of each map that has a zone serves the map's tag. This holds at a driver's opening, when there is no map;
+/// after each step, by the account's reply, of a driver that satisfies `Stands` and is in its machine; and after any
+/// calls of others.
 pub fn zones_serve_their_tags()
     ensures opens { (id maxmem : ℕ) (driver : Driver) (a : Account) → AreServed (opening_lane id maxmem driver) a }
     ensures kept { (l : LaneState) (s : Side) (a : Account) → Stands l → IsInMachine l → AreServed l a →
@@ -282,8 +282,8 @@ pub fn zones_serve_their_tags()
         AreServed l (account_of a es) }
 {}
 
-/// The device of a tag reaches each page that a map is given by a zone that serves the tag: at a
-/// load, and at the callback of a load that waited. The account is one that a sound history leads to.
+/// The device of a tag reaches each page that a map is given by a zone that serves the tag, at a load and at the
+/// callback of a load that waited. The account is one to which a sound history leads.
 pub fn given_pages_are_reached()
     ensures granted { (t : TagLimits) (a : Account) (m : MapId) (z need : ℕ) (nowait : Bool) (pages : List Pa) →
         PagesLieLow a → EachFrame IsFrame a → serves_tag t (zone_at a z) ≡ true →

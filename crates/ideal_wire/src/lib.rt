@@ -1,6 +1,5 @@
-//! The wire of the ideal driver: the bytes that its frames and its bounce pages really hold, and the
-//! laws by which they agree with its ideal memory. Each law is the contract of a function that does
-//! nothing.
+//! The wire of the ideal driver: the bytes that its frames and bounce pages really hold, and the laws by which they
+//! agree with its ideal memory. Each law is the contract of a function that does nothing.
 #![tactic(auto)]
 
 mod laws;

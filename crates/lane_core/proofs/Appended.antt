@@ -1,5 +1,5 @@
--- A driver with one more operation behind its script keeps what a lane keeps: nothing of that looks behind its place, but
--- for what is asked of each operation alone.
+-- A driver with one more operation at the end of its script still has all that a lane keeps. Nothing of that looks past
+-- the driver's place, except for what is asked of each single operation.
 use Rattle.std.proofs.Common.{◌≡◌, ℕ, zero, suc, ◌+◌, ◌≤◌, Bool, true, false, if◌then◌else◌, List, [], ◌∷◌, ◌++◌, length}
 use Rattle.std.proofs.Common.{drop, map, Option, Some, None, IfSome, refl, sym, ap, ◌∙◌, subst, arith, slice_get}
 use Rattle.std.proofs.Common.{◌==◌, ◌&&◌, not, is_some}
@@ -96,7 +96,7 @@ module _ (l : LaneState) (o : Op) where
     due = λ s e. let off : None ≡ Some s = sym (due-none undue) ∙ e in absurd (cc);
   }
 
-  -- a load that was at a place is there still, whatever the driver does
+  -- a load at a place of the script is still there, whatever the driver does
   asked-same : (q : Op) (s : LaneState) (script : List Op) → load_asked_by q (with_script script s) ≡ load_asked_by q s
   asked-same (op.Load m b flags items) s script =
       ap (option_map (λ x. record { map = m; bio = x })) (same-bio script s b)
@@ -219,7 +219,7 @@ module _ (script : List Op) (h k : Holdings) (s : KeepsButScript h k) (is : k.sc
 pub same-wire : (h k : Holdings) → KeepsButScript h k → wire_of k ≡ wire_of h
 same-wire h k s = λ i. with_bytes_of (held_pages (s.maps i)) (wire (s.memory i).memory)
 
--- what a driver that is ready is
+-- what is true of a driver that is ready
 pub record IsReadyFor (l : LaneState) : Type 0 where
   pub ended : l.place ≡ length l.script
   pub undue : l.due ≡ false
@@ -294,7 +294,7 @@ module _ (h k : Holdings) (s : KeepsButScript h k) (o : Op) (is : k.script ≡ h
       let rest : maps_items l.maps ≤ items_ahead l = omega arith in
       omega (arith, ahead, more, rest, few, room)
 
--- ---- where memory ran out
+-- ---- if memory runs out
 
 module _ (h k : Holdings) (s : KeepsButScript h k) (is : k.script ≡ h.script) where
   pub same-ideal : ideal_of k ≡ ideal_of h
@@ -357,11 +357,11 @@ module _ {A E : Type 0} (h k : Holdings) (s : KeepsButScript h k) (o : Op)
   ideal-kept (Ok a) off = tt
   ideal-kept (Err e) off = same-ideal h k s off
 
--- the account agrees with a driver whatever its script is
+-- the account agrees with a driver, whatever the driver's script is
 pub next-served : (l : LaneState) (o : Op) (d : Seen) → IsServed l d → IsServed (with_next o l) d
 next-served l o d s = record { served = s.served; opening = s.opening; below = s.below; sound = s.sound; agrees = s.agrees }
 
--- the turn of the script does the operation that a driver got
+-- the script's turn does the operation that the driver got
 pub next-turned : (l n : LaneState) (o : Op) → n ≡ with_next o l → is_ready l ≡ true → waits o l ≡ false → (d e : Seen)
     (x : Turned) (held : Bool) → IsTurned d n.id (lane_step n side.Script) x held e →
     IsTurned d l.id (goes_on (went_on o l.place) (operation o (with_next o l))) x held e

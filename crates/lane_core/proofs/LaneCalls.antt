@@ -1,4 +1,4 @@
--- What a call on a lane leaves, which takes no door.
+-- What a call on a lane that takes no door leaves.
 use Rattle.std.proofs.Common.{◌≡◌, ℕ, ◌≤◌, ◌==◌, true, false, List, Result, Ok, Err, IfOk, OnErr, length}
 use Rattle.std.proofs.Common.{if◌then◌else◌, is_some, refl, ap, sym, ◌∙◌, subst, arith}
 use Rattle.busdma_machine.specs.declared.bounce.hold.HubReply.{HubReply}
@@ -57,12 +57,12 @@ use Rattle.busdma_base.specs.Scenarios.Operations.{bytes_of}
 
 -- ---- what is left
 
--- a call leaves all of a driver but the values of its memory, what it lends and its shares
+-- a call changes nothing of a driver but the values of its memory, what it lends and its shares
 record IsTouched (l n : LaneState) : Type 0 where
   rest : n ≡ record l { memory = n.memory; loans = n.loans; shares = n.shares }
   own : (a : ℕ) → is_some (n.memory a) ≡ is_some (l.memory a)
 
--- a call is no step of a ring's device
+-- a call is not a step of a ring's device
 abbrev IsCall : Work → Type 0
 IsCall (Transfer (item.RingStep k)) = ⊥
 IsCall _ = Unit {0}
@@ -87,7 +87,7 @@ is-touched {l} call (DeviceWrites m off bs o there i fine) =
 
 -- ---- the driver after a call
 
--- a driver is wired, stands, has as many items ahead and the same maps
+-- a driver is wired and satisfies `Stands`, and has as many items ahead and the same maps
 pub record IsCalledOn (h k : Holdings) : Type 0 where
   pub stands : Stands (ideal_of h) → Stands (ideal_of k)
   pub wired : IsWired k
@@ -191,7 +191,7 @@ module _ (h k : Holdings) (wired : IsWired h) (stands : Stands (ideal_of h)) (x 
       (dev_write_at-faithful l (wire_of h) wired.apart wired.laid wired.faithful
       (record { stands = stands; laid = wired.laid; spaced = wired.spaced; mapped = mapped }) t addr vs r)))
 
--- where memory ran out, it is as it was
+-- if memory runs out, the driver is unchanged
 pub kept-on : (h k : Holdings) → IsWired h → KeepsState h k → IsCalledOn h k
 kept-on h k wired s = record {
   stands = subst Stands (sym s.ideal);

@@ -1,4 +1,4 @@
--- No two virtual addresses of a driver's pages are of one byte, and each send of its script has its clusters.
+-- No two virtual addresses of a driver's pages are of the same byte, and each send of its script has its clusters.
 use Rattle.std.proofs.Common.{◌≡◌, ℕ, ◌+◌, ◌-◌, ◌*◌, ◌/◌, ◌<◌, ◌≤◌, Bool, true, false, ◌||◌, List, [], ◌∷◌, ◌++◌}
 use Rattle.std.proofs.Common.{Some, if◌then◌else◌, nat_le, nat_lt, refl, subst, arith}
 use Rattle.std.proofs.lemmas.Bool.{and_parts, leb-true, ltb-true}
@@ -31,7 +31,7 @@ none-in f (x ∷ xs) ys h = by (is_one_of x.frame x.count f) (none-in f xs ys) h
     by true rest e = absurd (cc)
     by false rest e = rest e
 
--- a byte of a run lies in one of its frames
+-- a byte of a run is in one of the run's frames
 of-run : (r : PageRun) (va : ℕ) → is_in_run va r ≡ true →
     is_one_of r.frame r.count ((4096 * r.frame + (va - r.va.0)) / 4096) ≡ true
 of-run r va h =
@@ -40,7 +40,7 @@ of-run r va h =
     let high : va < r.va.0 + 4096 * r.count = ltb-true va (r.va.0 + 4096 * r.count) parts.1 in
     one_of_is r.frame r.count _ (omega (arith, low, high)) (omega (arith, low, high))
 
--- a byte of runs lies in no frame of the runs before them
+-- a byte of runs is in no frame of the runs before them
 not-before : (before runs : List PageRun) (va pa : ℕ) → EachAfter IsOwnRun before runs →
     physical_in runs va ≡ Some pa → frame_in (pa / 4096) before ≡ false
 not-before before [] va pa own e = absurd (cc)
@@ -64,7 +64,7 @@ page-once before [] own va vb pa e f = absurd (cc)
 page-once before (r ∷ runs) own va vb pa e f =
     by (is_in_run va r) (is_in_run vb r) refl refl (page-once (before ++ r ∷ []) runs own.1 va vb pa) e f
   where
-    -- a byte of the run is none of those behind it
+    -- a byte of the run is in no run after it
     split : (v w : ℕ) → is_in_run v r ≡ true → 4096 * r.frame + (v - r.va.0) ≡ pa → physical_in runs w ≡ Some pa → ⊥
     split v w h at g =
         let none = (none-in (pa / 4096) before (r ∷ []) (not-before (before ++ r ∷ []) runs w pa own.1 g)).1 in

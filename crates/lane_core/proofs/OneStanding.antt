@@ -1,4 +1,4 @@
--- That a driver stands has one proof at most, so it comes out of what a lane keeps.
+-- `Stands` has at most one proof, so it can be taken out of what a lane keeps.
 use Rattle.std.proofs.Common.{◌≡◌, ℕ, true, Option, Some, None, sym, ap, ◌∙◌, unwrap_or}
 use Rattle.std.proofs.Props.{props}
 use mathlib.Core.HLevel.{is_prop→PathP}

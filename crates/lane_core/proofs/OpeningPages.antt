@@ -26,7 +26,7 @@ use Rattle.lane_state.proofs.OwnRuns.{either_false, in_none, own_frame, twice}
 abbrev pub first_of : PageRun → ℕ → PageRun
 first_of run n = record { va = run.va; frame = run.frame; count = n }
 
--- one number more of a run
+-- one more number of a run
 extend : {X : Type 0} (base i k v : ℕ) (new : X) (old : ℕ → X) (rest : Option X) → k ≡ base + i → new ≡ old k
     → cond (nat_eq v k) (Some new) (cond (is_one_of base i v) (Some (old v)) rest)
     ≡ cond (is_one_of base (i + 1) v) (Some (old v)) rest
@@ -43,7 +43,7 @@ extend base i k v new old rest e is = at (nat_eq v k) refl
         same_tests _ _ (λ t. grind (arith, nat_tests)) (λ t. grind (arith, nat_tests)) in
         ap (λ b. cond b (Some (old v)) rest) more
 
--- one page more
+-- one more page
 pub has_more : (run : PageRun) (i : ℕ) (m n : Memory) (page : FrameBytes) → run.va.0 % 4096 ≡ 0 →
     HasRun (first_of run i) m n → page.frame ≡ run.frame + i → page.bytes ≡ replicate 4096 0
     → HasRun (first_of run (i + 1)) m (with_page n (run.va.0 + 4096 * i) page 4096)
@@ -96,7 +96,7 @@ rows_of (run ∷ runs) v = cond (is_one_of (run.va.0 / 4096) run.count v) (Some 
 abbrev pub is_frame : List PageRun → ℕ → Bool
 is_frame runs f = list_any (λ r. is_one_of r.frame r.count f) runs
 
--- a memory has the pages of these runs alone, with 0 in every byte
+-- a memory has the pages of these runs and no others, with 0 in every byte
 pub record HoldsPages (pages : List PageRun) (m : Memory) : Type 0 where
   pub table : (v : ℕ) → get m.table v ≡ rows_of pages v
   pub frames : (f : ℕ) → get m.frames f ≡ cond (is_frame pages f) (Some (replicate 4096 0)) None
@@ -141,7 +141,7 @@ rows_push (b ∷ before) run v h =
     (Some (row_of run v)) (rows_of before v)
     (λ e. no_meeting (run.va.0 / 4096) run.count (b.va.0 / 4096) b.count v _ refl parts.0 e)
 
--- the pages of one run more
+-- the pages of one more run
 pub has_next : (pages : List PageRun) (i : ℕ) (m n : Memory) → i < length pages → ArePages pages →
     HoldsPages (take i pages) m → HasRun (get_or pages i no_run) m n → HoldsPages (take (i + 1) pages) n
 has_next pages i m n lt are has new = record {
@@ -211,7 +211,7 @@ pages_reached limit before (r ∷ pages) va le h =
     (pages_reached limit (before ++ r ∷ []) pages va le h.1)
     ∙ ap (λ b. cond b (Some (4096 * r.frame + (va - r.va.0))) (physical_in pages va)) (sym one)
 
--- pages lie below the virtual addresses of memories
+-- pages are below the virtual addresses of memories
 rows_low : (before pages : List PageRun) (v : ℕ) (r : Reach) → EachAfter IsOwnRun before pages →
     rows_of pages v ≡ Some r → v < pages_end / 4096
 rows_low before [] v r h e = absurd (cc)

@@ -1,4 +1,4 @@
--- Where memory ran out, the bytes that a driver really holds are as they were.
+-- If memory runs out, the bytes that a driver really holds are unchanged.
 use Rattle.std.proofs.Common.{◌≡◌, ℕ, ◌++◌, List, [], ◌∷◌, Option, Some, None, refl, sym, ap, ◌∙◌}
 use Rattle.std.specs.Cmp.{nat_cmp_total}
 use Rattle.std.specs.List.{flat_map}
@@ -25,7 +25,7 @@ joined : (es : List (ℕ × KeptMap)) →
 joined [] = refl
 joined (e ∷ es) = ap (λ ps. map_pages e.1 ++ ps) (joined es)
 
--- the pages of all maps are told by those of each
+-- the pages of all maps follow from the pages of each map
 pages-joined : (maps : FinMap nat_cmp KeptMap) →
     flat_map (λ (e : ℕ × List FrameBytes). e.1) (entries (map_values map_pages maps)) ≡ held_pages maps
 pages-joined maps =

@@ -1,4 +1,4 @@
--- A driver that gets its operations one by one.
+-- A driver whose operations are appended one by one.
 use Rattle.std.specs.Prelude.{◌≡◌, ℕ, ◌+◌, ◌≤◌, ◌==◌, Bool, true, not, ◌&&◌, List, [], ◌∷◌, ◌++◌, length, IfSome}
 use Rattle.std.specs.Prelude.{is_some, slice_get}
 use Rattle.busdma_base.specs.declared.scenarios.script.Op.{Op}
@@ -17,17 +17,18 @@ use Rattle.lane_state.specs.SmallLoads.{loaded_once}
 abbrev pub promised : Lane → ℕ
 promised l = l.holdings.agenda.promised
 
--- the driver with one more operation behind its script
+-- the driver with one more operation at the end of its script
 abbrev pub with_next : Op → LaneState → LaneState
 with_next o l = with_script (l.script ++ o ∷ []) l
 
--- a driver's script has ended, no resend is due, and no page is to go back: its next turn does the operation that it gets
+-- a driver is ready for another operation: its script has ended, no resend is due, and no page is still to go back; so
+-- its next turn does the operation that it gets
 abbrev pub is_ready : LaneState → Bool
 is_ready l = (l.place == length l.script) && (not l.due && not (is_some (slice_get l.returns 0)))
 
--- a driver is ready for a further operation, and may get this one: what it loads has frames of the driver's pages alone, has
--- the clusters of a send and is small, and the pages that it may need, with those that are promised, are no more than
--- all loads of a scenario have bytes
+-- a driver is ready for another operation, and may get this one: it loads only frames of the driver's pages, has the
+-- clusters of a send and is small, and the pages that it may need, with those already promised, stay within the limit
+-- of all loads
 pub record MayFollow (o : Op) (l : LaneState) (promised : ℕ) : Type 0 where
   pub ready : is_ready l ≡ true
   pub bios : LoadsFrom l.pages o
@@ -35,10 +36,11 @@ pub record MayFollow (o : Op) (l : LaneState) (promised : ℕ) : Type 0 where
   pub small : loaded_once o ≤ buffer_limit
   pub few : promised ≤ loaded_limit → promised + loaded_by o ≤ loaded_limit
 
+-- an operation may be appended to a lane's script
 abbrev pub MayAppend : Op → Lane → Type 0
 MayAppend o l = MayFollow o (ideal l) (promised l)
 
--- all of a driver's holdings but its script, its places and its room
+-- a driver's holdings are the same, except for its script, its places and its room
 pub record KeepsButScript (h k : Holdings) : Type 0 where
   pub pages : k.pages ≡ h.pages
   pub id : k.id ≡ h.id

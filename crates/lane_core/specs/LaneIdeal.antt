@@ -10,6 +10,7 @@ use Rattle.lane_state.specs.Ideal.{ideal_of}
 use Rattle.lane_turns.specs.Turning.{answered}
 use Rattle.lane_state.specs.Wire.{wire_of}
 
+-- the ideal state of a lane
 abbrev pub ideal : Lane → LaneState
 ideal l = ideal_of l.holdings
 
@@ -17,10 +18,10 @@ ideal l = ideal_of l.holdings
 abbrev pub wire : Lane → Wire
 wire l = wire_of l.holdings
 
--- a lane after a call, and what the call answers
+-- the ideal state of a lane after a call, with the call's answer
 abbrev pub given : Lane → Answer → Outcome
 given l a = record { lane = ideal l; answer = a }
 
--- a lane after a turn, and what the turn answers
+-- the ideal state of a lane after a turn, with the turn's answer
 abbrev pub turned : Lane → Turn → Turned
 turned l t = record { lane = ideal l; turn = answered t }

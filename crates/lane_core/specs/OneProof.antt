@@ -1,4 +1,4 @@
--- That a driver is wired, and that its loads are small, has one proof at most, so that a lane can keep it.
+-- `IsWired` and `HasSmallLoads` have at most one proof each, so that a lane can keep them.
 use Rattle.std.specs.Prelude.{ℕ, List, [], ◌∷◌}
 use Rattle.std.specs.Coded.{×_prop, Unit-prop}
 use mathlib.Core.List.{is_set}

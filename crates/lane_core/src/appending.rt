@@ -1,4 +1,4 @@
-//! A driver that gets its operations one by one, as a driver in code has them.
+//! A driver whose operations are appended one by one, for code that has no complete script.
 
 ghost use Rattle.std.specs.Prelude.{◌≡◌, ◌⊎◌, ◌+◌, ◌≤◌, ◌++◌, [], ◌∷◌, false, length, IfOk, OnErr, OnOk};
 ghost use Rattle.busdma_base.specs.Scenarios.Operations.{items_of};
@@ -16,7 +16,7 @@ use lane_state::Holdings;
 use lane_turns::Turn;
 use std::alloc::{AllocError, Global};
 
-/// Makes room for one more operation, which has so many items.
+/// Makes room in the tables and the agenda for one more operation, which has `items` items.
 fn make_room(holdings: &mut Holdings<'_>, items: usize) -> Result<(), AllocError>
     ensures kept { KeepsButScript holdings.old holdings.new }
     ensures script { holdings.new.script ≡ holdings.old.script }
@@ -57,7 +57,8 @@ fn append<'s>(holdings: &mut Holdings<'s>, op: &'s Op) -> Result<(), AllocError>
 }
 
 impl<'s> Lane<'s> {
-    /// Whether it is ready for a further operation: its script has ended, no resend is due, and no page is to go back.
+    /// Returns whether the lane is ready for another operation: its script has ended, no resend is due, and no page is
+    /// still to go back.
     pub fn is_ready(&self) -> bool
         ensures { result ≡ is_ready (ideal self.now) }
     {
@@ -67,21 +68,26 @@ impl<'s> Lane<'s> {
             && !holdings.agenda.has_return()
     }
 
-    /// The name of what the next operation makes, if it makes anything.
+    /// Returns the name of what the next operation makes, if it makes anything.
     pub fn next_id(&self) -> MapId
         ensures { result ≡ named (ideal self.now) (ideal self.now).place }
     {
         self.holdings.map_id(self.holdings.agenda.place())
     }
 
-    /// How many pages the loads of its maps have or wait for.
+    /// Returns how many pages the loads of the lane's maps have or wait for.
     pub fn promised(&self) -> u32
         ensures { result ≡ promised self.now }
     {
         self.holdings.agenda.promised()
     }
 
-    /// Appends an operation to the script, which has ended. Where memory runs out, the driver stays as it was.
+    /// Appends an operation to the script, which has ended. The script's next turn does it.
+    ///
+    /// # Errors
+    ///
+    /// `AllocError` if memory runs out, or if the script already has 2^32 - 1 operations. The ideal driver and its
+    /// bytes are then unchanged.
     pub fn append(&mut self, op: &'s Op) -> Result<(), AllocError>
         requires { MayAppend op.now self.old }
         ensures ok { OnOk result (ideal self.new ≡ with_next op.now (ideal self.old)) }
@@ -92,9 +98,13 @@ impl<'s> Lane<'s> {
         append(&mut self.holdings, op)
     }
 
-    /// Does an operation that does not wait, at a door to the bounce lock that serves the driver: the operation becomes
-    /// the last of its script, and its step is the ideal driver's. Where memory runs out, the driver is as it was, or has
-    /// the operation as its next: then its next turn does it.
+    /// Does an operation that does not wait, at a door to the bounce lock that serves the driver. The operation becomes
+    /// the last one of the script, and its step is the ideal driver's.
+    ///
+    /// # Errors
+    ///
+    /// `AllocError` if memory runs out, or if the script already has 2^32 - 1 operations. The ideal driver is then
+    /// unchanged, or the operation is its next one, and the script's next turn does it.
     pub fn perform<D: HubDoor>(
         &mut self,
         alloc: Global,

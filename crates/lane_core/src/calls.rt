@@ -1,6 +1,6 @@
-//! The calls on a lane that take no door, so they hold and wait for nothing. A map of another lane is Absent, as one
-//! that does not exist. Where memory runs out, the lane's ideal state and its bytes stay as they were. The turns use the
-//! same functions of what the lane holds.
+//! Calls on a lane that take no door, so they make no call under the bounce lock and wait for nothing. A map of another
+//! lane is answered with `Absent`, like a map that does not exist. If memory runs out, the lane's ideal state and its
+//! bytes are unchanged. The turns of a lane use the same functions on what the lane holds.
 
 ghost use Rattle.std.specs.Prelude.{◌≡◌, ◌==◌, IfOk, OnErr, OnOk};
 ghost use Rattle.busdma_machine.specs.Runs.{run_of};
@@ -23,14 +23,18 @@ use lane_state::report;
 use std::alloc::{AllocError, Global};
 
 impl Lane<'_> {
-    /// Whether a map is of this lane.
+    /// Returns whether a map is this lane's.
     fn owns(&self, map: MapId) -> bool
         ensures { result ≡ (map.lane.0 == (ideal self.now).id) }
     {
         map.lane == self.holdings.id
     }
 
-    /// A sync of the whole load of a map.
+    /// Syncs the complete load of a map. After `bus_dmamap_sync(9)`, whose operations `ops` has.
+    ///
+    /// # Errors
+    ///
+    /// `AllocError` if memory runs out. The lane's ideal state and its bytes are then unchanged.
     pub fn sync(&mut self, alloc: Global, map: MapId, ops: SyncOps) -> Result<Answer, AllocError>
         ensures done { IfOk result (λ answer. Gives (given self.new answer) ≡ calls.sync map ops.0 (ideal self.old)) }
         ensures wire { OnOk result (wire self.new ≡ wire_unless_foreign map (ideal self.old)
@@ -44,7 +48,11 @@ impl Lane<'_> {
         sync(&mut self.holdings, alloc, map.made_at, ops)
     }
 
-    /// A sync of `len` bytes of the load of a map, from `off` on.
+    /// Syncs `len` bytes of a map's load, from its byte `off` on.
+    ///
+    /// # Errors
+    ///
+    /// `AllocError` if memory runs out. The lane's ideal state and its bytes are then unchanged.
     pub fn sync_range(
         &mut self,
         alloc: Global,
@@ -66,7 +74,11 @@ impl Lane<'_> {
         sync_range(&mut self.holdings, alloc, map.made_at, off, len, ops)
     }
 
-    /// The driver reads `len` bytes at a place.
+    /// Reads `len` bytes at a place for the driver. The answer has the bytes, or is a report if the read breaks a rule.
+    ///
+    /// # Errors
+    ///
+    /// `AllocError` if memory runs out.
     pub fn cpu_read(&self, alloc: Global, place: Place, len: u64) -> Result<Answer, AllocError>
         ensures done { IfOk result (λ answer.
             Gives (given self.now answer) ≡ accesses.cpu_read place len (ideal self.now)) }
@@ -75,7 +87,11 @@ impl Lane<'_> {
         cpu_read(&self.holdings, alloc, place, len)
     }
 
-    /// The driver writes bytes at a place.
+    /// Writes bytes at a place for the driver. A write that breaks a rule is reported and changes nothing.
+    ///
+    /// # Errors
+    ///
+    /// `AllocError` if memory runs out. The lane's ideal state and its bytes are then unchanged.
     pub fn cpu_write(
         &mut self,
         alloc: Global,
@@ -91,7 +107,12 @@ impl Lane<'_> {
         cpu_write(&mut self.holdings, alloc, place, bytes)
     }
 
-    /// The device reads `len` bytes of a map's load, from `off` on.
+    /// Reads `len` bytes of a map's load for the device, from the load's byte `off` on. The answer has the bytes, or is
+    /// a report if the read breaks a rule. The lane's ideal state and its bytes are unchanged.
+    ///
+    /// # Errors
+    ///
+    /// `AllocError` if memory runs out.
     pub fn dev_read(
         &mut self,
         alloc: Global,
@@ -112,7 +133,12 @@ impl Lane<'_> {
         dev_read(&mut self.holdings, alloc, map.made_at, off, len)
     }
 
-    /// The device writes bytes into a map's load, from `off` on.
+    /// Writes bytes into a map's load for the device, from the load's byte `off` on. A write that breaks a rule is
+    /// reported and changes nothing.
+    ///
+    /// # Errors
+    ///
+    /// `AllocError` if memory runs out. The lane's ideal state and its bytes are then unchanged.
     pub fn dev_write(
         &mut self,
         alloc: Global,
@@ -133,8 +159,12 @@ impl Lane<'_> {
         dev_write(&mut self.holdings, alloc, map.made_at, off, bytes)
     }
 
-    /// The device of an IOMMU tag reads `len` bytes of the tag's address space, from `addr` on. The tag is named by the
-    /// place in the script that made it.
+    /// Reads `len` bytes of an IOMMU tag's address space for the tag's device, from the device address `addr` on. The
+    /// tag is named by the place in the script that made it. The lane's ideal state and its bytes are unchanged.
+    ///
+    /// # Errors
+    ///
+    /// `AllocError` if memory runs out.
     pub fn dev_read_at(
         &mut self,
         alloc: Global,
@@ -152,8 +182,12 @@ impl Lane<'_> {
         dev_read_at(&mut self.holdings, alloc, tag, addr, len)
     }
 
-    /// The device of an IOMMU tag writes bytes into the tag's address space, from `addr` on. The tag is named by the
-    /// place in the script that made it.
+    /// Writes bytes into an IOMMU tag's address space for the tag's device, from the device address `addr` on. The tag
+    /// is named by the place in the script that made it.
+    ///
+    /// # Errors
+    ///
+    /// `AllocError` if memory runs out. The lane's ideal state and its bytes are then unchanged.
     pub fn dev_write_at(
         &mut self,
         alloc: Global,

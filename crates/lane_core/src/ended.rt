@@ -6,7 +6,7 @@ ghost use Rattle.lane_core.specs.LaneIdeal.{ideal};
 use crate::lane::Lane;
 
 impl Lane<'_> {
-    /// Whether the script has ended.
+    /// Returns whether the script has ended: all its operations are done.
     pub fn has_ended(&self) -> bool
         ensures { result ≡ nat_le (length (ideal self.now).script) (ideal self.now).place }
     {

@@ -10,7 +10,7 @@ ghost use Rattle.lane_state.specs.Wire.{IsWired};
 
 use lane_state::Holdings;
 
-/// A driver at work: its script, and all that its steps change.
+/// A driver at work: its script, and everything that its steps change.
 #[derive(Drop)]
 pub struct Lane<'s> {
     pub(crate) holdings: Holdings<'s>,

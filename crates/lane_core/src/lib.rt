@@ -1,4 +1,4 @@
-//! One driver over the bounce lock: the lane that makes the steps of the ideal driver.
+//! One driver at work over the bounce lock: the lane, whose steps are those of the ideal driver.
 #![tactic(auto)]
 
 mod appending;

@@ -23,8 +23,12 @@ use phys_memory::LanePages;
 use std::alloc::{AllocError, Global};
 
 impl<'s> Lane<'s> {
-    /// The lane of a driver that has done nothing, with a memory of the driver's pages alone that has 0 in every byte,
-    /// in a machine whose frames have numbers below `maxmem`.
+    /// Makes the lane of a driver that has done nothing yet, in a machine whose frame numbers are below `maxmem`.
+    /// `memory` has the driver's pages and no others, with 0 in every byte, as `opening_memory` makes it.
+    ///
+    /// # Errors
+    ///
+    /// `AllocError` if memory runs out.
     pub fn new(
         alloc: Global,
         id: LaneId,
@@ -63,7 +67,7 @@ impl<'s> Lane<'s> {
         })
     }
 }
-/// A table in which every byte of the pages is Known, with no map.
+/// Makes a table in which every byte of the pages is Known, and which has no map.
 fn opening_loans(alloc: Global, pages: &[PageRun]) -> Result<LoanTable, AllocError>
     requires { ArePages pages.now }
     ensures loans { IfOk result (λ t. t.loans ≡ empty) }
@@ -77,7 +81,11 @@ fn opening_loans(alloc: Global, pages: &[PageRun]) -> Result<LoanTable, AllocErr
     Ok(loans)
 }
 
-/// A memory of the pages of a driver, with 0 in every byte.
+/// Makes the memory of a driver's pages, with 0 in every byte.
+///
+/// # Errors
+///
+/// `AllocError` if memory runs out.
 pub fn opening_memory(alloc: Global, pages: &[PageRun]) -> Result<LanePages, AllocError>
     requires { ArePages pages.now }
     ensures { IfOk result (λ m. IsOpeningMemory pages.now m.memory) }

@@ -23,7 +23,7 @@ use lane_state::KeptShare;
 use lane_turns::{Turn, has_step, take_turn};
 use std::alloc::{AllocError, Global};
 
-/// The share of a zone, or 0 where none is kept.
+/// Returns the share that is kept for a zone, or 0 if none is kept.
 fn share_of(shares: &[KeptShare], zone: ZoneId) -> u64
     ensures { result ≡ share_of shares.now zone.0 }
 {
@@ -36,10 +36,15 @@ fn share_of(shares: &[KeptShare], zone: ZoneId) -> u64
 }
 
 impl Lane<'_> {
-    /// A turn of a side, at a door to the bounce lock that serves the driver. Its step is the ideal driver's, by the
-    /// reply to its call; its bytes are those of the step, but for pages and frames of memories that came and went.
-    /// Running out of memory leaves the ideal driver as it was, and the bytes of its frames and of its maps' pages, and adds
-    /// no own entry to the door's history. The callbacks, and the script while a page is on its way back, want none.
+    /// Makes the turn of a side, at a door to the bounce lock that serves the driver. The step is the ideal driver's,
+    /// by the reply to its call. The lane's bytes are those of the step, except for pages and frames of memories that
+    /// came or went.
+    ///
+    /// # Errors
+    ///
+    /// `AllocError` if memory runs out. The ideal driver, the bytes of its frames and the bytes of its maps' pages are
+    /// then unchanged, and the door's history has no new entry of this driver. The turn of a callback never runs out of
+    /// memory, nor does the script's turn while a page is still to go back.
     pub fn turn<D: HubDoor>(
         &mut self,
         alloc: Global,
@@ -62,33 +67,34 @@ impl Lane<'_> {
         take_turn(&mut self.holdings, alloc, door, side)
     }
 
-    /// Whether an item stands in the transfer queue; where none does, the turn of that side is Blocked.
+    /// Returns whether the transfer queue has an item. If it has none, the turn of that side is `Blocked`.
     pub fn has_item(&self) -> bool
         ensures { result ≡ is_some (slice_get (ideal self.now).queue 0) }
     {
         self.holdings.agenda.first().is_some()
     }
 
-    /// Whether the script has a step to make: a page goes back, a resend is due, or the next operation does not wait.
-    /// Where it has none, the turn of that side is Blocked or Ended.
+    /// Returns whether the script has a step to make: a page goes back, a resend is due, or the next operation does not
+    /// wait. If it has none, the script's turn is `Blocked` or `Ended`.
     pub fn has_step(&self) -> bool
         ensures { result ≡ has_step (ideal self.now) }
     {
         has_step(&self.holdings)
     }
 
-    /// The lane's share of total_bounced of a zone: how many of its syncs copied to or from a page of the zone, up to
-    /// 2^64 - 1.
+    /// Returns the lane's share of a zone's `total_bounced`: how many of its syncs copied to or from a page of the
+    /// zone, up to 2^64 - 1.
     pub fn bounced(&self, zone: ZoneId) -> u64
         ensures { result ≡ (ideal self.now).shares zone.0 }
     {
         share_of(self.holdings.shares.as_slice(), zone)
     }
 
-    /// What the lane really holds is faithful to its ideal memory, at any time. The ideal driver stands and lies in its
-    /// machine, its loads are laid in its memory and in their pages, which lie apart, and the address spaces of its IOMMU
-    /// tags are in order and hold their loads. These are the premises of `ideal_wire` `calls_read_faithfully`: so each
-    /// read that a turn answers has the bytes that the lane really holds.
+    /// States that what the lane really holds is faithful to its ideal memory at any time. The ideal driver satisfies
+    /// `Stands` and is in its machine. Its loads are laid in its memory and in their bounce pages, and what it holds is
+    /// apart. The address spaces of its IOMMU tags are in order and have their loads. These are the premises of
+    /// `calls_read_faithfully` in `ideal_wire`, so each read that a turn answers has the bytes that the lane really
+    /// holds.
     pub fn is_faithful(&self)
         ensures faithful { IsFaithful (ideal self.now) (wire self.now) }
         ensures stands { ∥ Stands (ideal self.now) ∥₁ }

@@ -33,7 +33,7 @@ use Rattle.ideal_wire.proofs.NewFrames.{given-new}
 use Rattle.lane_state.specs.Served.{IsServed}
 use Rattle.lane_turns.specs.Turning.{IsTurned}
 
--- ---- the account after entries, and where no callback was found
+-- ---- the account after entries, and if no callback was found
 
 account-append : (a : Account) (es fs : List HoldEntry) → account_of a (es ++ fs) ≡ account_of (account_of a es) fs
 account-append a [] fs = refl
@@ -57,8 +57,8 @@ none-taken (w ∷ ws) lane a h = by (w.map.lane.0 == lane) h
 
 -- ---- what a turn leads to
 
--- a driver after a turn with some reply, which stands, agrees with the account that the door has seen, and has its
--- loads laid
+-- a driver after a turn with some reply: it satisfies `Stands`, agrees with the account that the door has seen, and has
+-- its loads laid
 pub record Led (l : LaneState) (s : Side) (d : Seen) (x : Turned) (e : Seen) : Type 0 where
   pub reply : HubReply
   pub is : x.lane ≡ (by_reply (lane_step l s) reply).lane

@@ -15,7 +15,7 @@ module _ (l : LaneState) (m : ℕ) where
   pub awaits-none : get l.maps m ≡ None → waits (Await m) l ≡ false
   awaits-none none = rw none refl
 
-  -- it is there
+  -- the map is there
   pub awaits-some : (o : LaneMap) → get l.maps m ≡ Some o →
       waits (Await m) l ≡ (waits_in o.stage || queue_names m l.queue)
   awaits-some o there = rw there refl

@@ -1,4 +1,4 @@
--- A driver that ran out of memory is as it was.
+-- A driver that ran out of memory is unchanged.
 use Rattle.std.proofs.Common.{refl, sym, ap, subst}
 use Rattle.ideal_wire.specs.Apart.{IsApart}
 use Rattle.ideal_wire.specs.Centre.{IsFaithful}

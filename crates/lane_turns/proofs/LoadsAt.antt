@@ -44,7 +44,7 @@ bytes-is l (buffer.Mbuf chain) b e = sym (ap (λ o. bio_bytes (bio_in o)) e)
 bytes-is l (buffer.Bio c) b e = sym (ap (λ o. bio_bytes (bio_in o)) e)
 bytes-is l (buffer.Send chain clusters) b e = sym (ap (λ o. bio_bytes (bio_in o)) e)
 
--- and its frames
+-- a bio has the frames of its buffer
 own-is : (pages : List PageRun) (l : LaneState) (x : Buffer) (b : Bio) → bio_at l x ≡ Some b →
     IsBufferOf pages x → IsBioOf pages b
 unfolding bio_in

@@ -1,4 +1,5 @@
--- How many pages are due to join the return queue, as the ideal driver tells it, and which steps leave it as it is.
+-- How many pages are due to join the return queue, by the ideal driver's state, and which steps leave that number
+-- unchanged.
 use Rattle.std.proofs.Common.{◌≡◌, ℕ, ◌*◌, ◌==◌, Bool, true, false, cond, List, [], ◌∷◌, length, Option, Some, None}
 use Rattle.std.proofs.Common.{refl, sym, ap, ◌∙◌, subst, arith}
 use Rattle.std.specs.Prelude.{IfOk, OnErr, Result, Ok, Err}
@@ -43,9 +44,9 @@ use Rattle.lane_state.specs.Kept.{due_in, due_of, map_of, stage_of}
 use Rattle.lane_state.specs.MapValues.{entry_values, map_values}
 use Rattle.lane_state.proofs.MapValues.{entries-map_values}
 
--- ---- what the ideal driver tells
+-- ---- by the ideal driver's state
 
--- how many pages a map that stands so gives to the return queue at last
+-- how many pages a map at this stage gives to the return queue in the end
 abbrev stage_due : Stage → ℕ
 stage_due Idle = 0
 stage_due (Waiting w) = w.need
@@ -74,7 +75,7 @@ values-due (e ∷ es) =
       sum_by-cons (λ (x : ℕ × LaneMap). map_due x.1) (e.0, map_of e.1) (entry_values map_of es),
     )
 
--- of all maps
+-- how many pages all maps give to the return queue in the end
 pub ideal-due : (maps : FinMap nat_cmp KeptMap) → pages_due maps ≡ weigh map_due (map_values map_of maps)
 ideal-due maps =
     values-due (entries maps)
@@ -84,7 +85,7 @@ module _ (h k : Holdings) (promised : k.agenda.promised ≡ h.agenda.promised) w
   weighed : weigh map_due (ideal_of k).maps ≡ weigh map_due (ideal_of h).maps → KeepsPromises h k
   weighed same = omega (arith, promised, same, ideal-due h.maps.map, ideal-due k.maps.map)
 
-  -- the same maps have as many
+  -- as many pages are due if the maps are the same
   pub maps-promise : (ideal_of k).maps ≡ (ideal_of h).maps → KeepsPromises h k
   maps-promise same = weighed (ap (weigh map_due) same)
 
@@ -206,13 +207,13 @@ module _ (h k : Holdings) (stands : Stands (ideal_of h)) (o : Op) (a : Answer) (
       (still-done (ideal_of h) stands (Operation o) d h.id.0 (operation o (ideal_of h)) (given k a) e
       (operation-makes (ideal_of h) o) still done)
 
--- so does an item
+-- an item leaves as many pages due
 pub item-maps : (h k : Holdings) (i : Item) (a : Answer) → Gives (given k a) ≡ transfer i (ideal_of h) →
     (ideal_of k).maps ≡ (ideal_of h).maps
 item-maps h k i a done =
     touched-maps (subst (Only (ideal_of h) (Transfer i)) (sym done) (transfer-touches (ideal_of h) i))
 
--- so does where memory ran out
+-- as many pages are due if memory ran out
 pub either-promise : {E : Type 0} (h k : Holdings) → Stands (ideal_of h) → (o : Op) (d e : Seen) (r : Result Answered E) →
     IfOk r (λ x. IsDone d h.id.0 (operation o (ideal_of h)) (given k x.answer) e) → OnErr r (KeepsState h k) →
     IsStillOp o → k.agenda ≡ h.agenda → KeepsPromises h k

@@ -49,7 +49,7 @@ transfer-made h k d t done unheld wire memories places capacity = record {
   capacity = capacity;
 }
 
--- what it gives where it was made
+-- the turn of the device, if it was made
 pub transfer-all : {E : Type 0} (h k : Holdings) (d : Seen) (r : Result Turn E) →
     IfOk r (λ t. Gives (turned k t) ≡ lane_step (ideal_of h) side.Transfer) → IfOk r (λ t. is_held t ≡ false) →
     OnOk r (wire_of k ≡ wires.lane_step (ideal_of h) side.Transfer (wire_of h)) → k.memories ≡ h.memories →
@@ -60,7 +60,7 @@ transfer-all h k d (Ok t) done unheld wire memories places capacity =
     transfer-made h k d t done unheld wire memories places capacity
 transfer-all h k d (Err x) done unheld wire memories places capacity = tt
 
--- where memory ran out, the transfer queue has its room
+-- if memory ran out, the transfer queue has at least its room
 pub same-room : (h k : Holdings) → KeepsState h k →
     k.agenda.room + length k.agenda.queue ≡ h.agenda.room + length h.agenda.queue → h.agenda.room ≤ k.agenda.room
 same-room h k s capacity =
@@ -76,25 +76,25 @@ module _ {E : Type 0} (h k : Holdings) (d e : Seen) (s : Side) (ready : IsReady 
   ready-after (Ok t) made same room undone = made-ready h k d e s t ready made
   ready-after (Err x) made same room undone = wanting-ready h k d e ready same room undone
 
-  -- its script is the same
+  -- the driver's script is the same
   pub script-after : (r : Result Turn E) → IfOk r (IsTurnOf h k d e s) → OnErr r (KeepsState h k) →
       k.script ≡ h.script
   script-after (Ok t) made same = made-script h k d e s t ready made
   script-after (Err x) made same = ap (λ l. l.script) same.ideal
 
-  -- and as long as it was
+  -- the driver's script is as long as before
   pub length-after : (r : Result Turn E) → IfOk r (IsTurnOf h k d e s) → OnErr r (KeepsState h k) →
       k.agenda.length ≡ h.agenda.length → h.agenda.length ≡ length h.script →
       k.agenda.length ≡ length k.script
   length-after r made same places before = places ∙ before ∙ sym (ap length (script-after r made same))
 
-  -- its wire is the step's, but for pages that came and went
+  -- the driver's wire is the step's, except for pages that came and went
   pub follows-after : (r : Result Turn E) → IfOk r (IsTurnOf h k d e s) →
       OnOk r (Follows (ideal_of h) (ideal_of k) (wires.lane_step (ideal_of h) s (wire_of h)) (wire_of k))
   follows-after (Ok t) made = end-wire h k d e s t ready made made.wire
   follows-after (Err x) made = tt
 
--- where memory ran out, no byte changed
+-- if memory ran out, no byte changed
 pub kept-follows : (h k : Holdings) → IsWired h → KeepsState h k →
     Follows (ideal_of h) (ideal_of k) (wire_of h) (wire_of k)
 kept-follows h k wired s =

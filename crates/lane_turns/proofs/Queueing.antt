@@ -1,4 +1,4 @@
--- An item does the same whatever else stands in the transfer queue, and a driver stands whatever stands there.
+-- An item does the same whatever else is in the transfer queue, and `Stands` holds of a driver with any queue.
 use Rattle.std.proofs.Common.{◌≡◌, ℕ, ◌+◌, ◌-◌, ◌^◌, ◌==◌, ◌&&◌, ◌||◌, Bool, true, false, not, List, [], ◌∷◌, Option}
 use Rattle.std.proofs.Common.{None, Some, cond, length, map, refl, sym, ap, ◌∙◌, subst, arith, if◌then◌else◌, is_some}
 use Rattle.std.proofs.Common.{slice_get, unwrap_or}
@@ -72,7 +72,7 @@ module _ (l : LaneState) (q : QueuedItem) (rest : List QueuedItem) where
   abbrev pub beside : LaneState
   beside = record l { queue = rest }
 
-  -- two steps leave the same once the item has left the queue, and the same wire, also where they are those of a ring
+  -- two steps leave the same after the item has left the queue, and the same wire, also if they are steps of a ring
   record IsAlike (x y : Asking Outcome) : Type 0 where
     pub step : goes_on (left_queue q rest) x ≡ goes_on (left_queue q rest) y
     pub wire : (after w : Wire) → if_done x after w ≡ if_done y after w
@@ -92,7 +92,7 @@ module _ (l : LaneState) (q : QueuedItem) (rest : List QueuedItem) where
   by-found None x y alike = record { step = refl; wire = λ after w. refl; fetched = λ after w. refl }
   by-found (Some m) x y alike = alike m
 
-  -- the position of a device address is that beside its own queue
+  -- the position of a device address is the same with the driver's own queue
   position-beside : (t a : ℕ) (es : List (ℕ × LaneMap)) → position_in beside t a es ≡ position_in l t a es
   position-beside t a [] = refl
   position-beside t a (e ∷ es) =
@@ -134,7 +134,7 @@ module _ (l : LaneState) (q : QueuedItem) (rest : List QueuedItem) where
       by-test (is_mixed ops) _ _ _ _ (record { step = refl; wire = λ after w. refl; fetched = λ after w. refl })
       (by-judged (sync_answer l.loans m off len ops) _ _ (record { step = refl; wire = λ after w. refl; fetched = λ after w. refl }))
 
-  -- the candidates for a descriptor are those beside its own queue
+  -- the candidates for a descriptor are the same with the driver's own queue
   candidates-beside : (d : Descriptor) (own : ℕ) (es : List (ℕ × LaneMap)) →
       candidates_in d own beside es ≡ candidates_in d own l es
   candidates-beside d own [] = refl
@@ -196,7 +196,7 @@ module _ (l : LaneState) (q : QueuedItem) (rest : List QueuedItem) where
       by-loaded r.mem _ _ (λ o. by-range r.mem (head_at r) 16 _ _
       (by-judged (dev_read_answer (is_known l.memory) (loan_of l.loans r.mem) (head_at r) 16) _ _ (fetch-alike k r))))
 
-  -- the step and the wire of an item are those beside its own queue
+  -- the step and the wire of an item are the same with the driver's own queue
   pub item-beside : (i : Item) →
       goes_on (left_queue q rest) (transfer i beside) ≡ goes_on (left_queue q rest) (transfer i l)
   item-beside i = (item-alike i).step

@@ -22,7 +22,7 @@ use Rattle.lane_state.specs.Wire.{wire_of}
 use Rattle.lane_state.proofs.Following.{stays-all}
 use Rattle.lane_turns.proofs.TurnEnds.{done-turned}
 
--- where a page is to go back, the turn makes a call, and changes no byte
+-- if a page is to go back, the turn makes a call and changes no byte
 asks-there : (rs : List QueuedPage) (l : LaneState) → 1 ≤ length rs → asks (script_turn (map return_of rs) l) ≡ true
 asks-there [] l h = absurd (omega (arith, h))
 asks-there (r ∷ rest) l h = refl

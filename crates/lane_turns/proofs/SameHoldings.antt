@@ -1,4 +1,4 @@
--- Holdings that agree in all that stands in them are the same.
+-- Holdings with the same fields are the same.
 use Rattle.std.proofs.Common.{◌≡◌, ℕ, ◌≤◌, true, false}
 use Rattle.std.proofs.Props.{props}
 use mathlib.Core.HLevel.{is_prop→PathP}

@@ -53,7 +53,7 @@ module _ {X Y : Type 0} (f : X → Y) (d : Seen) (lane : ℕ) where
 
 -- ---- a turn that is no step
 
--- it leaves the driver and the door as they were
+-- the turn leaves the driver and the door as they were
 pub still-made : (h : Holdings) (d : Seen) (s : Side) (t : Turn) → is_held t ≡ false →
     lane_step (ideal_of h) s ≡ Gives (stays (answered t) (ideal_of h)) →
     wires.lane_step (ideal_of h) s (wire_of h) ≡ wire_of h → IsTurnOf h h d d s t
@@ -200,7 +200,7 @@ module _ (h : Holdings) (empty : h.agenda.returns ≡ []) where
         wires.lane_step l side.Script w ≡ wires.next_operation (slice_get h.script h.agenda.place) l w
     wire-next w = wire-due w ∙ ap (λ s. wires.due_turn s l w) undue
 
-    -- there is none
+    -- there is no next operation
     pub ended-made : (d : Seen) → slice_get h.script h.agenda.place ≡ None →
         IsTurnOf h h d d side.Script turn.Ended
     ended-made d none =
@@ -208,7 +208,7 @@ module _ (h : Holdings) (empty : h.agenda.returns ≡ []) where
         (wire-next (wire_of h) ∙ ap (λ o. wires.next_operation o l (wire_of h)) none)
 
     module _ (o : Op) (here : slice_get h.script h.agenda.place ≡ Some o) where
-      -- it cannot step
+      -- the next operation cannot step
       pub blocked-made : (d : Seen) → waits o l ≡ true → IsTurnOf h h d d side.Script turn.Blocked
       blocked-made d waiting =
           still-made h d side.Script turn.Blocked refl
@@ -242,7 +242,7 @@ module _ (h : Holdings) (empty : h.agenda.returns ≡ []) where
               did = did.Op h.agenda.place;
               answer = r.answer;
             }) r.held) where
-          -- it is done, and the script goes on
+          -- the operation is done, and the script goes on
           gone-made : is_kept (send_of o) r.answer ≡ false → IsAt (k.agenda.place + 1) false k n →
               IsTurnOf h n d e side.Script t
           gone-made gone at =
@@ -255,7 +255,7 @@ module _ (h : Holdings) (empty : h.agenda.returns ≡ []) where
                 answer = r.answer;
               }))) done asked wire agenda is
 
-          -- it is a send whose callback is kept, and the script stays
+          -- the operation is a send whose callback is kept, and the script stays
           kept-made : is_kept (send_of o) r.answer ≡ true → IsAt k.agenda.place true k n →
               IsTurnOf h n d e side.Script t
           kept-made kept at =

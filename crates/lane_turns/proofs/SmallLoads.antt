@@ -87,7 +87,7 @@ pub record HasSend (h : Holdings) (s : Send) : Type 0 where
   pub here : slice_get h.script h.agenda.place ≡ Some o
   pub send : send_of o ≡ Some s
 
--- so it has where a resend is due
+-- if a resend is due, a driver's script has a send at its place
 pub has-due : (h : Holdings) (s : Send) → due_send (ideal_of h) ≡ Some s → HasSend h s
 has-due h s = by h.due
   where
@@ -102,7 +102,7 @@ has-due h s = by h.due
 
 -- ---- what is ahead
 
--- the bytes ahead of a driver at this place of this script, where a resend is due or not
+-- the bytes ahead of a driver at this place of this script, with the resend that is due, if one is
 ahead-is : (k : Holdings) (script : List Op) (place : ℕ) (due : Bool) → k.script ≡ script →
     k.agenda.place ≡ place → k.due ≡ due →
     bytes_ahead (due_send (ideal_of k)) k.agenda.place k.script
@@ -118,7 +118,7 @@ module _ (h : Holdings) (small : HasSmallLoads h) where
       subst (λ (os : List Op). (p : ℕ) (q : Op) → slice_get os p ≡ Some q → loaded_once q ≤ buffer_limit) (sym script)
       small.each
 
-  -- where no operation was done, and no further page is promised a place
+  -- if no operation was done and no further page is promised a place
   pub small-same : (k : Holdings) → k.script ≡ h.script → k.agenda.place ≡ h.agenda.place → k.due ≡ h.due →
       k.agenda.promised ≤ h.agenda.promised → KeepsPromises h k → HasSmallLoads k
   small-same k script place resend promised kept =
@@ -140,7 +140,7 @@ module _ (h : Holdings) (small : HasSmallLoads h) where
         let one = small.each h.agenda.place o here in
         omega (arith, few, one)
 
-    -- after the next operation, where no resend was due
+    -- after the next operation, when no resend was due
     module _ (undue : due_send (ideal_of h) ≡ None) where
       few-ahead : h.agenda.promised + (loaded_by o + bytes_ahead None (h.agenda.place + 1) h.script)
           ≤ loaded_limit
@@ -150,7 +150,7 @@ module _ (h : Holdings) (small : HasSmallLoads h) where
           let few = small.few in
           omega (arith, rest, none, few)
 
-      -- behind it
+      -- the script is after the operation
       small-next : (k : Holdings) → k.script ≡ h.script → k.agenda.place ≡ h.agenda.place + 1 →
           k.due ≡ false → k.agenda.promised ≤ h.agenda.promised + loaded_once o → KeepsPromises h k → HasSmallLoads k
       small-next k script place resend promised kept =
@@ -163,7 +163,7 @@ module _ (h : Holdings) (small : HasSmallLoads h) where
             few = omega (arith, ahead, few, promised, once);
           }
 
-      -- at it, where it is a send whose resend is due
+      -- the script is still at the operation, if that is a send whose resend is due
       small-kept : (s : Send) → send_of o ≡ Some s → (k : Holdings) → k.script ≡ h.script →
           k.agenda.place ≡ h.agenda.place → k.due ≡ true → k.agenda.promised ≤ h.agenda.promised + loaded_once o →
           KeepsPromises h k → HasSmallLoads k
@@ -181,7 +181,7 @@ module _ (h : Holdings) (small : HasSmallLoads h) where
             few = omega (arith, ahead, again, few, promised, once, twice);
           }
 
-      -- so it is wherever the script goes on
+      -- the loads are small wherever the script goes on
       pub small-after : (k n : Holdings) → k.agenda.place ≡ h.agenda.place → n.script ≡ h.script →
           k.agenda.promised ≤ h.agenda.promised + loaded_once o → KeepsPromises h k → (a : Answer) →
           (is_kept (send_of o) a ≡ false → IsAt (k.agenda.place + 1) false k n) →
@@ -216,7 +216,7 @@ module _ (h : Holdings) (small : HasSmallLoads h) where
                   (due true _ is)
               at false f = goes (gone (ap (λ x. is_kept x a) e ∙ f))
 
-  -- behind a send whose resend was made
+  -- the script is after a send whose resend was made
   pub small-resent : (s : Send) → due_send (ideal_of h) ≡ Some s → (k : Holdings) → k.script ≡ h.script →
       k.agenda.place ≡ h.agenda.place + 1 → k.due ≡ false →
       k.agenda.promised ≤ h.agenda.promised + span_bytes s.chain → KeepsPromises h k → HasSmallLoads k
@@ -230,7 +230,8 @@ module _ (h : Holdings) (small : HasSmallLoads h) where
         few = omega (arith, ahead, before, few, promised);
       }
 
-  -- the chain of a send whose resend is due is small, and so are the pages that are promised with those that it may need
+  -- the chain of a send whose resend is due is small, and so are the pages that are promised with those that it may
+  -- need
   pub chain-small : (s : Send) → due_send (ideal_of h) ≡ Some s → span_bytes s.chain ≤ 2 ^ 20
   chain-small s due =
       let has = has-due h s due in

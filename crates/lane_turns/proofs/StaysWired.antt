@@ -1,4 +1,4 @@
--- A driver is wired and served after a turn, where its wire follows the wire of the step.
+-- A driver is wired and served after a turn if its wire follows the wire of the step.
 use Rattle.std.proofs.Common.{◌≡◌, sym, ◌∙◌, subst, IsTrue}
 use mathlib.Core.Logic.{∥∥₁_elim, ∥∥₁_map}
 use Rattle.busdma_base.specs.declared.journals.journal.Side.{Side}
@@ -45,7 +45,7 @@ module _ (h k : Holdings) (s : Side) (d e : Seen) (stands : Stands (ideal_of h))
   replied : (by_reply (lane_step (ideal_of h) s) led.reply).lane ≡ ideal_of k
   replied = sym led.is ∙ same
 
-  -- it keeps its number, its script and its pages
+  -- the driver keeps its number, its script and its pages
   pub still-own : IsLater (ideal_of h) (ideal_of k)
   still-own = subst (IsLater (ideal_of h)) replied (turn-own (ideal_of h) s led.reply).later
 

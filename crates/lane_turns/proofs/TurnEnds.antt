@@ -30,7 +30,7 @@ use Rattle.lane_state.specs.Changes.{KeepsBesideMemory, KeepsCopied, KeepsWhatSt
 use Rattle.lane_state.proofs.Following.{follows, follows-copied, follows-memory, none-known}
 use Rattle.lane_turns.proofs.StaysWired.{still-apart, still-laid, still-own, still-served, still-stands, still-wired}
 
--- a step that was done is a turn that was made, which tells whether a call was made
+-- a step that was done is a turn that was made, which says whether a call was made
 pub done-turned : {X : Type 0} (d : Seen) (lane : ℕ) (step : Asking X) (x : X) (held : Bool) (e : Seen) →
     IsDone d lane step x e → held ≡ asks step → IsTurned d lane step x held e
 done-turned d lane (Gives y) x held e done is = (done.0, is, done.1)
@@ -52,7 +52,7 @@ module _ (h k : Holdings) (s : Side) (d e : Seen) (stands : Stands (ideal_of h))
   pub end-own : IsLater (ideal_of h) (ideal_of k)
   end-own = still-own h k s d e stands wired served x the-end same
 
-  -- its items and those ahead are no more than before
+  -- the items of the queue and those ahead are together no more than before
   pub end-bounded : items_ahead (ideal_of k) + length (ideal_of k).queue ≤ items_ahead (ideal_of h) + length
       (ideal_of h).queue
   end-bounded =
@@ -65,13 +65,13 @@ module _ (h k : Holdings) (s : Side) (d e : Seen) (stands : Stands (ideal_of h))
   end-apart : IsApart (ideal_of k)
   end-apart = still-apart h k s d e stands wired served x the-end same
 
-  -- no byte comes where no memory does
+  -- no byte comes if no memory comes
   pub end-known : k.memories ≡ h.memories → (w : Wire) → BringsKnown (ideal_of h).memory (ideal_of k).memory w
   end-known memories w =
       none-known (ideal_of h) (ideal_of k) wired.laid end-laid end-own.same_pages
       (ap (λ (t : Places KeptMemory). map_values memory_of t.map) memories) w
 
-  -- where the step changes no byte
+  -- if the step changes no byte
   pub end-follows : k.memories ≡ h.memories → KeepsWhatStays h k → (w : Wire) → w ≡ wire_of h →
       Follows (ideal_of h) (ideal_of k) w (wire_of k)
   end-follows memories keeps w plain =
@@ -79,7 +79,7 @@ module _ (h k : Holdings) (s : Side) (d e : Seen) (stands : Stands (ideal_of h))
       (follows h k wired.laid wired.apart end-laid end-apart keeps end-own.same_pages
       (ap (λ (t : Places KeptMemory). map_values memory_of t.map) memories))
 
-  -- where it copies bytes
+  -- if the step copies bytes
   pub end-copies : k.memories ≡ h.memories → (from to : List ℕ) → KeepsCopied from to h k → (w : Wire) →
       w ≡ put to (map (wire_of h) from) (wire_of h) → Follows (ideal_of h) (ideal_of k) w (wire_of k)
   end-copies memories from to keeps w plain =
@@ -87,7 +87,7 @@ module _ (h k : Holdings) (s : Side) (d e : Seen) (stands : Stands (ideal_of h))
       (follows-copied h k wired.laid wired.apart end-laid end-apart from to keeps end-own.same_pages
       (ap (λ (t : Places KeptMemory). map_values memory_of t.map) memories))
 
-  -- and a memory came or went
+  -- if a memory came or went
   pub end-beside : KeepsBesideMemory h k → (w : Wire) → w ≡ wire_of h →
       Follows (ideal_of h) (ideal_of k) w (wire_of k)
   end-beside keeps w plain =
@@ -98,7 +98,7 @@ module _ (h k : Holdings) (s : Side) (d e : Seen) (stands : Stands (ideal_of h))
       k
   end-wired = still-wired h k s d e stands wired served x the-end same
 
--- the account allows the call of a turn, where the driver agrees with it
+-- the account allows the call of a turn if the driver agrees with the account
 pub turn-may : (h : Holdings) (s : Side) (d : Seen) → Stands (ideal_of h) → IsServed (ideal_of h) d →
     IsAllowedBy d (ideal_of h).id (lane_step (ideal_of h) s)
 turn-may h s d stands served =

@@ -10,7 +10,7 @@ use busdma_base::{Called, Did, HubDoor, Side};
 use lane_loads::end_wait;
 use lane_state::Holdings;
 
-/// The callback at the head of the callback list, where it is this driver's: its load ends with its pages.
+/// Takes the callback at the head of the callback list, if it is this driver's. Its load ends with its pages.
 pub(crate) fn call_back<D: HubDoor>(holdings: &mut Holdings<'_>, door: &mut D) -> Turn
     requires ready { IsReady holdings.old (D.seen door.old) }
     requires small { HasSmallLoads holdings.old }

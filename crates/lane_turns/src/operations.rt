@@ -26,7 +26,7 @@ use lane_rings::{Posting, kick, post};
 use lane_state::{Answered, Holdings, never_waits, report, unheld};
 use std::alloc::{AllocError, Global};
 
-/// Does the next operation of the script, but for the step to the next place.
+/// Does the next operation of the script, except for the step to the next place.
 pub(crate) fn operation<'s, D: HubDoor>(
     holdings: &mut Holdings<'s>,
     alloc: Global,

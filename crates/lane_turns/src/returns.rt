@@ -16,7 +16,7 @@ use busdma_base::{HubDoor, MapId, Pa};
 use lane_state::{Holdings, KeptMap};
 use lane_tables::{PlaceTable, Returned};
 
-/// A page that went back to its zone, and how many maps that made complete.
+/// A page that went back to its zone, and how many waiting maps it completed.
 #[derive(Clone, Copy, Debug, PartialEq, Eq)]
 pub(crate) struct Released {
     pub(crate) map: MapId,
@@ -24,7 +24,7 @@ pub(crate) struct Released {
     pub(crate) served: u32,
 }
 
-/// Gives the first page of the return queue back to its zone, or answers None where there is none.
+/// Gives the first page of the return queue back to its zone. Returns `None` if the queue is empty.
 pub(crate) fn release<D: HubDoor>(holdings: &mut Holdings<'_>, door: &mut D) -> Option<Released>
     requires { IsAllowedBy (D.seen door.old) holdings.old.id.0 (lane_step (ideal_of holdings.old) side.Script) }
     ensures done { IfSome result (λ r.
@@ -63,7 +63,7 @@ pub(crate) fn release<D: HubDoor>(holdings: &mut Holdings<'_>, door: &mut D) -> 
     })
 }
 
-/// Notes that a page of a map left the return queue. Where it was the map's last there, the map is idle.
+/// Notes that a page of a map left the return queue. If it was the map's last page there, the map becomes idle.
 fn note_returned(maps: &mut PlaceTable<KeptMap<'_>>, map: u32, last: bool)
     requires { is_returning (get maps.old.map map) ≡ true }
     ensures last { last ≡ true → (o : _) → get maps.old.map map ≡ Some o →

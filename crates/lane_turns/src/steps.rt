@@ -23,7 +23,7 @@ use lane_rings::ring_step;
 use lane_state::{Holdings, Resend};
 use std::alloc::{AllocError, Global};
 
-/// Does an item, but for its leaving the queue.
+/// Does an item, except for taking it out of the queue.
 pub(crate) fn transfer(
     holdings: &mut Holdings<'_>,
     alloc: Global,
@@ -53,7 +53,7 @@ pub(crate) fn transfer(
     }
 }
 
-/// The device writes the bytes of an item. Listed bytes are not copied before.
+/// Writes the bytes of an item for the device. Listed bytes are not copied first.
 fn write_item(
     holdings: &mut Holdings<'_>,
     alloc: Global,
@@ -81,7 +81,7 @@ fn write_item(
     }
 }
 
-/// The device of an IOMMU tag writes the bytes of an item. Listed bytes are not copied before.
+/// Writes the bytes of an item at device addresses, for the device of an IOMMU tag. Listed bytes are not copied first.
 fn write_item_at(
     holdings: &mut Holdings<'_>,
     alloc: Global,
@@ -109,7 +109,7 @@ fn write_item_at(
     }
 }
 
-/// Whether an operation cannot step.
+/// Returns whether an operation waits, so that it cannot step.
 pub(crate) fn waits(holdings: &Holdings<'_>, op: &Op) -> bool
     ensures { result ≡ turns.waits op.now (ideal_of holdings.now) }
 {
@@ -134,7 +134,7 @@ pub(crate) fn waits(holdings: &Holdings<'_>, op: &Op) -> bool
     }
 }
 
-/// Whether a map exists whose load waits, or that an item of the transfer queue names.
+/// Returns whether a map exists whose load waits, or that an item of the transfer queue names.
 fn is_awaited(holdings: &Holdings<'_>, map: u32) -> bool
     ensures { result ≡ turns.waits (Await map) (ideal_of holdings.now) }
 {
@@ -147,22 +147,22 @@ fn is_awaited(holdings: &Holdings<'_>, map: u32) -> bool
     true
 }
 
-/// Whether the callback of an operation with this answer is kept: it is a send that has too many segments, and its
-/// clusters are enough.
+/// Returns whether the callback of an operation with this answer is kept: the operation is a send that has too many
+/// segments, and its clusters are enough.
 fn is_kept(op: &Op, answer: &Answer) -> bool
     ensures { result ≡ sends.is_kept (sends.send_of op.now) answer.now }
 {
     Resend::of(op).is_some() && is_too_big(answer)
 }
 
-/// Whether a load is refused since it has too many segments.
+/// Returns whether a load is refused because it has too many segments.
 fn is_too_big(answer: &Answer) -> bool
     ensures { result ≡ sends.is_too_big answer.now }
 {
     matches!(answer, Answer::Refused(Errno::EFBIG))
 }
 
-/// Goes on behind an operation with this answer, unless its callback is kept: then its resend is due.
+/// Goes on to the operation after this one, unless this one's callback is kept. Then its resend is due.
 pub(crate) fn go_on(holdings: &mut Holdings<'_>, op: &Op, answer: &Answer)
     requires { holdings.old.agenda.place < holdings.old.agenda.length }
     ensures kept { sends.is_kept (sends.send_of op.now) answer.now ≡ true →
@@ -177,7 +177,7 @@ pub(crate) fn go_on(holdings: &mut Holdings<'_>, op: &Op, answer: &Answer)
     }
 }
 
-/// Goes on to the next operation, where no resend is due.
+/// Goes on to the next operation, at which no resend is due.
 pub(crate) fn advance(holdings: &mut Holdings<'_>)
     requires { holdings.old.agenda.place < holdings.old.agenda.length }
     ensures { IsAt (holdings.old.agenda.place + 1) false holdings.old holdings.new }
@@ -186,7 +186,7 @@ pub(crate) fn advance(holdings: &mut Holdings<'_>)
     holdings.due = false;
 }
 
-/// Takes the first item out of the transfer queue, or answers None where it is empty.
+/// Takes the first item out of the transfer queue. Returns `None` if the queue is empty.
 pub(crate) fn pop_item(holdings: &mut Holdings<'_>) -> Option<QueuedItem>
     ensures item { IfSome result (λ item. holdings.old.agenda.queue ≡ item ∷ holdings.new.agenda.queue) }
     ensures room { OnSome result (holdings.new.agenda.room ≡ holdings.old.agenda.room + 1) }
@@ -199,7 +199,7 @@ pub(crate) fn pop_item(holdings: &mut Holdings<'_>) -> Option<QueuedItem>
     holdings.agenda.pop()
 }
 
-/// Puts an item back at the head of the transfer queue, which it left.
+/// Puts an item back at the head of the transfer queue, from which it was taken.
 pub(crate) fn put_item_back(holdings: &mut Holdings<'_>, item: QueuedItem)
     requires { 1 ≤ holdings.old.agenda.room }
     ensures agenda { holdings.new.agenda ≡ record holdings.old.agenda {

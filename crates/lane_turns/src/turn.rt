@@ -8,8 +8,8 @@ use busdma_base::{Actor, Answer, Did, JournalEntry, LaneId, Side};
 /// What a turn of a side did.
 #[derive(Debug, Drop)]
 pub enum Turn {
-    /// It made a step. `held` tells that the step made a call under the bounce lock that is kept in
-    /// its history.
+    /// The side made a step. `held` says whether the step made a call under the bounce lock that is kept in the lock's
+    /// history.
     Stepped { entry: JournalEntry, held: bool },
     /// The side cannot step now.
     Blocked,
@@ -17,7 +17,7 @@ pub enum Turn {
     Ended,
 }
 
-/// A step of a side, and whether it made a call under the bounce lock.
+/// Returns the turn that made a step. `held` says whether the step made a call under the bounce lock.
 pub(crate) fn stepped(lane: LaneId, side: Side, did: Did, answer: Answer, held: bool) -> Turn
     ensures { result
         ≡ Stepped (record { actor = record { lane = lane; side = side }; did = did; answer = answer }) held }

@@ -29,7 +29,7 @@ use lane_sends::resend;
 use lane_state::{Answered, Holdings, Resend};
 use std::alloc::{AllocError, Global};
 
-/// The first page of the return queue goes back to its zone, if there is one.
+/// Gives the first page of the return queue back to its zone. Returns `None` if there is none.
 pub(crate) fn return_turn<D: HubDoor>(holdings: &mut Holdings<'_>, door: &mut D) -> Option<Turn>
     requires { IsAllowedBy (D.seen door.old) holdings.old.id.0 (lane_step (ideal_of holdings.old) side.Script) }
     ensures made { IfSome result (IsTurnOf holdings.old holdings.new (D.seen door.old) (D.seen door.new) side.Script) }
@@ -49,7 +49,7 @@ pub(crate) fn return_turn<D: HubDoor>(holdings: &mut Holdings<'_>, door: &mut D)
     Some(stepped(holdings.id, Side::Script, did, Answer::Served(served), true))
 }
 
-/// The next operation of the script, where no page goes back and no resend is due.
+/// Does the next operation of the script. No page goes back, and no resend is due.
 fn operation_turn<D: HubDoor>(
     holdings: &mut Holdings<'_>,
     alloc: Global,
@@ -80,7 +80,7 @@ fn operation_turn<D: HubDoor>(
     Ok(stepped(holdings.id, Side::Script, Did::Op(place), answer, held))
 }
 
-/// The resend of the send at the script's place, where no page goes back.
+/// Makes the resend of the send at the script's place. No page goes back.
 fn resend_turn<'s, D: HubDoor>(
     holdings: &mut Holdings<'s>,
     alloc: Global,
@@ -106,7 +106,7 @@ fn resend_turn<'s, D: HubDoor>(
     Ok(stepped(holdings.id, Side::Script, Did::Again(place), answer, held))
 }
 
-/// The resend that is due, or else the next operation, where no page goes back.
+/// Makes the resend that is due, or else does the next operation. No page goes back.
 fn due_turn<D: HubDoor>(
     holdings: &mut Holdings<'_>,
     alloc: Global,
@@ -130,7 +130,8 @@ fn due_turn<D: HubDoor>(
     }
 }
 
-/// The script: a page goes back, or else the resend that is due is made, or else the next operation.
+/// Makes the script's turn: a page goes back, or else the resend that is due is made, or else the next operation is
+/// done.
 fn script_turn<D: HubDoor>(
     holdings: &mut Holdings<'_>,
     alloc: Global,
@@ -154,7 +155,13 @@ fn script_turn<D: HubDoor>(
     }
 }
 
-/// A turn of a side.
+/// Makes the turn of a side, at a door to the bounce lock that serves the driver.
+///
+/// # Errors
+///
+/// `AllocError` if memory runs out. The driver's ideal state and its bytes are then unchanged, and the door's history
+/// has no new entry of this driver. The turn of a callback never runs out of memory, nor does the script's turn while a
+/// page is still to go back.
 pub fn take_turn<D: HubDoor>(
     holdings: &mut Holdings<'_>,
     alloc: Global,
@@ -180,7 +187,7 @@ pub fn take_turn<D: HubDoor>(
     }
 }
 
-/// The first item of the transfer queue, if there is one.
+/// Does the first item of the transfer queue. The turn is `Blocked` if the queue is empty.
 pub(crate) fn transfer_turn(holdings: &mut Holdings<'_>, alloc: Global) -> Result<Turn, AllocError>
     requires wired { IsWired holdings.old }
     requires stands { Stands (ideal_of holdings.old) }
@@ -213,8 +220,8 @@ pub(crate) fn transfer_turn(holdings: &mut Holdings<'_>, alloc: Global) -> Resul
     }
 }
 
-/// Whether the script has a step to make: a page goes back, a resend is due, or the next operation does not wait. Where
-/// it has none, its turn is Blocked or Ended.
+/// Returns whether the script has a step to make: a page goes back, a resend is due, or the next operation does not
+/// wait. If it has none, the script's turn is `Blocked` or `Ended`.
 pub fn has_step(holdings: &Holdings<'_>) -> bool
     ensures { result ≡ has_step (ideal_of holdings.now) }
 {
@@ -230,7 +237,7 @@ pub fn has_step(holdings: &Holdings<'_>) -> bool
     }
 }
 
-/// A turn that was made leaves a driver ready for the next. So does one for which memory ran out.
+/// A turn that was made leaves a driver ready for its next turn, and so does a turn that ran out of memory.
 pub fn turns_leave_ready()
     ensures made { (h k : Holdings) (d e : Seen) (s : Side) (t : Turn) →
         IsReady h d → IsTurnOf h k d e s t → IsReady k e }

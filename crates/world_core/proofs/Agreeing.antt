@@ -1,5 +1,5 @@
--- That a driver agrees with an account, that it has a number, and that an account's frames lie below the end of the
--- machine's memory, have one proof at most, so they come out of what a world keeps.
+-- `AgreesWith`, the number of a driver, and the bound of an account's frames by the end of the machine's memory have at
+-- most one proof each, so they can be taken out of what a world keeps.
 use Rattle.std.proofs.Common.{◌≡◌, ℕ}
 use Rattle.std.proofs.Props.{props}
 use mathlib.Core.Logic.{∥∥₁_elim}

@@ -32,7 +32,7 @@ counts-are w z (zone ∷ zones) (c ∷ cs) count each =
     (λ k d l. let next : z + suc k ≡ (z + 1) + k = omega arith in
     each (suc k) d (omega (arith, l)) ∙ ap (λ j. counts w.account (bounced w j) j) next) i)
 
--- the shares of a zone that lanes have, all together
+-- the sum of the lanes' shares of a zone
 abbrev pub share-sum : ℕ → List Lane → ℕ
 share-sum z lanes = sum_by (λ (l : Lane). (ideal l).shares z) lanes
 
@@ -47,7 +47,7 @@ shares-are z (l ∷ lanes) =
       shares-are z lanes,
     )
 
--- those of one lane more
+-- the sum of the shares with one more lane
 pub share-next : (z : ℕ) (lanes : List Lane) (i : ℕ) (d : Lane) → i < length lanes →
     share-sum z (take (i + 1) lanes) ≡ share-sum z (take i lanes) + (ideal (get_or lanes i d)).shares z
 share-next z lanes i d lt =
@@ -71,7 +71,7 @@ share-part z (l ∷ lanes) (suc i) =
       share-part z lanes i,
     )
 
--- they fit
+-- the sum of the shares is below 2^64
 pub shares-fit : (s : Scenario) (lanes : List Lane) (hub : HubSeen) (z i : ℕ) → ∥ IsKept s lanes hub ∥₁ →
     share-sum z (take i lanes) < 2 ^ 64
 shares-fit s lanes hub z i kept = ∥∥₁_elim kept fit-prop (λ k.

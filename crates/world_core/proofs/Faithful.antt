@@ -1,4 +1,4 @@
--- The wire of each driver of a world is faithful, since each lane keeps that of its own.
+-- The wire of each driver of a world is faithful, because each lane keeps its own wire faithful.
 use Rattle.std.proofs.Common.{◌≡◌, ℕ, List, Option, Some, None, map, sym, ◌∙◌, subst, slice_get}
 use Rattle.std.specs.Prelude.{option_map}
 use Rattle.std.proofs.lemmas.Option.{slice_get-map}

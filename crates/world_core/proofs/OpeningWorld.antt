@@ -166,7 +166,7 @@ pub opened-hub : (s : Scenario) (hub : HubSeen) (frames : List ℕ) (maxmem : �
 opened-hub s hub frames maxmem end free made =
     made ∙ (λ i. record { opening = fresh_account (free i) (end i) s.max_bpages; history = [] })
 
--- it is kept
+-- what a world keeps holds of these lanes and this hub
 pub opens-kept : (s : Scenario) (lanes : List Lane) (hub : HubSeen) → IsValid s → OpensWith s lanes hub →
     ∥ IsKept s lanes hub ∥₁
 opens-kept s lanes hub valid opens =

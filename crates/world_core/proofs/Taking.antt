@@ -62,7 +62,7 @@ module _ (s : Scenario) (lanes : List Lane) (hub : HubSeen) where
     opening = same ∙ k.opening;
   })
 
-  -- so is what stays
+  -- lanes and a hub of the same world and opening are kept too
   pub stay-kept : (more : List Lane) (hub-new : HubSeen) → world_of more hub-new ≡ world →
       hub-new.opening ≡ hub.opening → ∥ IsKept s lanes hub ∥₁ → ∥ IsKept s more hub-new ∥₁
   stay-kept more hub-new is same kept = ∥∥₁_map kept (λ k. record {
@@ -94,7 +94,7 @@ module _ (lanes : List Lane) (hub hub-new : HubSeen) (actor : Actor) (l m : Lane
       makes (map ideal lanes) actor.lane.0 (ideal l) hub hub-new (lane_step (ideal l) actor.side)
       (record { lane = ideal m; turn = answered t }) (is_held t) turn
 
-  -- it is its actor's
+  -- the turn is its actor's
   pub took : (t : told.Turn) → IsTurned (door hub) (ideal l).id (lane_step (ideal l) actor.side)
       (record { lane = ideal m; turn = answered t }) (is_held t) (door hub-new) →
       record { world = world_of (slice_set lanes actor.lane.0 m) hub-new; turn = answered t }
@@ -109,7 +109,7 @@ module _ (lanes : List Lane) (hub hub-new : HubSeen) (actor : Actor) (l m : Lane
       length hub-new.history ≡ length hub.history + (if is_held t then 1 else 0)
   took-holds t turn = (made t turn).holds
 
-  -- and adds what it adds to the history
+  -- the turn adds its actor's holds to the history
   pub took-history : (t : told.Turn) → IsTurned (door hub) (ideal l).id (lane_step (ideal l) actor.side)
       (record { lane = ideal m; turn = answered t }) (is_held t) (door hub-new) →
       hub-new.history ≡ hub.history ++ step_holds (world_of lanes hub) actor
@@ -122,7 +122,7 @@ module _ (lanes : List Lane) (hub hub-new : HubSeen) (actor : Actor) (l m : Lane
       (record { lane = ideal m; turn = answered t }) (is_held t) (door hub-new) → hub-new.opening ≡ hub.opening
   took-opening t turn = (made t turn).opening
 
-  -- out of memory it leaves the world as it was
+  -- if memory runs out, the turn leaves the world unchanged
   pub took-none : ideal m ≡ ideal l → IsUndone (door hub) (door hub-new) →
       world_of (slice_set lanes actor.lane.0 m) hub-new ≡ world_of lanes hub
   took-none same undone = λ j. record {

@@ -38,7 +38,7 @@ none-between (e ∷ es) h = absurd (false≢true (sym (All-head (λ (x : HoldEnt
 passes-none : (h : HubSeen) (others : List HoldEntry) (e : Seen) → Passes (door h) others e → others ≡ []
 passes-none h others e p = none-between others p.apart
 
--- the account that a door has after nothing came between
+-- the account of a door if no other entry came between
 passes-account : (h : HubSeen) (others : List HoldEntry) (e : Seen) → Passes (door h) others e →
     account e ≡ account_of h.opening h.history
 passes-account h others e p =
@@ -143,7 +143,7 @@ kept-hold lane c r kept = rw kept refl
 unkept-hold : (lane : ℕ) (c : HubCall) (r : HubReply) → is_kept c r ≡ false → [] ≡ hold_of lane c r
 unkept-hold lane c r unkept = rw unkept refl
 
--- the history that a turn leaves has one entry more where the account's reply to the turn's call is kept
+-- the history that a turn leaves has one more entry if the account's reply to the turn's call is kept
 pub made-holds : (lane : ℕ) (h k : HubSeen) (step : Asking Turned) (x : Turned) (held : Bool) →
     IsTurned (door h) lane step x held (door k) → k.history ≡ h.history ++ holds_by lane step (hub_account h)
 made-holds lane h k (Gives t) x held turn = ap (λ (d : Seen). d.history) turn.2 ∙ sym (append-nil h.history)
@@ -167,7 +167,7 @@ made-holds lane h k (Asks c f) x held (inr (is, missed)) =
     passes-history h misses.others (door k) misses.passes ∙ sym (append-nil h.history)
     ∙ ap (λ es. h.history ++ es) (unkept-hold lane c (account_step lane c (hub_account h)).reply unkept)
 
--- out of memory, the history, the account and the opening stay
+-- if memory runs out, the history, the account and the opening are unchanged
 pub undone-history : (h k : HubSeen) → IsUndone (door h) (door k) → k.history ≡ h.history
 undone-history h k (inl same) = ap (λ (d : Seen). d.history) same
 undone-history h k (inr fails) = passes-history h fails.others (door k) fails.passes

@@ -73,7 +73,7 @@ falls round p y h some =
     by_way (inl same) = absurd (some (ap (λ (z : Run). length z.entries) (h ∙ same)))
     by_way (inr less) = omega (arith, less, ap (λ (z : Run). left_of z.world) h)
 
--- the round over one driver more
+-- the round over one more driver
 round_from-snoc : (i n : ℕ) → round_from i (suc n) ≡ round_from i n
     ++ (record { lane = record { 0 = i + n }; side = Callback }
     ∷ record { lane = record { 0 = i + n }; side = Transfer }
@@ -107,7 +107,7 @@ three_more : (r : List Actor) (a b c : Actor) → ((r ++ a ∷ []) ++ b ∷ []) 
 three_more [] a b c = refl
 three_more (x ∷ r) a b c = ap (λ t. x ∷ t) (three_more r a b c)
 
--- the round over one driver more, by pushes
+-- the round over one more driver, by pushes
 pub round_pushed : (n : ℕ) (r x y z : List Actor) → r ≡ round_from 0 n → x ≡ r ++ callback n ∷ [] →
     y ≡ x ++ transfer n ∷ [] → z ≡ y ++ script n ∷ [] → z ≡ round_from 0 (n + 1)
 round_pushed n r x y z before first second third =

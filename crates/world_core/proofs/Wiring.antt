@@ -1,4 +1,5 @@
--- The bytes that all drivers really hold after a turn: those of the actor's driver follow it, and the others stay.
+-- The bytes that all drivers really hold after a turn: those of the actor's driver follow the turn, and the others are
+-- unchanged.
 use Rattle.std.proofs.Common.{◌≡◌, ◌≢◌, ℕ, zero, suc, ◌<◌, ◌≤◌, List, [], ◌∷◌, length, get_or, map, Option, Some, None}
 use Rattle.std.proofs.Common.{refl, sym, ap, ◌∙◌, subst, arith, slice_get, slice_set, ◌⊎◌, inl, inr}
 use Rattle.std.proofs.lemmas.Bool.{cases_order}
@@ -34,7 +35,7 @@ lane-other (x ∷ lanes) (suc k) (suc j) m off = lane-other lanes k j m (λ e. o
 one-some : {A : Type 0} (o : Option A) (x y : A) → o ≡ Some x → o ≡ Some y → x ≡ y
 one-some o x y e f = cc
 
--- bytes stay by themselves
+-- bytes that are unchanged follow themselves
 follows-same : (l : LaneState) (w : Wire) → Follows l l w w
 follows-same l w = record {
   own = λ a b c. refl;
@@ -42,7 +43,7 @@ follows-same l w = record {
   known = λ a v none is. absurd (cc);
 }
 
--- an actor that has no driver leaves the bytes of all
+-- the turn of an actor without a driver leaves all bytes unchanged
 pub no-wires : (lanes : List Lane) (hub : HubSeen) (actor : Actor) → length lanes ≤ actor.lane.0 →
     WiresFollow (world_of lanes hub) actor (wires_in lanes) (wires_in lanes)
 no-wires lanes hub actor past =
@@ -87,7 +88,7 @@ module _ (lanes : List Lane) (hub hub-new : HubSeen) (actor : Actor) (l m : Lane
     others = λ j off. ap wire_in (lane-other lanes k j m off);
   }
 
-  -- out of memory
+  -- if memory runs out
   pub wires-stay : Follows (ideal l) (ideal m) (wire l) (wire m) → ideal m ≡ ideal l →
       WiresStay (world_of lanes hub) (wires_in lanes) (wires_in (slice_set lanes actor.lane.0 m))
   wires-stay follows same j a ha = by (cases_order j k)

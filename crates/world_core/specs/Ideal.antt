@@ -12,7 +12,7 @@ use Rattle.world_core.specs.Kept.{world_of}
 abbrev pub ideal_world : World → WorldState
 ideal_world w = world_of w.lanes.items w.hub
 
--- the holds of the bounce lock so far
+-- the history of a world's hub: the holds of the bounce lock so far
 abbrev pub holds : World → List HoldEntry
 holds w = w.hub.history
 
@@ -20,11 +20,11 @@ holds w = w.hub.history
 abbrev pub ideal_run : Progress → Run
 ideal_run p = record { world = ideal_world p.world; entries = p.entries.items }
 
--- the head of a callback list, if there is one, is not of the driver of this number
+-- a callback list is empty, or its head is not of the driver of this number
 abbrev pub is_others_head : ℕ → Option Waiter → Bool
 is_others_head lane None = true
 is_others_head lane (Some w) = not (w.map.lane.0 == lane)
 
--- no callback can be taken by the driver of this number
+-- the driver of this number has no callback to take in a world
 abbrev pub has_no_callback : WorldState → ℕ → Bool
 has_no_callback w lane = is_others_head lane (slice_get w.account.ready 0)

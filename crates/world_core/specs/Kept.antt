@@ -13,7 +13,8 @@ use Rattle.ideal_world.specs.World.{WorldState}
 abbrev pub world_of : List Lane → HubSeen → WorldState
 world_of lanes hub = record { lanes = map ideal lanes; account = account_of hub.opening hub.history }
 
--- their world is well formed for the scenario, and the hub began with the scenario's opening account
+-- the world of these lanes and this hub is well formed for the scenario, and the hub began with the scenario's opening
+-- account
 pub record IsKept (s : Scenario) (lanes : List Lane) (hub : HubSeen) : Type 0 where
   pub well : IsWellFormed s (world_of lanes hub)
   pub opening : hub.opening ≡ opening s

@@ -5,7 +5,8 @@ use Rattle.ideal_lane.specs.State.{LaneState}
 use Rattle.ideal_world.specs.World.{WorldState}
 use Rattle.lane_turns.specs.Turning as turning
 
--- an actor has a driver, whose turn of that side may run out of memory: it is no callback, and gives no page back
+-- an actor has a driver, whose turn of the actor's side may run out of memory: it is not a callback, and gives no page
+-- back
 abbrev pub MayWant : WorldState → Actor → Type 0
 MayWant w actor =
     (l : LaneState) × (slice_get w.lanes actor.lane.0 ≡ Some l) × turning.MayWant l actor.side

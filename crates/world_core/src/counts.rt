@@ -10,7 +10,11 @@ use busdma_base::{ZoneId, ZoneList};
 use std::alloc::{AllocError, Global};
 
 impl World<'_> {
-    /// The counts of every bounce zone, in the order of their making.
+    /// Returns the counts of every bounce zone, in the order in which the zones were made.
+    ///
+    /// # Errors
+    ///
+    /// `AllocError` if memory runs out.
     pub fn zones(&self, alloc: Global) -> Result<ZoneList, AllocError>
         ensures { IfOk result (λ zones. zones ≡ zone_counts (ideal_world self.now)) }
     {
@@ -22,7 +26,7 @@ impl World<'_> {
         self.hub.counts(alloc, &bounced)
     }
 
-    /// How many syncs copied bytes of a zone's maps.
+    /// Returns how many syncs of all drivers copied bytes of a zone's maps.
     fn bounced(&self, zone: ZoneId) -> u64
         ensures { result ≡ world.bounced (ideal_world self.now) zone.0 }
     {

@@ -12,7 +12,7 @@ use crate::world::World;
 use busdma_base::{End, Journal, JournalEntry};
 
 impl World<'_> {
-    /// How a run ends that has come to rest here.
+    /// Returns how a run that has come to rest in this world ends: `Finished` if all scripts have ended, else `Stuck`.
     pub fn end(&self) -> End
         ensures { result ≡ world_end (ideal_world self.now) }
     {
@@ -30,7 +30,7 @@ impl World<'_> {
     }
 }
 
-/// The status of a journal: 2 where the run is stuck, else 1 where some step is a report, else 0.
+/// Returns the status of a journal: 2 if the run is stuck, else 1 if an entry is a report, else 0.
 pub fn status(journal: &Journal) -> u8
     ensures { result ≡ ends.status journal.now }
 {

@@ -6,8 +6,8 @@ ghost use Rattle.world_core.specs.Wires.{wires_of};
 
 use crate::world::World;
 
-/// In every world the bytes that the frames and the bounce pages of each driver really hold are faithful
-/// to its ideal memory.
+/// The bytes that the frames and bounce pages of each driver of a world really hold are faithful to the driver's ideal
+/// memory.
 pub fn wires_are_faithful(world: &World)
     ensures { AllFaithful (wires_of world.now) (ideal_world world.now) }
 {}

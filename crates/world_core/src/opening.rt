@@ -16,7 +16,11 @@ use opening_frames::{free_bank, memory_end};
 use std::alloc::{AllocError, Global};
 
 impl<'s> World<'s> {
-    /// The world in which a scenario opens. Its hub has the frames that no driver's pages have.
+    /// Makes the world in which a scenario opens. Its hub has the frames that no driver's pages have.
+    ///
+    /// # Errors
+    ///
+    /// `AllocError` if memory runs out.
     pub fn new(alloc: Global, scenario: &'s Scenario) -> Result<World<'s>, AllocError>
         requires { IsValid scenario.now }
         ensures { IfOk result (λ world. ideal_world world ≡ opening_world scenario.now) }
@@ -30,8 +34,12 @@ impl<'s> World<'s> {
     }
 }
 
-/// The drivers with which a scenario opens, in the order of their numbers, and the hub that they are
-/// to share. It has the frames that no driver's pages have, and no hold was made.
+/// Makes the drivers with which a scenario opens, in the order of their numbers, and the hub that they are to share.
+/// The hub has the frames that no driver's pages have, and its history is empty.
+///
+/// # Errors
+///
+/// `AllocError` if memory runs out.
 pub fn opening_parts<'s>(
     alloc: Global,
     scenario: &'s Scenario,
@@ -46,8 +54,8 @@ pub fn opening_parts<'s>(
     Ok((lanes, Hub::new(alloc, bank, scenario.max_bpages, maxmem)))
 }
 
-/// The lanes of a scenario's drivers, which have done nothing, in the order of their numbers, in a
-/// machine whose frames have numbers below `maxmem`.
+/// Makes the lanes of a scenario's drivers, which have done nothing yet, in the order of their numbers, in a machine
+/// whose frame numbers are below `maxmem`.
 fn opening_lanes<'s>(
     alloc: Global,
     scenario: &'s Scenario,

@@ -16,8 +16,8 @@ use busdma_base::Scenario;
 use lane_core::Lane;
 
 impl<'s> World<'s> {
-    /// The world of drivers of a scenario, in the order of their numbers, and of the hub that they
-    /// share. The bytes of each driver stay. Takes no memory.
+    /// Makes a world of a scenario's drivers, in the order of their numbers, and the hub that they share. The bytes of
+    /// each driver are unchanged. Takes no memory.
     pub fn from_parts(scenario: &'s Scenario, lanes: Vec<Lane<'s>>, hub: Hub) -> World<'s>
         requires { IsKept scenario.now lanes.items hub }
         ensures world { ideal_world result ≡ world_of lanes.entry.items hub }
@@ -31,8 +31,8 @@ impl<'s> World<'s> {
         }
     }
 
-    /// The drivers, in the order of their numbers, and the hub that they share, which serves each of them.
-    /// The bytes of each driver stay.
+    /// Returns the drivers, in the order of their numbers, and the hub that they share, which serves each of them. The
+    /// bytes of each driver are unchanged.
     pub fn into_parts(self) -> (Vec<Lane<'s>>, Hub)
         ensures world { world_of result.0.items result.1 ≡ ideal_world self.entry }
         ensures wires { wires_in result.0.items ≡ wires_of self.entry }

@@ -11,10 +11,10 @@ use busdma_base::{Actor, Journal, JournalEntry, LaneId, ListOf, Scenario, Side};
 use lane_core::Turn;
 use std::alloc::{AllocError, Global};
 
-/// So many operations and items a script has at the most.
+/// The largest number of operations and items of a script.
 const STEPS: usize = 4096;
 
-/// How far a replay has come.
+/// A replay on its way: the world that it has come to, and its entries so far.
 #[derive(Drop)]
 struct Progress<'s> {
     world: World<'s>,
@@ -22,7 +22,7 @@ struct Progress<'s> {
 }
 
 impl Progress<'_> {
-    /// An actor's turn.
+    /// Makes an actor's turn, and notes its entry if it is a step.
     fn turn(&mut self, alloc: Global, actor: Actor) -> Result<(), AllocError>
         ensures { OnOk result (ideal_run self.new ≡ legal.turn (ideal_run self.old) actor) }
     {
@@ -36,7 +36,7 @@ impl Progress<'_> {
         Ok(())
     }
 
-    /// The turns of actors, in order.
+    /// Makes the turns of actors, in order.
     fn turns(&mut self, alloc: Global, order: &[Actor]) -> Result<(), AllocError>
         ensures { OnOk result (ideal_run self.new ≡ legal.turns (ideal_run self.old) order.now) }
     {
@@ -46,7 +46,7 @@ impl Progress<'_> {
         Ok(())
     }
 
-    /// Rounds over all drivers until a whole round makes no step.
+    /// Makes rounds over all drivers until a complete round makes no step.
     fn rounds(&mut self, alloc: Global, round: &[Actor]) -> Result<(), AllocError>
         ensures { OnOk result (ComesToRest round.now (ideal_run self.old) (ideal_run self.new)) }
     {
@@ -60,8 +60,12 @@ impl Progress<'_> {
     }
 }
 
-/// The actors of a round over so many drivers, in the order of their numbers: of each its callback, its
+/// Returns the actors of a round over so many drivers, in the order of their numbers: for each driver its callback, its
 /// transfer and its script.
+///
+/// # Errors
+///
+/// `AllocError` if memory runs out.
 pub fn round_of(alloc: Global, drivers: u32) -> Result<Vec<Actor>, AllocError>
     ensures { IfOk result (λ round. round.items ≡ round_from 0 drivers) }
 {
@@ -84,14 +88,18 @@ pub fn round_of(alloc: Global, drivers: u32) -> Result<Vec<Actor>, AllocError>
     Ok(round)
 }
 
-/// The journal of the scenario's replay: the turns of its order, and then rounds until a whole
+/// Replays a scenario and returns the journal: the turns of the scenario's order, and then rounds until a complete
 /// round makes no step.
+///
+/// # Errors
+///
+/// `AllocError` if memory runs out.
 pub fn replay(alloc: Global, scenario: &Scenario) -> Result<Journal, AllocError>
     requires { IsValid scenario.now }
     ensures { IfOk result (IsReplayed scenario.now) }
 {
     let world = World::new(alloc, scenario)?;
-    // Operations and items make most entries. Pages that go back and callbacks make more, so the list may still be moved.
+    // Operations and items make most entries. Pages that go back and callbacks make more, so the list may still grow.
     let entries = Vec::with_capacity(alloc, scenario.drivers.len().saturating_mul(STEPS))?;
     let mut progress = Progress { world, entries };
     progress.turns(alloc, scenario.order.as_slice())?;

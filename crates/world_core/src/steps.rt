@@ -17,13 +17,16 @@ use lane_core::Turn;
 use std::alloc::{AllocError, Global};
 
 impl World<'_> {
-    /// An actor's turn, which is its driver's: a step with its entry, Blocked, or Ended; an actor
-    /// that has no driver is Blocked. A step tells whether it made a call under the bounce lock that
-    /// is kept in the hub's history, which then has one entry more. The bytes of the actor's driver are those
-    /// of the step, but for pages and frames of memories that came and went, and those of the others stay.
-    /// Where memory runs out, the ideal world and the hub's history stay as they were, and so do the bytes of
-    /// each driver's own frames and of its maps' pages. It runs out neither for a callback nor for a script
-    /// while a page is on its way back.
+    /// Makes an actor's turn, which is its driver's: a step with its entry, `Blocked`, or `Ended`. An actor without a
+    /// driver is `Blocked`. The turn also says whether it made a call under the bounce lock that is kept in the hub's
+    /// history, which then has one more entry. The bytes of the actor's driver are those of the step, except for pages
+    /// and frames of memories that came or went. The bytes of the other drivers are unchanged.
+    ///
+    /// # Errors
+    ///
+    /// `AllocError` if memory runs out. The ideal world and the hub's history are then unchanged, and so are the bytes
+    /// of each driver's own frames and of its maps' pages. The turn of a callback never runs out of memory, nor does a
+    /// script's turn while a page is still to go back.
     pub fn step(&mut self, alloc: Global, actor: Actor) -> Result<Turn, AllocError>
         ensures done { IfOk result (λ turn.
             record { world = ideal_world self.new; turn = answered turn } ≡ step (ideal_world self.old) actor) }
@@ -45,8 +48,8 @@ impl World<'_> {
         self.lanes[at].turn(alloc, &mut self.hub, actor.side)
     }
 
-    /// Returns whether an actor makes no step, for which it only looks: a script that waits or has ended, a device whose
-    /// driver has no item for it, a driver whose map is not the first of the callback list, or an actor without a driver.
+    /// Returns whether an actor's turn makes no step: its script waits or has ended, its driver has no item for the
+    /// device, the first map of the callback list is not its driver's, or it has no driver.
     pub(crate) fn is_idle(&self, actor: Actor) -> bool
         ensures { result ≡ not (is_some (step_entry (ideal_world self.now) actor)) }
     {
@@ -72,7 +75,8 @@ impl World<'_> {
     }
 }
 
-/// The history of every hub is sound. A proof knows it of a hub only once the hub was asked for it.
+/// States that the history of the hub is sound. A proof knows this of a hub only after the hub was asked for its
+/// history.
 pub(crate) fn hub_is_sound(hub: &Hub)
     ensures form { IsOpening hub.now.opening }
     ensures sound { IsSound hub.now.opening hub.now.history }
