@@ -153,7 +153,7 @@ module _ (h : Holdings) (wired : IsWired h) (k : ℕ) (o : KeptMap) (there : get
       by false true = sym (ranges_alike off len cs (traces_of l k) x.load.chunks w).out_alike
       by false false = refl
 
-  -- its positions, where no page of another map is
+  -- a position with no page of another map
   abbrev IsOurs : Placed → Type 0
   IsOurs t = IsMine h.maps.map k t.bus × IsMine h.maps.map k t.pa
 

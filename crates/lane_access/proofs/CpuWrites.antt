@@ -34,7 +34,7 @@ pub wire-idle : (l : LaneState) (r : Report) (s : Asking Outcome) (after w : Wir
 wire-idle l r s after w e = ap (λ x. if_done x after w) e
 
 module _ (h : Holdings) (place : Place) (va : ℕ) (at : virtual_at (ideal_of h) place ≡ Some va) where
-  -- the bytes that the driver names, where it reaches them
+  -- the bytes that the driver names, if it reaches them
   named : (len : ℕ) →
       map (physical_or_0 (memory.physical h.memory.memory)) (run_of va len) ≡ place_bytes (ideal_of h) place len
   named len = bytes-same h va len ∙ ap (λ o. bytes_at (ideal_of h) (run_of (unwrap_or o 0) len)) (sym at)
@@ -113,7 +113,7 @@ module _ (h : Holdings) (wired : IsWired h) (place : Place) (va : ℕ)
       ap (λ s. if_done s (put (place_bytes l place (length vs)) vs (wire_of h)) (wire_of h)) cpu_write-step
       ∙ ap (λ xs. put xs vs (wire_of h)) (sym (here ∙ named h place va placed_at (length vs)))
 
-  -- it leaves the wire faithful
+  -- a write leaves the wire faithful
   pub cpu_write-stays : IsFaithful (with_written pas vs l) (put pas vs (wire_of h))
   cpu_write-stays =
       subst (IsFaithful (with_written pas vs l)) cpu_write-wire

@@ -42,7 +42,7 @@ pub load-there : (o : Option KeptMap) → has_load o ≡ true → (x : KeptMap) 
 load-there None h = absurd (cc)
 load-there (Some x) h = (x, refl, h)
 
--- what stands behind the refusals of a range of a load
+-- the refusals of a range of a load
 module _ (l : LaneState) (k : ℕ) where
   pub not-there : get l.maps k ≡ None → (step : LaneMap → Asking Outcome) →
       unless_unloaded k l step ≡ gives l (answer.Report (record { name = Absent; at = 0 }))
@@ -105,14 +105,14 @@ module _ (h : Holdings) (k off len : ℕ) (on : has_load (get h.maps.map k) ≡ 
       ap (λ f. dev_read_answer f (loan_of h.loans.loans k) off len)
       (sym (known-held h.loans.bytes h.loans.loans (devices_of h.maps.map) h.memory.memory))
 
-  -- it is refused
+  -- the read is refused
   pub dev_read-refused : (r : Report) →
       Refused r ≡ dev_read_answer (is_known h.loans) (loan_of h.loans.loans k) off len →
       gives l (answer.Report r) ≡ dev_read k off len l
   dev_read-refused r is =
       sym (within ∙ refused _ r l _ (sym (is ∙ answers)))
 
-  -- it is done, where what is read stands at the bus addresses
+  -- a read is done if it returns the bytes at the bus addresses
   pub dev_read-by : (wired : IsWired h) → Fine ≡ dev_read_answer (is_known h.loans) (loan_of h.loans.loans k) off len →
       (out : List ℕ) → out ≡ map (wire_of h) (load_buses l k off len) →
       gives l (answer.Bytes out) ≡ dev_read k off len l
@@ -126,7 +126,7 @@ module _ (h : Holdings) (k off len : ℕ) (on : has_load (get h.maps.map k) ≡ 
       (faithful l (wire_of h) wired.apart wired.laid wired.faithful) k off len allowed))
       ∙ sym (within ∙ passes _ l _ allowed)
 
-  -- so it does where the map is none of an IOMMU tag
+  -- if the map's tag is not an IOMMU tag, the code reads the bytes at the bus addresses
   module _ (wired : IsWired h) (o : KeptMap) (there : get h.maps.map k ≡ Some o) (plain : is_behind l k ≡ false)
       (fine : Fine ≡ dev_read_answer (is_known h.loans) (loan_of h.loans.loans k) off len) (out : List ℕ)
       (is : out ≡ map (device_view (device_in o.map.stage) h.memory.memory)
@@ -134,7 +134,7 @@ module _ (h : Holdings) (k off len : ℕ) (on : has_load (get h.maps.map k) ≡ 
     loaded : has_load (Some o) ≡ true
     loaded = sym (ap has_load there) ∙ on
 
-    -- what is read stands at the bus addresses
+    -- what is read is what the wire has at the bus addresses
     pub dev_read-reads : out ≡ map (wire_of h) (load_buses l k off len)
     dev_read-reads =
         is
@@ -147,6 +147,6 @@ module _ (h : Holdings) (k off len : ℕ) (on : has_load (get h.maps.map k) ≡ 
         ∙ sym (trace-view l wired.laid wired.apart h.maps.map refl h.unlent (wire h.memory.memory) k (off + i) t.0 t.1)
         ∙ ap (wire_of h) t.2)
 
-    -- it is what the ideal memory has
+    -- what is read is what the ideal memory has
     pub dev_read-done : gives l (answer.Bytes out) ≡ dev_read k off len l
     dev_read-done = dev_read-by wired fine out dev_read-reads

@@ -118,7 +118,7 @@ module _ (h : Holdings) (wired : IsWired h) (k : ℕ) (o : KeptMap) (there : get
       done
       (dev_write-faithful l (wire_of h) wired.apart wired.laid wired.faithful k off vs Nothing))
 
-  -- it is what was written, where the bytes are marked
+  -- what is held is what was written, with these bytes marked
   pub dev_write-done : (marks : FinMap nat_cmp Bool) (loans : Loans) (table : FinMap nat_cmp KeptMap) →
       AreIn h.loans.bytes (load_bytes h.loans.loans k off (length vs)) →
       marks ≡ set_all h.loans.bytes (load_bytes h.loans.loans k off (length vs)) true → loans ≡ h.loans.loans →

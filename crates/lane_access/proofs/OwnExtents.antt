@@ -20,7 +20,7 @@ use Rattle.lane_access.proofs.RawJudging.{run-some}
 use Rattle.lane_state.proofs.OwnBytes.{table-own}
 use Rattle.lane_state.proofs.Wires.{in_frame}
 
--- a range of a load, and what comes right behind it
+-- a range of a load, followed directly by another one
 pub load-more : (ps : List Position) (off at n : ℕ) → off ≤ at →
     addresses_of (stretch off (at - off) ps) ++ addresses_of (stretch at n ps)
     ≡ addresses_of (stretch off (at + n - off) ps)
@@ -38,7 +38,7 @@ module _ (h : Holdings) (wired : IsWired h) where
       (AreIn-append h.loans.bytes (a ∷ []) (run_of (a + 1) (n - 1) ++ rest)
       (rw (run-some a n some) at are)).0.0
 
-  -- extents that do not reach past their frames lie in the driver's frames, where it has their bytes
+  -- extents that do not reach past their frames are in the driver's frames if it has their bytes
   pub lie-inside : (es : List Extent) → AllByRecursion IsInFrame es → AreIn h.loans.bytes (addresses es) →
       Lie h.memory.memory es
   lie-inside es framed are = record { extents = extents es framed are; frames = frames es framed are }

@@ -24,7 +24,7 @@ module _ (h : Holdings) (wired : IsWired h) (pas vs : List ℕ) (inside : AreIn 
   abbrev l : LaneState
   l = ideal_of h
 
-  -- what is held then is what was written, where the bytes are marked
+  -- what is held after a write is what was written, with these bytes marked
   pub own-written : IsFaithful (with_written pas vs l) (put pas vs (wire_of h)) → length pas ≡ length vs →
       (bytes : FinMap nat_cmp Bool) (loans : Loans) →
       bytes ≡ set_all h.loans.bytes pas true → loans ≡ h.loans.loans →

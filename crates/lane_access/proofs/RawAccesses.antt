@@ -46,7 +46,7 @@ use Rattle.lane_access.proofs.RawJudging.{run-at, run-get}
 use Rattle.lane_access.proofs.RawLoads.{found-by, raw-own}
 use Rattle.lane_state.proofs.Reading.{passes, refused}
 
--- an address at which nothing stands in the way is one that the device reaches
+-- an address at which an access is not refused is one that the device reaches
 record Reaching (l : LaneState) (t a : ℕ) : Type 0 where
   low : a < 2 ^ 64
   some : is_some (translated (l.spaces t) a) ≡ true
@@ -154,7 +154,7 @@ module _ (h : Holdings) (t addr : ℕ) where
         pub write-wire : wires.dev_write_at t addr vs l (wire_of h) ≡ put (pas (length vs)) vs (wire_of h)
         write-wire = ap (λ s. if_done s (put (pas (length vs)) vs (wire_of h)) (wire_of h)) write-step
 
-        -- it leaves the wire faithful
+        -- a write leaves the wire faithful
         pub write-stays : IsWired h → Stands l → IsFaithful written_at (put (pas (length vs)) vs (wire_of h))
         write-stays wired stands =
             ∥∥₁_elim wired.mapped (IsFaithful-prop written_at (put (pas (length vs)) vs (wire_of h))) (λ mapped.

@@ -33,7 +33,7 @@ run-at a (suc n) (suc i) h = let e : a + 1 + i ≡ a + suc i = omega arith in ru
 pub run-parts : (a n len : ℕ) → n ≤ len → run_of a len ≡ run_of a n ++ run_of (a + n) (len - n)
 run-parts a n len h = let e : len ≡ n + (len - n) = omega (arith, h) in ap (run_of a) e ∙ run_of_sum a n (len - n)
 
--- a judgement of what stands so much further on
+-- a judgement whose places are all further on by this distance
 abbrev pub moved_on : ℕ → Judged → Judged
 moved_on d Fine = Fine
 moved_on d (Refused r) = Refused (record { name = r.name; at = d + r.at })
@@ -43,7 +43,7 @@ moved-or : (d at : ℕ) (o : Option ReportName) (rest : Judged) → refused_or o
 moved-or d at None rest = refl
 moved-or d at (Some name) rest = refl
 
--- what is judged further on is judged alike
+-- what is judged from a later place on is judged in the same way
 pub judged-moved : {X : Type 0} (f : X → Option ReportName) (d at : ℕ) (xs : List X) →
     judged f (d + at) xs ≡ moved_on d (judged f at xs)
 judged-moved f d at [] = refl
@@ -109,7 +109,7 @@ module _ (f : ℕ → Option ReportName) (addr done len : ℕ) (all : Judged)
         sym (judged-refused f done here later (record { name = r.name; at = done + r.at })
         (there ∙ ap (moved_on done) is)) ∙ parts
 
-    -- none of them is
+    -- none of the next n is refused
     pub goes-on : judged f 0 here ≡ Fine → judged f (done + n) (run_of (addr + (done + n)) (len - (done + n))) ≡ all
     goes-on is =
         let size = length-run_of (addr + done) n in

@@ -91,7 +91,7 @@ module _ (h : Holdings) (wired : IsWired h) where
             ∙ ap length (placed-buffers (bounced_in (stage_at l k)) 0 (addresses_of (loan_of h.loans.loans k).positions))
             ∙ length-map (loan_of h.loans.loans k).positions (λ (p : Position). p.pa)
 
-    -- so they are short where buffers are
+    -- the segments of a tag's maps are short if all buffers are short
     pub short-of : ((m : ℕ) → length (buffer_of h.loans m) < 2 ^ 64) → AreShortOf t (entries h.maps.map)
     short-of short =
         all-short (entries h.maps.map) (of-table h.maps.map)

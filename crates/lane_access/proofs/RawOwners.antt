@@ -50,13 +50,13 @@ has-load held.returning h = absurd (omega arith)
 
 -- ---- the load that begins last
 
--- it begins in a page, or later
+-- the load that was found begins at this page or later
 abbrev Reaches : ℕ → Option Beginning → Type 0
 Reaches n None = ⊥
 Reaches n (Some b) = n ≤ b.page
 
 module _ (t page : ℕ) where
-  -- it is that of one of these maps
+  -- the load that was found is of one of these maps, whose tag is this one
   record IsOf (es : List (ℕ × KeptMap)) (b : Beginning) : Type 0 where
     index : ℕ
     map : KeptMap
@@ -259,7 +259,7 @@ module _ (h : Holdings) (wired : IsWired h) (mapped : AreMapped (ideal_of h)) (t
             r.within (ap (λ ss. slice_get (segment_bytes ss) i) same ∙ at_b);
       }
 
-  -- a load that begins at or before the page does not begin behind one that has it
+  -- a load that begins at or before the page does not begin after the load that has the page
   begins-first : (x y : KeptMap) (r : Run x) (q : Run y) → has_page page r.run ≡ true →
       first_of (segments y) ≤ page → first_of (segments y) ≤ first_of (segments x)
   begins-first x y r q has up = by (nat_lt r.run.first q.run.first) refl

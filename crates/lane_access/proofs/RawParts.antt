@@ -29,7 +29,7 @@ module _ (l : LaneState) (access : RawAccess) (t a n : ℕ) (some : is_some (tra
       ≡ unless_unlent (unlent_of access) (lent_refusal access l) p
   found high there o p h k e = rw (h, k, e) refl
 
-  -- one that is reached is judged by its position
+  -- an address that is reached is judged by its position
   refused-as : (i : ℕ) → i < n → refusal_of access l t (a + i)
       ≡ unless_unlent (unlent_of access) (lent_refusal access l) (position_at l.loans place i)
   refused-as i below =
@@ -38,7 +38,7 @@ module _ (l : LaneState) (access : RawAccess) (t a n : ℕ) (some : is_some (tra
       (lt-leb (2 ^ 64) (a + i) (omega (arith, page, low, below)))
       (page-reached (l.spaces t) a i (omega (arith, page, below)) ∙ some) (lies i below)
 
-  -- those in a load by the positions there
+  -- addresses in a load are judged by the positions there
   pub in-load : (p : LoadPlace) → place ≡ Some p → p.at + n ≤ length (loan_of l.loans p.map).positions →
       judged (refusal_of access l t) 0 (run_of a n)
       ≡ judged (lent_refusal access l) 0 (stretch p.at n (loan_of l.loans p.map).positions)

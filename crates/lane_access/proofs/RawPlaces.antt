@@ -66,7 +66,7 @@ module _ (l : LaneState) (t a k : ℕ) (x : KeptMap) (es : List (ℕ × KeptMap)
       position_in l t a (entry_values map_of ((k, x) ∷ es)) ≡ rest
   none-of-it none = none-there (x.tag == t) place (ap (λ ss. place_in 0 ss a) (segments-same x.map.stage) ∙ none)
 
-  -- one of the tag whose load has it gives the position at its place
+  -- a map of the tag whose load has the address gives the position at its place
   pub one-of-it : (p : ℕ) → (x.tag == t) ≡ true → place_in 0 (held.segments_of x.map.stage) a ≡ Some p →
       position_in l t a (entry_values map_of ((k, x) ∷ es)) ≡ slice_get (loan_of l.loans k).positions p
   one-of-it p same found =

@@ -34,14 +34,14 @@ module _ (s : Space) where
   offset None x low h = absurd (cc)
   offset (Some f) x low h = omega (arith, low)
 
-  -- the other addresses of a page are reached where one is
+  -- if one address of a page is reached, the others are too
   pub page-reached : (a i : ℕ) → a % 4096 + i < 4096 → is_some (translated s (a + i)) ≡ is_some (translated s a)
   page-reached a i h =
       let e : (a + i) / 4096 ≡ a / 4096 = omega (arith, h) in
       ap (λ p. is_some (option_map (λ f. 4096 * f + (a + i) % 4096) (frame_at s.runs p))) e
       ∙ some-frame (frame_at s.runs (a / 4096)) ((a + i) % 4096) (a % 4096)
 
-  -- and their bytes lie as far behind
+  -- the bytes of a device page are at the same distances in their frame
   pub page-raw : (a i : ℕ) → a % 4096 + i < 4096 → is_some (translated s a) ≡ true → raw (a + i) ≡ raw a + i
   page-raw a i h some =
       let e : (a + i) / 4096 ≡ a / 4096 = omega (arith, h) in

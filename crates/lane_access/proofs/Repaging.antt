@@ -79,7 +79,7 @@ module _ (h : Holdings) (wired : IsWired h) (k : ℕ) (o : KeptMap) (there : get
   frames : frames_of repaged.pages.items ≡ frames_of x.pages.items
   frames = repaged.frames ∙ ap (λ s. frames_of (device_in s).pages) x.stage
 
-  -- it means what it meant
+  -- the changed map means the same to the ideal driver
   map-same : map_of changed ≡ map_of o
   map-same = λ i. record {
     tag = o.tag;
@@ -140,7 +140,7 @@ module _ (h : Holdings) (wired : IsWired h) (k : ℕ) (o : KeptMap) (there : get
         ∙ sym (ap is_tried there)) q ∙ h.tried q;
   }
 
-  -- what each map has, but for the bytes of that one's pages
+  -- what each map has is as it was, except the bytes of this map's pages
   device-now : devices_of maps k ≡ device_in next.stage
   device-now =
       ap device_of (get_put h.maps.map k changed k

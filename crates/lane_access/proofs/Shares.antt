@@ -1,4 +1,4 @@
--- The shares of zones, as one more copy is counted.
+-- The shares of zones after one more copy is counted.
 use Rattle.std.proofs.Common.{◌≡◌, ◌≢◌, ℕ, suc, ◌+◌, ◌<◌, ◌≤◌, ◌==◌, Bool, true, false, cond, min}
 use Rattle.std.proofs.Common.{List, [], ◌∷◌, ◌++◌, get_or, length, set, refl, sym, ap, ◌∙◌, arith}
 use Rattle.std.proofs.lemmas.Bool.{eq-eqb}
@@ -10,7 +10,7 @@ use Rattle.lane_state.specs.declared.kept.KeptShare.{KeptShare}
 use Rattle.lane_state.specs.Kept.{share_of}
 use Rattle.lane_access.specs.Shares.{place_in}
 
--- one more of them, up to the greatest number
+-- a share with one more copy, up to the greatest number
 abbrev pub raised : KeptShare → KeptShare
 raised s = record s { count = min (s.count + 1) greatest_share }
 

@@ -54,7 +54,7 @@ use Rattle.lane_state.proofs.MarkedMemory.{marks-forgotten, marks-held, own-mark
 use Rattle.lane_state.proofs.Marks.{has_inserted, has_set_all}
 use Rattle.lane_access.proofs.Repaging.{are-maps, ideal-maps, maps, unlent-maps}
 
--- ---- the step, by what stands in its way
+-- ---- the step, by what refuses it
 module _ (l : LaneState) (k : ℕ) (o : LaneMap) (off len ops : ℕ) where
   -- the driver after a sync that is done
   abbrev pub after_sync : LaneState
@@ -77,7 +77,7 @@ module _ (l : LaneState) (k : ℕ) (o : LaneMap) (off len ops : ℕ) where
   part-fine alone fine = rw (alone, fine) refl
 
 -- ---- loans after a sync
--- they are of the same bytes
+-- the loans after a sync are of the same bytes
 pub synced-bytes : (loans : Loans) (k off len ops q : ℕ) →
     addresses_of (loan_of (lending.synced loans k off len ops) q).positions ≡ addresses_of (loan_of loans q).positions
 synced-bytes loans k off len ops q = by (loan_of loans k).coherent
@@ -93,7 +93,7 @@ synced-bytes loans k off len ops q = by (loan_of loans k).coherent
       positions = marked_range ops off len (loan_of loans k).positions;
     }) (addresses_of-marked_range ops off len (loan_of loans k).positions) q
 
--- and of the same maps
+-- the loans after a sync are of the same maps
 pub synced-maps : (loans : Loans) (k off len ops q : ℕ) → is_some (get loans k) ≡ true →
     contains_key (lending.synced loans k off len ops) q ≡ contains_key loans q
 synced-maps loans k off len ops q there = by (loan_of loans k).coherent
@@ -163,7 +163,7 @@ module _ (h : Holdings) (wired : IsWired h) (k : ℕ) (o : KeptMap) (there : get
       whole
       (sync_range-faithful l (wire_of h) wired.apart wired.laid wired.faithful k off len ops Nothing)))
 
-  -- it is the ideal memory, where the bytes are marked
+  -- what is held is the ideal memory with these bytes marked
   pub part-done : (marks : FinMap nat_cmp Bool) (loans : Loans) (these : FinMap nat_cmp KeptMap)
       (shares : List KeptShare) → AreIn h.loans.bytes (lost h.loans.loans k off len ops) →
       marks ≡ set_all h.loans.bytes (lost h.loans.loans k off len ops) false →
@@ -223,7 +223,7 @@ module _ (h : Holdings) (wired : IsWired h) (k : ℕ) (o : KeptMap) (there : get
       subst (λ ms. AreMaps ms loans h.agenda.returns h.agenda.promised) (sym put_in)
       (subst (λ ls. AreMaps table ls h.agenda.returns h.agenda.promised) (sym same) one)
 
--- ---- a sync of the whole load, and of a range of it
+-- ---- a sync of all bytes of the load, and of a range of them
 pub if-ok : {T E : Type 0} (r : Result T E) (P Q : T → Type 0) → ((v : T) → P v → Q v) → IfOk r P → IfOk r Q
 if-ok (Ok v) P Q f h = f v h
 if-ok (Err e) P Q f h = tt

@@ -1,4 +1,4 @@
--- Loads of which no byte is bounced, as those of IOMMU tags' maps.
+-- Loads of which no byte is bounced, for example loads of IOMMU tags' maps.
 use Rattle.std.proofs.Common.{◌≡◌, ℕ, ◌+◌, ◌≤◌, Bool, true, false, List, [], ◌∷◌, length, Some, None, refl, sym, ap, ◌∙◌}
 use Rattle.std.proofs.Common.{subst}
 use Rattle.std.specs.FinMap.{get}
@@ -40,7 +40,7 @@ use Rattle.lane_access.proofs.DeviceWrites.{dev_write-within}
 use Rattle.lane_state.proofs.MapValues.{image-some}
 use Rattle.lane_state.proofs.Reading.{passes}
 
--- where no page is held no chunk is bounced
+-- if no page is held, no chunk is bounced
 no-chunk : (cs : List Chunk) (pages : List ℕ) → AllZip IsInPage cs pages → pages ≡ [] → cs ≡ []
 no-chunk [] pages paged none = refl
 no-chunk (c ∷ cs) [] paged none = absurd paged
@@ -65,7 +65,7 @@ module _ (h : Holdings) (wired : IsWired h) (k : ℕ) (o : KeptMap) (there : get
   abbrev l : LaneState
   l = ideal_of h
 
-  -- the device reaches the bytes of a range where they are themselves
+  -- the device reaches the bytes of a range at their own addresses
   pub direct-buses : (off len : ℕ) → load_buses l k off len ≡ load_bytes l.loans k off len
   direct-buses off len =
       same_range (λ (t : Placed). t.bus) (λ (p : Position). p.pa) off len (traces_of l k)

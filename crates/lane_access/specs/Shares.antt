@@ -1,8 +1,8 @@
--- Where the shares of zones stand.
+-- Which share is a zone's.
 use Rattle.std.specs.Prelude.{ℕ, suc, ◌==◌, List, [], ◌∷◌, if◌then◌else◌}
 use Rattle.lane_state.specs.declared.kept.KeptShare.{KeptShare}
 
--- the place of the first share of a zone, or the number of shares where there is none
+-- the index of the first share of a zone, or the number of shares if the zone has none
 abbrev pub place_in : ℕ → List KeptShare → ℕ
 place_in z [] = 0
 place_in z (s ∷ shares) = if z == s.zone.0 then 0 else suc (place_in z shares)

@@ -39,7 +39,11 @@ use loan_table::LoanTable;
 use phys_memory::{LanePages, Walked};
 use std::alloc::{AllocError, Global};
 
-/// The driver reads `len` bytes at a place.
+/// Has the driver read `len` bytes at a place, and returns the bytes or the refusal.
+///
+/// # Errors
+///
+/// `AllocError` if memory runs out. The driver is not changed.
 pub fn cpu_read(
     holdings: &Holdings<'_>,
     alloc: Global,
@@ -62,7 +66,11 @@ pub fn cpu_read(
     Ok(Answer::Bytes(read_parts(&holdings.memory, alloc, bytes.as_slice(), len)?))
 }
 
-/// The driver writes bytes at a place.
+/// Has the driver write bytes at a place, and returns the answer. Bytes that are written are Known afterwards.
+///
+/// # Errors
+///
+/// `AllocError` if memory runs out. The driver and its bytes are then unchanged.
 pub fn cpu_write(
     holdings: &mut Holdings<'_>,
     alloc: Global,
@@ -93,7 +101,7 @@ pub fn cpu_write(
     Ok(Answer::Done)
 }
 
-/// Writes bytes into extents of the driver's own frames, which have as many. They are Known then.
+/// Writes bytes to extents of the driver's own frames, which have as many. The bytes are Known afterwards.
 pub(crate) fn write_own(
     holdings: &mut Holdings<'_>,
     alloc: Global,
@@ -121,7 +129,8 @@ pub(crate) fn write_own(
     Ok(())
 }
 
-/// The refusal of a map that does not exist or is not loaded.
+/// Returns the report about a map that does not exist (`Absent`) or is not loaded (`NotLoaded`). Returns `None` if the
+/// map is loaded.
 pub fn unloaded(holdings: &Holdings<'_>, map: u32) -> Option<Report>
     ensures refused { IfSome result (λ r. (step : LaneMap → Asking Outcome) →
         unless_unloaded map (ideal_of holdings.now) step ≡ gives (ideal_of holdings.now) (answer.Report r)) }
@@ -142,7 +151,8 @@ pub fn unloaded(holdings: &Holdings<'_>, map: u32) -> Option<Report>
     None
 }
 
-/// The refusal of `len` bytes from `off` on that reach past the end of a map's load.
+/// Returns the report `PastEnd` if the `len` bytes from `off` on reach past the end of a map's load, and `None` if they
+/// do not. The map is loaded.
 pub fn past_end(holdings: &Holdings<'_>, map: u32, off: u64, len: u64) -> Option<Report>
     requires { has_load (get holdings.now.maps.map map) ≡ true }
     ensures refused { IfSome result (λ r. (step : Asking Outcome) →
@@ -162,7 +172,13 @@ pub fn past_end(holdings: &Holdings<'_>, map: u32, off: u64, len: u64) -> Option
     }
 }
 
-/// The device reads `len` bytes of a map's load, from `off` on.
+/// Has the device read `len` bytes of a map's load, from `off` on, and returns the bytes or the refusal.
+///
+/// The bytes are read at their bus addresses, from bounce pages or from the driver's frames.
+///
+/// # Errors
+///
+/// `AllocError` if memory runs out. The driver and its bytes are unchanged in any case.
 pub fn dev_read(
     holdings: &mut Holdings<'_>,
     alloc: Global,
@@ -203,7 +219,12 @@ pub fn dev_read(
     Ok(Answer::Bytes(bytes?))
 }
 
-/// The device writes bytes into a map's load, from `off` on.
+/// Has the device write bytes to a map's load, from `off` on, and returns the answer. They are written at their bus
+/// addresses, to bounce pages or to the driver's frames.
+///
+/// # Errors
+///
+/// `AllocError` if memory runs out. The driver and its bytes are then unchanged.
 pub fn dev_write(
     holdings: &mut Holdings<'_>,
     alloc: Global,
@@ -247,7 +268,7 @@ pub fn dev_write(
     Ok(Answer::Done)
 }
 
-/// The bytes of a map's load, `len` of them from `off` on, where they lie themselves.
+/// Returns the extents of `len` bytes of a map's load, from `off` on, in the driver's own frames.
 fn load_extents(
     holdings: &Holdings<'_>,
     alloc: Global,
@@ -273,7 +294,7 @@ fn load_extents(
     Ok(parts)
 }
 
-/// `len` bytes of a map's load, from `off` on, at their bus addresses.
+/// Reads `len` bytes of a map's load, from `off` on, at their bus addresses.
 fn read_load(
     map: &mut DmaMap<KeptLoad<'_>>,
     memory: &LanePages,
@@ -300,7 +321,7 @@ fn read_load(
     Ok(ByteList::new(bytes))
 }
 
-/// The bytes of extents, `len` of them.
+/// Reads the bytes of extents, which have `len` bytes.
 pub(crate) fn read_parts(
     memory: &LanePages,
     alloc: Global,
@@ -316,7 +337,7 @@ pub(crate) fn read_parts(
     Ok(ByteList::new(bytes))
 }
 
-/// Reads the bytes of extents, which have as many as `out`.
+/// Reads the bytes of extents, which have as many bytes as `out`.
 fn fill(memory: &LanePages, parts: &[Extent], out: &mut [u8])
     requires lie { Lie memory.now.memory parts.now }
     requires len { length (addresses parts.now) ≡ length out.old }
@@ -331,7 +352,7 @@ fn fill(memory: &LanePages, parts: &[Extent], out: &mut [u8])
     }
 }
 
-/// Writes bytes into extents, which have as many.
+/// Writes bytes to extents, which have as many.
 fn write_parts(memory: &mut LanePages, parts: &[Extent], bytes: &[u8])
     requires lie { Lie memory.old.memory parts.now }
     requires len { length (addresses parts.now) ≡ length bytes.now }
@@ -347,7 +368,7 @@ fn write_parts(memory: &mut LanePages, parts: &[Extent], bytes: &[u8])
     }
 }
 
-/// Writes bytes into a map's load at their bus addresses, from `off` on.
+/// Writes bytes to a map's load at their bus addresses, from `off` on.
 fn write_load(map: &mut DmaMap<KeptLoad<'_>>, memory: &mut LanePages, off: u64, bytes: &[u8])
     requires { IsReached memory.old.memory map.old.stage off (length bytes.now) }
     ensures view { device_view (device_in map.new.stage) memory.new.memory
@@ -361,7 +382,7 @@ fn write_load(map: &mut DmaMap<KeptLoad<'_>>, memory: &mut LanePages, off: u64, 
     map.restore_pages(PageList::from_vec(pages));
 }
 
-/// Makes room to change `len` bytes of a map's load, from `off` on.
+/// Makes room to change the loans of `len` bytes of a map's load, from `off` on.
 pub(crate) fn reserve_extents(
     loans: &mut LoanTable,
     alloc: Global,

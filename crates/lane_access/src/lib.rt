@@ -1,4 +1,4 @@
-//! Syncs of a driver at work, its accesses and those of its devices.
+//! The syncs and accesses of a driver at work, and the accesses of its devices.
 #![tactic(auto)]
 
 mod accesses;

@@ -1,4 +1,4 @@
-//! Accesses of an IOMMU tag's address space by the tag's device.
+//! Accesses of an IOMMU tag's address space by the tag's device, at any device addresses.
 
 ghost use Rattle.std.specs.Prelude.{◌≡◌, ◌+◌, ◌%◌, ◌<◌, ◌≤◌, ◌^◌, ℕ, None, true, is_some, length, option_map, IfOk, IfSome};
 ghost use Rattle.std.specs.Prelude.{OnErr};
@@ -36,7 +36,7 @@ enum RawAccess {
 }
 
 impl RawAccess {
-    /// The report of an address that no load has.
+    /// Returns the name of the report about an address that is in no load.
     fn unlent(self) -> ReportName
         ensures { result ≡ unlent_of self }
     {
@@ -47,8 +47,8 @@ impl RawAccess {
     }
 }
 
-/// Where device addresses from one on lie among the bytes of segments: at places from one on, or nowhere. `len` is how
-/// many of them do so.
+/// Where device addresses are among the bytes of segments. The first `len` addresses are at places in a row from
+/// `place` on, or at no place.
 #[derive(Clone, Copy)]
 struct Found {
     place: Option<u64>,
@@ -62,8 +62,8 @@ struct LoadPlace {
     at: u64,
 }
 
-/// Where device addresses from one on lie in the loads of a tag's maps: at places of one load from one on, or nowhere.
-/// `len` is how many of them do so.
+/// Where device addresses are in the loads of a tag's maps. The first `len` addresses are at places in a row of one
+/// load, from `place` on, or in no load.
 #[derive(Clone, Copy)]
 struct Lying {
     place: Option<LoadPlace>,
@@ -77,14 +77,14 @@ struct Beginning {
     page: u64,
 }
 
-/// The judgement of the first addresses of an access, and how many they are.
+/// The judgement of the first `len` addresses of an access.
 #[derive(Clone, Copy)]
 struct Part {
     judged: Judged,
     len: u64,
 }
 
-/// Where the device addresses from one on, `most` of them at the most, lie among the bytes of segments.
+/// Finds the device addresses from `addr` on, at most `most` of them, among the bytes of segments.
 fn find_in(segments: &[Segment], addr: u64, most: u64) -> Found
     requires some { 0 < most }
     requires total { segments_bytes segments.now < 2 ^ 64 }
@@ -111,8 +111,8 @@ fn find_in(segments: &[Segment], addr: u64, most: u64) -> Found
     Found { place: None, len }
 }
 
-/// The load of a map with these segments, if it begins in a page up to one, and later than the last load that does; else
-/// that one.
+/// Returns the load of a map with these segments if it begins at or before `page` and after the last load that does so.
+/// Otherwise returns that last load.
 fn later(last: Option<Beginning>, map: u32, segments: &[Segment], page: u64) -> Option<Beginning>
     ensures { result ≡ later page last map segments.now }
 {
@@ -131,7 +131,12 @@ fn later(last: Option<Beginning>, map: u32, segments: &[Segment], page: u64) -> 
     }
 }
 
-/// The device of an IOMMU tag reads `len` bytes of the tag's address space, from `addr` on.
+/// Has the device of an IOMMU tag read `len` bytes of the tag's address space, from device address `addr` on. Returns
+/// the bytes or the refusal.
+///
+/// # Errors
+///
+/// `AllocError` if memory runs out. The driver and its bytes are unchanged in any case.
 pub fn dev_read_at(
     holdings: &mut Holdings<'_>,
     alloc: Global,
@@ -161,7 +166,12 @@ pub fn dev_read_at(
     Ok(Answer::Bytes(read_parts(&holdings.memory, alloc, parts.as_slice(), len)?))
 }
 
-/// The device of an IOMMU tag writes bytes into the tag's address space, from `addr` on.
+/// Has the device of an IOMMU tag write bytes to the tag's address space, from device address `addr` on. Returns the
+/// answer.
+///
+/// # Errors
+///
+/// `AllocError` if memory runs out. The driver and its bytes are then unchanged.
 pub fn dev_write_at(
     holdings: &mut Holdings<'_>,
     alloc: Global,
@@ -192,7 +202,7 @@ pub fn dev_write_at(
     Ok(Answer::Done)
 }
 
-/// The first of `len` device addresses from `addr` on at which something stands in the way of an access.
+/// Judges an access of `len` device addresses from `addr` on, up to the first that is refused.
 fn judge_raw(holdings: &Holdings<'_>, access: RawAccess, tag: u32, addr: u64, len: u64) -> Judged
     requires wired { IsWired holdings.now }
     ensures { result ≡ judged (refusal_of access (ideal_of holdings.now) tag) 0 (run_of addr len) }
@@ -217,8 +227,8 @@ fn judge_raw(holdings: &Holdings<'_>, access: RawAccess, tag: u32, addr: u64, le
     Judged::Fine
 }
 
-/// The judgement of the first of the device addresses from one on, `most` of them at the most: of those in its page
-/// that lie together.
+/// Judges the first of the device addresses from `addr` on, at most `most` of them: those that are in the same page and
+/// lie together.
 fn judge_part(holdings: &Holdings<'_>, access: RawAccess, tag: u32, addr: u64, most: u64) -> Part
     requires wired { IsWired holdings.now }
     requires some { 0 < most }
@@ -250,7 +260,7 @@ fn judge_part(holdings: &Holdings<'_>, access: RawAccess, tag: u32, addr: u64, m
     }
 }
 
-/// The judgement of an access of `len` bytes of a load, from a place on, which must be lent.
+/// Judges an access of `len` bytes of a load, from a place on. Each byte must be lent for it.
 fn judge_lent(holdings: &Holdings<'_>, access: RawAccess, place: LoadPlace, len: u64) -> Judged
     requires there { HasMap holdings.now.loans place.map }
     requires range { place.at + len ≤ length (buffer_of holdings.now.loans place.map) }
@@ -264,9 +274,8 @@ fn judge_lent(holdings: &Holdings<'_>, access: RawAccess, place: LoadPlace, len:
     }
 }
 
-/// Where the device addresses from one on, `most` of them at the most and all of one page, lie in the loads of a
-/// tag's maps. The loads of a tag share no page, so only the one that begins last at or before the page may have
-/// them.
+/// Finds the device addresses from `addr` on, at most `most` of them and all in one page, in the loads of a tag's maps.
+/// The loads of a tag share no page, so only the load that begins last at or before the page can have them.
 fn find_raw(holdings: &Holdings<'_>, tag: u32, addr: u64, most: u64) -> Lying
     requires wired { IsWired holdings.now }
     requires some { 0 < most }
@@ -300,7 +309,7 @@ fn find_raw(holdings: &Holdings<'_>, tag: u32, addr: u64, most: u64) -> Lying
     }
 }
 
-/// The load of a tag's maps that begins last in the device pages up to one.
+/// Returns the load of a tag's maps that begins last among those that begin at or before this device page.
 fn last_up_to(holdings: &Holdings<'_>, tag: u32, page: u64) -> Option<Beginning>
     ensures { result ≡ last_of tag page None (entries holdings.now.maps.map) }
 {
@@ -313,7 +322,7 @@ fn last_up_to(holdings: &Holdings<'_>, tag: u32, page: u64) -> Option<Beginning>
     last
 }
 
-/// Where the byte at a device address of a tag lies, if the tag's device reaches it.
+/// Returns the physical address of a tag's device address, if the tag's device reaches it.
 fn translate(holdings: &Holdings<'_>, tag: u32, addr: u64) -> Option<Pa>
     ensures { option_map (λ (pa : Address). pa.0) result ≡ translated ((ideal_of holdings.now).spaces tag) addr }
 {
@@ -322,7 +331,7 @@ fn translate(holdings: &Holdings<'_>, tag: u32, addr: u64) -> Option<Pa>
     space.translate(addr)
 }
 
-/// The bytes at `len` device addresses from `addr` on, where they lie.
+/// Returns the extents of the bytes at `len` device addresses from `addr` on, in the driver's own frames.
 fn raw_extents(
     holdings: &Holdings<'_>,
     alloc: Global,

@@ -40,7 +40,11 @@ use map_sync::{copy_in, copy_out};
 use phys_memory::LanePages;
 use std::alloc::{AllocError, Global};
 
-/// A sync of the whole load of a map.
+/// Syncs all bytes of a map's load, and returns the answer. After `bus_dmamap_sync(9)`.
+///
+/// # Errors
+///
+/// `AllocError` if memory runs out. The driver and its bytes are then unchanged.
 pub fn sync(
     holdings: &mut Holdings<'_>,
     alloc: Global,
@@ -64,7 +68,12 @@ pub fn sync(
     sync_part(holdings, alloc, map, 0, len, ops)
 }
 
-/// A sync of `len` bytes of the load of a map, from `off` on.
+/// Syncs `len` bytes of a map's load, from `off` on, and returns the answer. This project's own rule;
+/// `bus_dmamap_sync(9)` has no range.
+///
+/// # Errors
+///
+/// `AllocError` if memory runs out. The driver and its bytes are then unchanged.
 pub fn sync_range(
     holdings: &mut Holdings<'_>,
     alloc: Global,
@@ -92,7 +101,7 @@ pub fn sync_range(
     sync_part(holdings, alloc, map, off, len, ops)
 }
 
-/// A sync of a range of a map that is loaded.
+/// Syncs a range of the load of a map that is loaded.
 fn sync_part(
     holdings: &mut Holdings<'_>,
     alloc: Global,
@@ -138,7 +147,7 @@ fn sync_part(
     Ok(Answer::Done)
 }
 
-/// A sync of a range of a map's buffer, before or after the device's work.
+/// Changes the loans of a range of a map's load as a sync asks, before or after the device's work.
 fn sync_loans(loans: &mut LoanTable, map: MapId, off: u64, len: u64, ops: SyncOps) -> Judged
     requires there { HasMap loans.old map.made_at }
     requires range { off + len ≤ length (buffer_of loans.old map.made_at) }
@@ -156,7 +165,7 @@ fn sync_loans(loans: &mut LoanTable, map: MapId, off: u64, len: u64, ops: SyncOp
     }
 }
 
-/// Copies a range of a map's load as a sync asks, and counts the sync where it copies a byte to or from a bounce page.
+/// Copies a range of a map's load as a sync asks, and counts the sync if it copies a byte to or from a bounce page.
 fn copy_part(
     map: &mut DmaMap<KeptLoad<'_>>,
     memory: &mut LanePages,
@@ -184,7 +193,7 @@ fn copy_part(
     }
 }
 
-/// Whether a sync of a range copies a byte of these bounced chunks.
+/// Returns whether a sync of this range copies a byte of these bounced chunks.
 fn copies(chunks: &[Chunk], off: u64, len: u64, ops: SyncOps) -> bool
     requires { off + len < 2 ^ 64 }
     ensures { result
@@ -194,7 +203,7 @@ fn copies(chunks: &[Chunk], off: u64, len: u64, ops: SyncOps) -> bool
         && any_has_byte(chunks, off, off + len)
 }
 
-/// Whether one of the chunks has a byte at a place of the load from `off` up to `end`.
+/// Returns whether one of the chunks has a byte at a place of the load from `off` up to `end`.
 fn any_has_byte(chunks: &[Chunk], off: u64, end: u64) -> bool
     ensures { result ≡ list_any (λ c. nat_lt (max off c.at) (min end (c.at + chunk_len c))) chunks.now }
 {
@@ -216,7 +225,7 @@ fn has_byte(chunk: &Chunk, off: u64, end: u64) -> bool
     off.max(chunk.at) < end.min(behind)
 }
 
-/// Copies a range of a map's load into its bounce pages or back from them.
+/// Copies a range of a map's load to its bounce pages or back from them.
 fn copy_load(
     map: &mut DmaMap<KeptLoad<'_>>,
     memory: &mut LanePages,
@@ -241,7 +250,7 @@ fn copy_load(
     map.restore_pages(PageList::from_vec(pages));
 }
 
-/// Counts a sync that copied in the share of its map's zone, up to the greatest number.
+/// Counts a sync that copied, for the zone of its map. The count stops at its type's greatest number.
 fn count_copy(shares: &mut Vec<KeptShare>, zone: Option<ZoneId>)
     requires { vec_len shares.old < vec_capacity shares.old }
     ensures { share_of shares.new.items
@@ -258,7 +267,7 @@ fn count_copy(shares: &mut Vec<KeptShare>, zone: Option<ZoneId>)
     }
 }
 
-/// The place of a zone's share, or behind all where it has none.
+/// Returns the index of a zone's share, or the number of shares if the zone has none.
 fn place_of(shares: &[KeptShare], zone: ZoneId) -> usize
     ensures { result ≡ place_in zone.0 shares.now }
 {

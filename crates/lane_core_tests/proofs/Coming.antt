@@ -81,7 +81,7 @@ comes-undone lane h g (inl same) =
     comes-none lane h g (ap (λ (d : Seen). d.opening) same) (ap (λ (d : Seen). d.history) same)
 comes-undone lane h g (inr f) = comes-none lane h g f.passes.opening (same-history h f.others (door g) f.passes)
 
--- a turn of a driver brings entries of its own alone
+-- a turn of a driver brings only entries of its own
 pub comes-turn : {E : Type 0} (lane : ℕ) (h g : HubSeen) (x : Asking Turned) (made : Turn → Turned) (r : Result Turn E)
     → IfOk r (λ t. IsTurned (door h) lane x (made t) (is_held t) (door g)) → OnErr r (IsUndone (door h) (door g))
     → Comes lane h g
@@ -95,7 +95,7 @@ number-turned d e id (Asks c k) y held same (inl called) =
     ap (λ (t : Turned). t.lane.id) called.1.is ∙ same called.1.reply
 number-turned d e id (Asks c k) y held same (inr missed) = ap (λ (t : Turned). t.lane.id) missed.1.is ∙ same Nothing
 
--- and the driver keeps its number
+-- a turn leaves the driver's number
 pub number-turn : {E : Type 0} (d e : Seen) (l m : LaneState) (s : Side) (made : Turn → Turned) (r : Result Turn E)
     → ((t : Turn) → (made t).lane ≡ m)
     → IfOk r (λ t. IsTurned d l.id (lane_step l s) (made t) (is_held t) e) → OnErr r (m ≡ l) → m.id ≡ l.id
@@ -267,7 +267,7 @@ module _ (lane other : ℕ) (h g : HubSeen) (apart : other ≢ lane) (came : Com
         record { others = came.entries; passes = passed m.others m.passes; reply = m.reply }
     taken caller as_reply (Some c) held = holds caller TakeCallback (as_reply c) held
 
--- the same, where the lane and the hub are known as what a door has seen
+-- the calls of a lane that is allowed at a door, if the lane and the hub are known by what the door has seen
 module _ (b : Beside) (lane other : ℕ) (h g : HubSeen) (is : record { lane = lane; hub = h } ≡ b)
     (apart : other ≢ lane) (came : Comes other h g) (l : LaneState) (served : IsServed l (door g)) where
   pub allows-at : (caller : ℕ) (c : HubCall) → Allows (seen b) caller c → Allows (door g) caller c

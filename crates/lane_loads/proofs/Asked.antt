@@ -1,4 +1,4 @@
--- The steps of a load, by what stands in its way and by what it needs.
+-- The steps of a load, by what refuses it and by what it needs.
 use Rattle.std.proofs.Common.{◌≡◌, ℕ, ◌≤◌, ◌<◌, ◌==◌, Bool, true, false, List, [], Option, Some, None, refl, sym, ap}
 use Rattle.std.proofs.Common.{◌∙◌, is_some, nat_lt, if◌then◌else◌, arith}
 use Rattle.std.proofs.lemmas.Bool.Decides.{nat_tests}
@@ -117,7 +117,7 @@ module _ (l : LaneState) (m : ℕ) (b : Bio) (nowait : Bool) (items : List Item)
               ∙ (λ i. Asks (Grab (named l m) (record { 0 = zone_of o }) (sym is i) nowait)
               (granted m o x (plain-chunks l m o b own i) l))
 
--- the load of a memory's own map wants no page
+-- the load of a memory's own map needs no page
 pub plain-wanted : (l : LaneState) (m : ℕ) (o : LaneMap) (b : Bio) (n : ℕ) → StandsAt l.maxmem l.tags l.mems m o →
     n ≡ need_of (map_chunks l m o b) → 0 < n → get l.mems m ≡ None
 plain-wanted l m o b n s is some = by (get l.mems m) refl
@@ -129,7 +129,7 @@ plain-wanted l m o b n s is some = by (get l.mems m) refl
         ap (λ c. need_of (chunks_for l o c (load_entries l b))) (ap is_some e) ∙ need-memory l o (load_entries l b) in
         absurd (omega (arith, none, is, some))
 
--- a load wants no more pages than it has bytes
+-- a load needs no more pages than it has bytes
 pub few-wanted : (l : LaneState) (m : ℕ) (o : LaneMap) (b : Bio) (n : ℕ) → n ≡ need_of (map_chunks l m o b) →
     n ≤ bio_bytes b
 few-wanted l m o b n is =

@@ -1,4 +1,4 @@
--- A load that waits, as the ideal driver sees it: the bytes that it names are reached whatever memories come and go.
+-- A load that waits, seen by the ideal driver. The bytes that it names are reached, whatever memories come and go.
 use Rattle.std.proofs.Common.{◌≡◌, ℕ, true, List, Option, Some, None, is_some, refl, sym, ap, ◌∙◌, subst}
 use Rattle.std.proofs.Common.{IfSome, unwrap_or}
 use Rattle.std.specs.List.{AllByRecursion}
@@ -85,7 +85,7 @@ limits-are h o =
     by None = refl
     by (Some t) = refl
 
--- a map that stands has a tag
+-- each map of a driver that `Stands` has a tag
 tagged : (h : Holdings) → Stands (ideal_of h) → (m : ℕ) (o : KeptMap) → get h.maps.map m ≡ Some o →
     is_some (limits_at h.tags.map o.tag) ≡ true
 tagged h stands m o there =
@@ -112,7 +112,7 @@ module _ (h : Holdings) (stands : Stands (ideal_of h)) (m : ℕ) (w : KeptLoad) 
   entered : AreInPages l.pages bio → page_entries l.pages bio ≡ load_entries l bio
   entered paged = pages-entries l bio (of-pages l bio paged)
 
-  -- it begins to wait with what is ready
+  -- a load begins to wait with what was prepared
   pub begins-waiting : get h.memories.map m ≡ None → AreInPages h.pages.now bio → IsLoadable h.pages.now bio →
       ((x : LaneMap) → get l.maps m ≡ Some x → HasRoomForAny (limits_of l x) (bio_chunks l x bio) w.need room) →
       get h.loans.prepared m ≡ Some (load_loan l m bio) →
@@ -128,7 +128,7 @@ module _ (h : Holdings) (stands : Stands (ideal_of h)) (m : ℕ) (w : KeptLoad) 
         (entries_addresses (sym (entered paged) i))));
   }
 
--- what the end of a load takes that waited
+-- what is needed to end a load that has waited
 pub record IsAwaited (h : Holdings) (m : ℕ) (w : KeptLoad) (room : LoadRoom) : Type 0 where
   pub own : get (ideal_of h).mems m ≡ None
   pub reached : bio_reached (ideal_of h) (bio_of w.bytes) ≡ Fine

@@ -1,4 +1,4 @@
--- How the load of a map ends that waited, from where its map is idle.
+-- How the load of a map that has waited ends, from the state in which the map is idle.
 use Rattle.std.proofs.Common.{◌≡◌, ℕ, ◌≤◌, Bool, true, false, cond, if◌then◌else◌, List, length, Some}
 use Rattle.std.proofs.Common.{refl, ap, ◌∙◌, arith, nat_le}
 use Rattle.std.specs.FinMap.{get, insert}
@@ -29,7 +29,7 @@ module _ (l : LaneState) (m : ℕ) (o : LaneMap) where
   abbrev pub free : LaneMap
   free = record o { stage = Idle }
 
-  -- its load ends as it does where the map is idle
+  -- the load ends in the same way if the map is idle
   pub finished-free : (at : ℕ) (x : Asked) (chunks : List Chunk) (pages : List ℕ) →
       finished m free at x chunks pages (record l { maps = insert l.maps m free }) ≡ finished m o at x chunks pages l
   finished-free at x chunks pages i =
@@ -50,7 +50,7 @@ module _ (l : LaneState) (m : ℕ) (o : LaneMap) where
         answer = Refused EFBIG;
       }
 
-  -- it keeps its script, and the send whose resend is due
+  -- the end of the load keeps the script, and the send whose resend is due
   pub finished-stays : (at : ℕ) (x : Asked) (chunks : List Chunk) (pages : List ℕ) →
       KeepsScript l (finished m o at x chunks pages l).lane
   finished-stays at x chunks pages =

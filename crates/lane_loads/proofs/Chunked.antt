@@ -46,7 +46,7 @@ stream-is : (rounded : Bool) (t : Translation) (spans : List Span) (j : Judged) 
 stream-is rounded t spans Fine e h = h
 stream-is rounded t spans (Refused r) e h = absurd (cc)
 
--- no byte of a load is refused, and so each is reached
+-- if a load is not refused, each of its bytes is reached
 first-fine : (a b : Judged) → earlier a b ≡ Fine → a ≡ Fine
 first-fine Fine b h = refl
 first-fine (Refused r) Fine h = absurd (cc)

@@ -98,7 +98,7 @@ module _ (m : ℕ) (o : LaneMap) (x : Asked) (l : LaneState) where
     entered-if true e p = run-entered l.spaces o.tag first frames e p
     entered-if false e p = refl
 
-    -- the load ends as that of its chunks does, but for its run
+    -- the load ends as a load of its chunks does, except for its run
     ends : (few : Bool) (lane : LaneState) (a : Answer) → are_few t (chunks first) ≡ few → lane.spaces ≡ l.spaces →
         finished m o l.place x (chunks first) [] l ≡ record { lane = lane; answer = a } →
         device_load m o x l
@@ -130,7 +130,7 @@ module _ (m : ℕ) (o : LaneMap) (x : Asked) (l : LaneState) where
     built : segmentation t (placed_pieces t (chunks first) (as_pages [])) ≡ segments
     built = ap (λ cs. segmentation t (chunk_pieces t cs)) unpaged-chunks
 
-    -- its segments are few enough
+    -- the segments of the load are few enough
     pub device-few : length segments ≤ t.nsegments →
         device_load m o x l ≡ record {
           lane = record (loaded m o l.place x [] segments [] l) { spaces = spaces };
@@ -151,7 +151,7 @@ module _ (m : ℕ) (o : LaneMap) (x : Asked) (l : LaneState) where
           answer = Segments (built i);
         }))
 
-    -- they are too many
+    -- the segments of the load are too many
     pub device-many : t.nsegments < length segments →
         device_load m o x l ≡ record { lane = staged m o Idle l; answer = Refused EFBIG }
     device-many many =

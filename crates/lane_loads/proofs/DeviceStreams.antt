@@ -23,7 +23,7 @@ use Rattle.ideal_lane.specs.Loads.{load_entries, load_translation}
 use Rattle.ideal_lane.specs.State.{LaneState}
 use Rattle.lane_state.specs.Loading.{bio_reached, load_stream}
 
--- behind the first extent of an entry are its others, and then those that follow
+-- after the first extent of an entry come its other extents, and then those of the next entries
 others-behind : (r : Bool) (es : List Extent) (ps : List Part) →
     others_of (extent_parts false r es ++ ps) ≡ es ++ others_of ps
 others-behind r [] ps = refl

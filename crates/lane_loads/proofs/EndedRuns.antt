@@ -1,4 +1,4 @@
--- The run of a load of an IOMMU tag's map is live, and what of a driver a call keeps that ends it.
+-- The run of a load of an IOMMU tag's map is live; and what a call that ends it leaves of a driver.
 use Rattle.std.proofs.Common.{◌≡◌, ◌⊎◌, ◌||◌, ◌==◌, ℕ, zero, suc, true, false, List, [], ◌∷◌, Option, Some, None}
 use Rattle.std.proofs.Common.{refl, sym, ap, ◌∙◌, ◌≤◌, Bool, IfSome, slice_get, is_some, length, unwrap_or, subst, arith}
 use Rattle.std.proofs.Props.{props}
@@ -34,7 +34,7 @@ or-true false b h = h
 live-prop : (s : Space) (first : ℕ) → IsProp (is_live s first ≡ true)
 live-prop s first = hlevel (props)
 
--- a run of a list begins there
+-- the run at an index of a list is live
 live-at : (rs : List DeviceRun) (i : ℕ) (r : DeviceRun) → slice_get rs i ≡ Some r →
     list_any (begins_at r.first) rs ≡ true
 live-at [] i r h = absurd (cc)
@@ -87,7 +87,7 @@ none-ends h k spaced = by (get h.tags.map k) refl
     by None found = refl
     by (Some t) found = spaced-at t t.space found refl
 
--- what an unload keeps behind the end of its run
+-- what an unload keeps after its run has ended
 module _ (h k n : Holdings) (rest : KeepsButTags h k) where
   pub held-behind : KeepsBytesHeld k n → KeepsBytesHeld h n
   held-behind kept = record {
@@ -102,7 +102,7 @@ module _ (h k n : Holdings) (rest : KeepsButTags h k) where
       let promised = ap (λ a. a.promised) rest.agenda in
       omega (arith, kept, due, promised)
 
--- the segments of a map that stands so
+-- the segments of a map in this state
 pub segments-are : (s : held.Stage KeptLoad) → segments_in (stage_of s) ≡ held.segments_of s
 segments-are held.idle = refl
 segments-are (held.waiting load_at callback room) = refl

@@ -1,4 +1,4 @@
--- The load of a map that waited ends: what its end is asked, and what it leaves.
+-- The load of a map that has waited ends: what its end requires, and what it leaves.
 use Rattle.std.proofs.Common.{◌≡◌, ℕ, ◌+◌, ◌≤◌, true, false, List, length, Some, None, refl, sym, ap}
 use Rattle.std.proofs.Common.{◌∙◌, subst, arith, is_some, slice_get, IfSome}
 use Rattle.std.specs.FinMap.{get, insert, contains_key}
@@ -73,7 +73,7 @@ module _ (h k : Holdings) (m at : ℕ) (callback : KeptLoad) (room : LoadRoom)
   pub ends-idle : is_idle_map (get k.maps.map m) ≡ true
   ends-idle = taken-idle h k m o kept.1 load (maps o kept.1) rest
 
-  -- so many pages are those that the load needs
+  -- there are as many pages as the load needs
   module _ (count : ℕ) (need : IfSome (kept_load (get h.maps.map m)) (λ x. count ≡ x.1.need)) where
     needed : count ≡ callback.need
     needed = subst (λ q. IfSome q (λ x. count ≡ x.1.need)) found need

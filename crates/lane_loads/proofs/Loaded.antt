@@ -45,7 +45,7 @@ module _ (maps : FinMap nat_cmp KeptMap) (loans : Loans) (returns : List QueuedP
       by : (b : Bool) → {x y : Bool} → x ≡ y → cond b (has_load (Some v)) x ≡ cond b (has_load (Some v)) y
       by b e = ap (cond b (has_load (Some v))) e
 
-  -- the loans stay, where the map is not loaded
+  -- the loans stay if the map is not loaded
   pub loans-stay : has_load (Some v) ≡ false →
       (q : ℕ) → contains_key loans q ≡ cond (q == k) (has_load (Some v)) (contains_key loans q)
   loans-stay not q = by (q == k) refl
@@ -55,7 +55,7 @@ module _ (maps : FinMap nat_cmp KeptMap) (loans : Loans) (returns : List QueuedP
           ∙ sym not
       by false e = refl
 
-  -- a loan more, where it is
+  -- there is one more loan if the map is loaded
   pub loans-more : (loan : Loan) → has_load (Some v) ≡ true →
       (q : ℕ) → contains_key (insert loans k loan) q ≡ cond (q == k) (has_load (Some v)) (contains_key loans q)
   loans-more loan on q =

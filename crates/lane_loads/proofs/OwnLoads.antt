@@ -131,14 +131,14 @@ module _ (t : TagLimits) (first len : ℕ) where
 
 module _ (l : LaneState) (m : ℕ) (o : LaneMap) (b : Bio) (x : LaneMemory) (found : get l.mems m ≡ Some x)
     (first : AreFirst l x b) (t : TagLimits) (limits : limits_of l o ≡ t) where
-  -- those of the load are those of the run
+  -- the chunks of the load are the chunks of the memory's run
   pub own-chunks : map_chunks l m o b ≡ run_chunks t x.first (bio_bytes b)
   own-chunks =
       ap (λ q. chunks_for l o (is_some q) (load_entries l b)) found
       ∙ ap (λ pas. chunks_of (record (limits_of l o) { alignment = 1 }) 0 (with_entry true pas [])) first.run
       ∙ ap (λ (u : TagLimits). run_chunks u x.first (bio_bytes b)) limits
 
-  -- it asks no page, and room for as many segments as the run has pieces
+  -- the load needs no page, and room for as many segments as the run has pieces
   pub own-wanted : bio_bytes b ≤ t.maxsize → (room : ℕ) →
       min (length (run_pieces t x.first (bio_bytes b))) t.nsegments ≤ room →
       IsWanted (limits_of l o) (map_chunks l m o b) (bio_bytes b) 0 room
@@ -154,7 +154,7 @@ module _ (l : LaneState) (m : ℕ) (o : LaneMap) (b : Bio) (x : LaneMemory) (fou
             subst (λ ps. min (length ps) t.nsegments ≤ room) (sym (run-pieces t x.first (bio_bytes b) pages)) enough;
       }
 
-  -- what is asked of its room
+  -- what is required of the load's room
   pub own-room : (n : ℕ) (room : LoadRoom) → HasRoomForAny (limits_of l o) (map_chunks l m o b) n room →
       HasRoomFor t (run_chunks t x.first (bio_bytes b)) [] room
   own-room n room has =
@@ -164,7 +164,7 @@ module _ (l : LaneState) (m : ℕ) (o : LaneMap) (b : Bio) (x : LaneMemory) (fou
       let need = mine.need in
       mine.any [] tt (sym none ∙ sym need)
 
-  -- so there are no pages
+  -- the load of a memory's own map has no pages
   pub own-pages : (pages : List FrameBytes) (room : LoadRoom) →
       HasRoomForAny (limits_of l o) (map_chunks l m o b) (length pages) room → pages ≡ []
   own-pages pages room has =

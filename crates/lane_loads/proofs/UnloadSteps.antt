@@ -45,13 +45,13 @@ pages-are (held.loaded bounced segments pages) p h =
 pages-are (held.lent bounced segments frames) p h = absurd (cc)
 pages-are held.returning p h = absurd (cc)
 
--- where a map stands that gave its pages away
+-- the stage of a map that gave its pages away
 pub left-is : (pages : List FrameBytes) →
     stage_of (held.left_by pages) ≡ emptied (page_addresses pages)
 left-is [] = refl
 left-is (p ∷ pages) = refl
 
--- its zone, or 0
+-- the zone of a map, or 0
 pub zone-is : (zone : Option ZoneId) →
     (unwrap_or zone (record { 0 = 0 })).0 ≡ unwrap_or (option_map (λ (z : ZoneId). z.0) zone) 0
 zone-is None = refl

@@ -1,4 +1,4 @@
-//! Loads of maps of IOMMU tags, whose devices find the bytes through an address space of their own.
+//! Loads of maps of IOMMU tags. Their devices find the bytes through an address space of their own.
 
 ghost use Rattle.std.specs.Prelude.{◌≡◌, ◌+◌, ◌<◌, ◌≤◌, ◌^◌, [], true, false, length, Some, IfNone, IfOk, IfSome};
 ghost use Rattle.std.specs.Prelude.{OnErr, OnOk};
@@ -29,7 +29,7 @@ use lane_state::{Holdings, LoadBytes};
 use load_bio::BioParts;
 use std::alloc::{AllocError, Global};
 
-/// The frames that the parts of a load touch, one for each extent, in order.
+/// Returns the frame of each extent of a load's parts, in order.
 fn frames_of_parts(alloc: Global, parts: BioParts<'_>) -> Result<Vec<u64>, AllocError>
     requires { IsStream parts }
     ensures frames { IfOk result (λ frames. frames.items ≡ stream_frames parts.entry) }
@@ -38,7 +38,7 @@ fn frames_of_parts(alloc: Global, parts: BioParts<'_>) -> Result<Vec<u64>, Alloc
     frames_of(alloc, parts)
 }
 
-/// The number of pieces of the parts of a load in the device pages from one on, without memory.
+/// Returns how many pieces the parts of a load have in the device pages from `first` on. Takes no memory.
 fn measure_in_pages(tag: &Tag, first: u64, parts: BioParts<'_>) -> u64
     requires { IsInDevicePages first parts }
     ensures { result ≡ length (device_pieces tag.now first parts.entry) }
@@ -46,8 +46,8 @@ fn measure_in_pages(tag: &Tag, first: u64, parts: BioParts<'_>) -> u64
     measure_device(tag, first, parts)
 }
 
-/// Builds the segments of the parts of a load in the device pages from one on into an empty list that has room for
-/// them, and answers whether they are few enough.
+/// Builds the segments of a load's parts in the device pages from `first` on, in an empty list that has room for them.
+/// Returns whether they are few enough for the tag.
 fn build_in_pages(tag: &Tag, first: u64, parts: BioParts<'_>, list: &mut SegmentRoom) -> bool
     requires empty { list.old.items ≡ [] }
     requires room { HasDeviceRoom tag.now first list.old.spare parts }
@@ -58,8 +58,10 @@ fn build_in_pages(tag: &Tag, first: u64, parts: BioParts<'_>, list: &mut Segment
     build_device(tag, first, parts, list)
 }
 
-/// Loads an idle map of an IOMMU tag: its frames stand in the first free run of device pages. It takes the run last,
-/// when it has all other memory and its segments are known to be few enough.
+/// Loads an idle map of an IOMMU tag. The load's frames get the first free run of device pages.
+///
+/// The run is taken last, when all other memory is taken and the segments are known to be few enough. So a refused load
+/// leaves no run.
 pub(crate) fn load_device(
     holdings: &mut Holdings<'_>,
     alloc: Global,
@@ -98,7 +100,7 @@ pub(crate) fn load_device(
     keep_segments(holdings, alloc, map, bytes, &frames, segments, items)
 }
 
-/// The place in the script that made a map's tag, or 0 where there is no map.
+/// Returns the place in the script that made a map's tag, or 0 if there is no such map.
 fn tag_of(holdings: &Holdings<'_>, map: u32) -> u32
     ensures { (o : LaneMap) → get (ideal_of holdings.now).maps map ≡ Some o → result ≡ o.tag }
 {
@@ -108,8 +110,8 @@ fn tag_of(holdings: &Holdings<'_>, map: u32) -> u32
     }
 }
 
-/// The first device page of a load with a tag that touches these frames, or None where no run is free for them. It
-/// is 0 where they are none.
+/// Returns the first device page of a load with this tag that touches these frames, and 0 if there are no frames.
+/// Returns `None` if no run is free for them.
 fn first_page(holdings: &Holdings<'_>, tag: u32, frames: &[u64]) -> Option<u64>
     ensures is { result ≡ page_for ((ideal_of holdings.now).spaces tag) (length frames.now) }
     ensures reached { IfSome result (λ first. first + length frames.now ≤ 2 ^ 52) }
@@ -121,8 +123,8 @@ fn first_page(holdings: &Holdings<'_>, tag: u32, frames: &[u64]) -> Option<u64>
     space.first_free(frames.len() as u64)
 }
 
-/// The segments of the bytes of a load with a tag in the device pages from one on, or None where they are more than
-/// the tag allows.
+/// Builds the segments of a load's bytes in the device pages from `first` on. Returns `None` if they are more than the
+/// tag allows.
 fn segments_from(
     holdings: &Holdings<'_>,
     alloc: Global,
@@ -150,7 +152,7 @@ fn segments_from(
     Ok(Some(list.into_list()))
 }
 
-/// Loads an idle map with these segments of its bytes, which touch these frames, and takes the run of the frames.
+/// Loads an idle map with these segments of its bytes, and takes the run of device pages for these frames.
 fn keep_segments(
     holdings: &mut Holdings<'_>,
     alloc: Global,
@@ -197,7 +199,7 @@ fn keep_segments(
     Ok(Answer::Segments(shown))
 }
 
-/// Takes the first free run of a tag's device pages for these frames, or none where they are none.
+/// Takes the first free run of a tag's device pages for these frames. Takes no run if there are no frames.
 fn enter_run(
     holdings: &mut Holdings<'_>,
     alloc: Global,

@@ -1,4 +1,4 @@
-//! The ends of loads that waited.
+//! How loads end that have waited for their pages.
 
 ghost use Rattle.std.specs.Prelude.{◌≡◌, ◌≤◌, IfSome, true, length, Some};
 ghost use Rattle.std.specs.FinMap.{get, insert};
@@ -19,7 +19,11 @@ use busdma_base::{Answer, PageList};
 use dma_map::LoadRoom;
 use lane_state::{Holdings, KeptLoad};
 
-/// Ends the load of a map that waits, with its pages.
+/// Ends the load of a map that waits, which now has its pages, and returns the callback's answer.
+///
+/// The load succeeds, or it is refused with `EFBIG` if its segments are too many, and then its pages join the return
+/// queue. Takes no memory, because the load took all that it needs before it waited. After the deferred callback of
+/// `bus_dmamap_load(9)`.
 pub fn end_wait(holdings: &mut Holdings<'_>, map: u32, pages: PageList) -> Answer
     requires stands { Stands (ideal_of holdings.old) }
     requires small { HasSmallLoads holdings.old }
@@ -42,7 +46,7 @@ pub fn end_wait(holdings: &mut Holdings<'_>, map: u32, pages: PageList) -> Answe
     complete_load(holdings, map, load_at, bytes, room, pages, items)
 }
 
-/// Takes the load of a map that waits out of it, and leaves the map idle.
+/// Takes the waiting load out of its map, and leaves the map idle. Returns `None` if no load waits there.
 fn take_load<'s>(holdings: &mut Holdings<'s>, map: u32) -> Option<(u32, KeptLoad<'s>, LoadRoom)>
     requires { is_waiting (get (ideal_of holdings.old).maps map) ≡ true }
     ensures load { result ≡ kept_load (get holdings.old.maps.map map) }

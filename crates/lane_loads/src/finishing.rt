@@ -30,7 +30,7 @@ pub(crate) fn note_tried(holdings: &mut Holdings<'_>, map: u32)
     }
 }
 
-/// Keeps what the load of an idle map has ended with, and opens the loan that is prepared for the map.
+/// Keeps the result of the load in its idle map, and opens the loan that is prepared for the map.
 pub(crate) fn store_load(
     holdings: &mut Holdings<'_>,
     map: u32,

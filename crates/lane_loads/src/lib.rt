@@ -1,4 +1,4 @@
-//! Loads of a driver at work: with and without bounce pages, waiting, behind an IOMMU, and their ends.
+//! Loads of a driver at work: with and without bounce pages, waiting, behind an IOMMU, and how they end.
 #![tactic(auto)]
 
 mod device_loads;

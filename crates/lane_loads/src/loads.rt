@@ -1,4 +1,4 @@
-//! Loading.
+//! Loading a map.
 
 ghost use Rattle.std.specs.Prelude.{◌≡◌, ◌+◌, ◌<◌, ◌≤◌, ◌^◌, [], true, false, length, Some, None};
 ghost use Rattle.std.specs.Prelude.{IfNone, IfOk, IfSome, OnErr, OnOk, slice_get};
@@ -41,14 +41,14 @@ use memory_load::{build_memory, memory_pieces};
 use segment_build::Measured;
 use std::alloc::{AllocError, Global};
 
-/// What a load asks: so many bounce pages, and room for so many segments.
+/// What a load needs: this many bounce pages, and room for this many segments.
 #[derive(Clone, Copy, Debug, PartialEq, Eq)]
 struct Wanted {
     need: u32,
     segments: u64,
 }
 
-/// Takes the room of a load, its lists empty.
+/// Takes the room of a load. All its lists are empty.
 fn take_room(alloc: Global, wanted: Wanted) -> Result<LoadRoom, AllocError>
     ensures list { IfOk result (λ r. r.list.items ≡ []) }
     ensures shown { IfOk result (λ r. r.shown.items ≡ []) }
@@ -67,9 +67,16 @@ fn take_room(alloc: Global, wanted: Wanted) -> Result<LoadRoom, AllocError>
     })
 }
 
-/// Loads a map. Where nothing refuses the load before, and a byte bounces, it makes one call at the door: it takes
-/// all memory of its own before the call, and changes the ideal driver after it. No other load makes a call, and
-/// so none of a memory's own map does.
+/// Loads a map with these bytes, and returns the load's answer. After `bus_dmamap_load(9)`.
+///
+/// `map` is the place in the script that made the map or its memory. A load whose bytes bounce makes one call at the
+/// door, for its bounce pages, unless it is refused before. No other load makes a call; in particular, the load of a
+/// memory's own map never does. The callback's items join the transfer queue when the load succeeds.
+///
+/// # Errors
+///
+/// `AllocError` if memory runs out, here or at the door. The driver and its bytes are then unchanged, and the load's
+/// call is not in the door's history.
 pub fn load<'s, D: HubDoor>(
     holdings: &mut Holdings<'s>,
     alloc: Global,
@@ -144,8 +151,8 @@ pub fn load<'s, D: HubDoor>(
     Ok(Answered { answer, held: true })
 }
 
-/// What the load of a map asks, or None where it is longer than the tag allows. That of a memory's own map asks no
-/// bounce page.
+/// Returns what the load of a map needs, or `None` if it is longer than the tag allows. The load of a memory's own map
+/// needs no bounce page.
 fn measure_load(holdings: &Holdings<'_>, map: u32, bytes: LoadBytes<'_>) -> Option<Wanted>
     requires stands { Stands (ideal_of holdings.now) }
     requires idle { is_idle_map (get holdings.now.maps.map map) ≡ true }
@@ -181,7 +188,7 @@ fn measure_load(holdings: &Holdings<'_>, map: u32, bytes: LoadBytes<'_>) -> Opti
     Some(Wanted { need, segments })
 }
 
-/// Prepares the loan of a map over the bytes of its load.
+/// Prepares the loan of a map for the bytes of its load.
 pub(crate) fn prepare_load(
     holdings: &mut Holdings<'_>,
     alloc: Global,
@@ -207,7 +214,7 @@ pub(crate) fn prepare_load(
     holdings.loans.prepare_map(alloc, id, &extents, coherent)
 }
 
-/// Whether a map is that of a coherent memory.
+/// Returns whether a map is a coherent memory's own map.
 fn is_coherent(holdings: &Holdings<'_>, map: u32) -> bool
     ensures { result ≡ is_coherent (get (ideal_of holdings.now).mems map) }
 {
@@ -217,7 +224,7 @@ fn is_coherent(holdings: &Holdings<'_>, map: u32) -> bool
     }
 }
 
-/// Builds the load of a map in these pages into its room, and answers whether the segments are few enough.
+/// Builds the load of a map in these pages into its room, and returns whether the segments are few enough for the tag.
 fn build_load(
     holdings: &Holdings<'_>,
     map: u32,
@@ -263,8 +270,8 @@ fn build_load(
     build_parts(&made.tag, holdings.maxmem, holdings.parts(bytes), room)
 }
 
-/// Ends the load of an idle map that has its pages: with its segments, or with EFBIG, and then the pages join the
-/// return queue.
+/// Ends the load of an idle map that has its pages: with its segments, or with `EFBIG`. After `EFBIG` the pages join
+/// the return queue.
 pub(crate) fn complete_load(
     holdings: &mut Holdings<'_>,
     map: u32,
@@ -316,7 +323,7 @@ pub(crate) fn complete_load(
     Answer::Segments(shown.into_list())
 }
 
-/// Loads an idle map with bytes of which none is bounced.
+/// Loads an idle map with bytes none of which bounces.
 fn load_direct(
     holdings: &mut Holdings<'_>,
     alloc: Global,
@@ -400,6 +407,7 @@ fn load_bounced<'s, D: HubDoor>(
     ensures fixed { D.fixed door.new ≡ D.fixed door.old }
     ensures spare { holdings.old.loans.spare ≤ holdings.new.loans.spare }
 {
+    // All memory is taken before the call, so the load cannot fail once pages are granted.
     let room = take_room(alloc, wanted)?;
     let items = items.clone()?;
     let zone = zone_of(holdings, map);
@@ -415,7 +423,7 @@ fn load_bounced<'s, D: HubDoor>(
     Ok(take_grabbed(holdings, map, bytes, wanted.need, room, items, got))
 }
 
-/// The zone of an idle map's bounce pages, or zone 0 where it has none.
+/// Returns the zone of an idle map's bounce pages, or zone 0 if it has none.
 fn zone_of(holdings: &Holdings<'_>, map: u32) -> ZoneId
     requires { is_idle_map (get holdings.now.maps.map map) ≡ true }
     ensures { (o : LaneMap) → get (ideal_of holdings.now).maps map ≡ Some o → result.0 ≡ zone_of o }

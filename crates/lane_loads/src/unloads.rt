@@ -1,4 +1,4 @@
-//! Unloading.
+//! Unloading a map.
 
 ghost use Rattle.std.specs.Prelude.{◌≡◌, ◌≤◌, ◌++◌, [], IfNone, IfSome, Some, length, true};
 ghost use Rattle.std.specs.FinMap.{get};
@@ -21,7 +21,7 @@ use busdma_base::{Answer, ReportName, Segment, ZoneId};
 use dma_map::MapState;
 use lane_state::{Holdings, report};
 
-/// The first device page of a load of these segments. A load of no byte has none.
+/// Returns the first device page of a load of these segments, or `None` if the load has no bytes.
 fn first_page(segments: &[Segment]) -> Option<u64>
     ensures some { IfSome result (λ p. p ≡ first_of segments.now) }
     ensures long { IfSome result (λ p. 1 ≤ length segments.now) }
@@ -33,7 +33,8 @@ fn first_page(segments: &[Segment]) -> Option<u64>
     Some(segments[0].addr.0 / 4096)
 }
 
-/// Unloads a map. Its pages join the return queue.
+/// Unloads a map, and returns the answer: done, `Absent` or `NotLoaded`. Its pages join the return queue with the bytes
+/// that they hold. After `bus_dmamap_unload(9)`.
 pub fn unload(holdings: &mut Holdings<'_>, map: u32) -> Answer
     requires spaced { AreSpaced (ideal_of holdings.old) }
     requires mapped { ∥ AreMapped (ideal_of holdings.old) ∥₁ }
@@ -59,7 +60,7 @@ pub fn unload(holdings: &mut Holdings<'_>, map: u32) -> Answer
     Answer::Done
 }
 
-/// Ends the run of device pages in which the load of a map stands, where it stands in one.
+/// Ends the run of device pages of a map's load, if it has one.
 fn end_run(holdings: &mut Holdings<'_>, map: u32)
     requires loaded { has_load (get holdings.old.maps.map map) ≡ true }
     requires spaced { AreSpaced (ideal_of holdings.old) }
@@ -78,7 +79,7 @@ fn end_run(holdings: &mut Holdings<'_>, map: u32)
     leave_run(holdings, tag, first);
 }
 
-/// Ends the run of an IOMMU tag that begins at a device page.
+/// Ends the run of an IOMMU tag that begins at this device page.
 fn leave_run(holdings: &mut Holdings<'_>, tag: u32, first: u64)
     requires { (t : KeptTag) → get holdings.old.tags.map tag ≡ Some t → IfSome t.space (λ s. is_live s first ≡ true) }
     ensures done { ideal_of holdings.new ≡ record (ideal_of holdings.old) {

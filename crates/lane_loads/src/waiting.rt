@@ -1,4 +1,4 @@
-//! Loads that need bounce pages: what is made ready before their wish for pages, and how they go on after it.
+//! Loads that need bounce pages: what is prepared before the call for the pages, and how they continue after it.
 
 ghost use Rattle.std.specs.Prelude.{◌≡◌, ◌+◌, ◌-◌, ◌<◌, ◌≤◌, ◌^◌, true, length, Some, None};
 ghost use Rattle.std.specs.Prelude.{OnErr, OnOk};
@@ -25,7 +25,7 @@ use dma_map::LoadRoom;
 use lane_state::{Holdings, KeptLoad, LoadBytes};
 use std::alloc::{AllocError, Global};
 
-/// Promises the pages of a load a place in the return queue, and prepares its loan.
+/// Promises the load's pages a place in the return queue, and prepares the load's loan.
 pub(crate) fn ready_load(
     holdings: &mut Holdings<'_>,
     alloc: Global,
@@ -58,7 +58,7 @@ pub(crate) fn ready_load(
     ready
 }
 
-/// Takes back what was made ready for the load of an idle map.
+/// Takes back what was prepared for the load of an idle map.
 pub(crate) fn undo_load(holdings: &mut Holdings<'_>, map: u32, need: u32)
     requires idle { is_idle_map (get holdings.old.maps.map map) ≡ true }
     requires promised { pages_due holdings.old.maps.map + need ≤ holdings.old.agenda.promised }
@@ -74,7 +74,7 @@ pub(crate) fn undo_load(holdings: &mut Holdings<'_>, map: u32, need: u32)
     holdings.agenda.unpromise(need);
 }
 
-/// Has the load of an idle map wait for its pages.
+/// Makes an idle map wait for the pages of its load.
 pub(crate) fn wait_load<'s>(
     holdings: &mut Holdings<'s>,
     map: u32,
@@ -100,7 +100,7 @@ pub(crate) fn wait_load<'s>(
     }
 }
 
-/// Goes on with the load of an idle map by what its wish for pages got.
+/// Continues the load of an idle map by what its call for pages got: pages, a place among the waiting, or a refusal.
 pub(crate) fn take_grabbed<'s>(
     holdings: &mut Holdings<'s>,
     map: u32,

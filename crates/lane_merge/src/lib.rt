@@ -1,4 +1,4 @@
-//! How the journals of drivers that shared one history of the bounce lock become one.
+//! How the logs of drivers that shared one history of the bounce lock become one journal.
 #![tactic(auto)]
 
 mod merging;

@@ -1,4 +1,4 @@
-//! The logs of drivers, and the one journal that they and the history are merged to.
+//! The logs of drivers, and the one journal to which they and the history are merged.
 
 ghost use Rattle.std.specs.Prelude.{◌≡◌, ◌++◌, ◌<◌, All, IfOk, OnOk, length, map};
 ghost use Rattle.ideal_runs.specs.Merged.{all_entries, entries_of, logged_entry, merged, past_hold, through_hold};
@@ -11,10 +11,15 @@ use std::collections::VecDeque;
 /// The log of a driver: its steps, in order.
 pub type LaneLog = VecDeque<LoggedStep>;
 
-/// Merges the logs of drivers, which stand in the order of the drivers' numbers, by the history of
-/// the bounce lock that they shared: for each hold the next steps of its driver up to the one that
-/// held, or all that are left where none held, and at the end the rest, driver by driver. An error
-/// is that memory ran out.
+/// Merges the logs of drivers to the entries of one journal, by the history of the bounce lock that the drivers shared.
+///
+/// `logs` is in the order of the drivers' numbers. For each hold, the next steps of its driver come, up to and
+/// including the one that held, or all that are left if no step held. After the last hold come the remaining steps,
+/// driver by driver.
+///
+/// # Errors
+///
+/// `AllocError` if memory runs out. The history and the logs are unchanged in any case.
 pub fn merge(
     alloc: Global,
     holds: &[HoldEntry],
@@ -27,7 +32,11 @@ pub fn merge(
     merge_owned(alloc, holds, own)
 }
 
-/// The same of logs that are not needed any more: their entries are moved and not cloned.
+/// Merges logs that are not needed any more, with the same result as [`merge`]. The entries are moved and not cloned.
+///
+/// # Errors
+///
+/// `AllocError` if memory runs out. The logs are dropped in any case.
 pub fn merge_owned(
     alloc: Global,
     holds: &[HoldEntry],
@@ -44,7 +53,7 @@ pub fn merge_owned(
     Ok(entries)
 }
 
-/// Moves a log's steps up to the first that held, with that one, to the end of a journal.
+/// Moves the steps of a log, up to and including the first that held, to the end of a journal.
 fn take_through_hold(log: &mut LaneLog, entries: &mut Vec<JournalEntry>) -> Result<(), AllocError>
     ensures entries { OnOk result (entries.new.items ≡ entries.old.items ++ through_hold log.old.items) }
     ensures log { OnOk result (log.new.items ≡ past_hold log.old.items) }
@@ -61,7 +70,7 @@ fn take_through_hold(log: &mut LaneLog, entries: &mut Vec<JournalEntry>) -> Resu
     Ok(())
 }
 
-/// Adds the steps of all logs to the end of a journal.
+/// Appends the steps of all logs to a journal.
 fn take_all(logs: Vec<LaneLog>, entries: &mut Vec<JournalEntry>) -> Result<(), AllocError>
     ensures { OnOk result (entries.new.items ≡ entries.old.items ++ all_entries (map (λ l. l.items) logs.items)) }
 {
@@ -71,7 +80,7 @@ fn take_all(logs: Vec<LaneLog>, entries: &mut Vec<JournalEntry>) -> Result<(), A
     Ok(())
 }
 
-/// Adds a log's steps to the end of a journal.
+/// Appends the steps of a log to a journal.
 fn take_log(log: LaneLog, entries: &mut Vec<JournalEntry>) -> Result<(), AllocError>
     ensures { OnOk result (entries.new.items ≡ entries.old.items ++ entries_of log.items) }
 {
@@ -81,7 +90,7 @@ fn take_log(log: LaneLog, entries: &mut Vec<JournalEntry>) -> Result<(), AllocEr
     Ok(())
 }
 
-/// The entry of a step.
+/// Returns the journal's entry of a step.
 fn entry_of(step: LoggedStep) -> JournalEntry
     ensures { result ≡ logged_entry step }
 {

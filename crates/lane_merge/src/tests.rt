@@ -1,4 +1,4 @@
-//! Two drivers over one history of the bounce lock; the journals are worked out by hand.
+//! Two drivers with one history of the bounce lock. The journals are worked out by hand.
 
 ghost use Rattle.std.specs.Prelude.{◌≡◌, IfOk, length};
 
@@ -11,7 +11,7 @@ use std::alloc::{AllocError, Global};
 use std::collections::VecDeque;
 use std::test::Fail;
 
-/// A hold of a driver.
+/// Returns a hold of a driver.
 fn hold(lane: u32) -> HoldEntry
     ensures { result.lane.0 ≡ lane }
 {
@@ -26,7 +26,7 @@ fn hold(lane: u32) -> HoldEntry
     }
 }
 
-/// The entry of a driver's operation at a place of its script.
+/// Returns the entry of a driver's operation at a place of its script.
 fn entry(lane: u32, place: u32) -> JournalEntry {
     JournalEntry {
         actor: Actor {
@@ -38,7 +38,7 @@ fn entry(lane: u32, place: u32) -> JournalEntry {
     }
 }
 
-/// The log of a driver whose operations at these places were done, each with whether it held.
+/// Returns the log of a driver whose operations at these places were done, each with whether it held.
 fn log(alloc: Global, lane: u32, steps: &[(u32, bool)]) -> Result<LaneLog, AllocError> {
     let mut log = VecDeque::new(alloc);
     for (place, held) in steps {
@@ -52,7 +52,7 @@ fn log(alloc: Global, lane: u32, steps: &[(u32, bool)]) -> Result<LaneLog, Alloc
     Ok(log)
 }
 
-/// The steps of driver 0 hold at its places 1 and 4, and that of driver 1 at its place 2.
+/// Returns two logs: the steps of driver 0 at its places 1 and 4 held, and so did the step of driver 1 at its place 2.
 fn logs(alloc: Global) -> Result<Vec<LaneLog>, AllocError>
     ensures { IfOk result (λ v. length v.items ≡ 2) }
 {
@@ -69,7 +69,7 @@ fn logs(alloc: Global) -> Result<Vec<LaneLog>, AllocError>
     Ok(logs)
 }
 
-/// The driver and the place of each entry.
+/// Returns the driver and the place of each entry.
 fn steps(alloc: Global, entries: &[JournalEntry]) -> Result<Vec<(u32, Did)>, AllocError> {
     let mut steps = Vec::new(alloc);
     for entry in entries {

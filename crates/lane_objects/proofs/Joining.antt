@@ -48,7 +48,7 @@ module _ (h : Holdings) (wired : IsWired h) (first n : ℕ) (new : IsNewRun (ide
       let number : 4096 * f / 4096 ≡ f = omega arith in
       ap (has_frame h.memory.memory) (sym number) ∙ own-frame h wired (4096 * f) ∙ new.fresh (4096 * f) inside
 
-  -- nor any of their bytes
+  -- none of the bytes of the frames is there
   pub marks-new : AreNew h.loans.bytes (run_of first (4096 * n))
   marks-new =
       new_run h.loans.bytes first (4096 * n) (λ a lo hi. none (get h.loans.bytes a)
@@ -62,7 +62,7 @@ module _ (h : Holdings) (wired : IsWired h) (first n : ℕ) (new : IsNewRun (ide
   run-low = let low = wired.machine.numbered in let below = new.below in omega arith
 
   module _ (len : ℕ) (m : Memory) (comes : Comes h.memory.memory m first n len) where
-    -- ---- what holds together
+    -- ---- what holds of the driver's parts
 
     pub joined-framed : HasFramesOf h.pages.now m
     joined-framed f own =
@@ -127,7 +127,7 @@ module _ (h : Holdings) (wired : IsWired h) (first n : ℕ) (new : IsNewRun (ide
             by true e = absurd (false≢true (sym (new.fresh a e) ∙ before))
             by false e = others a e
 
-        -- those that come and are Known stand there
+        -- bytes that come and are Known have their values in the frames
         pub joined-known : (a v : ℕ) → l.memory a ≡ None → joined (in_run first n) content l.memory a ≡ Some (Known v) →
             wire m a ≡ v
         joined-known a v none is = by (in_run first n a) refl is
@@ -144,7 +144,7 @@ module _ (h : Holdings) (wired : IsWired h) (first n : ℕ) (new : IsNewRun (ide
             by true e g = let t = told zero g in zeros t.0 a e ∙ t.1
             by false e g = absurd (gone (sym none ∙ g))
 
-    -- ---- where the memory stands
+    -- ---- the frames of the memory
 
     module _ (place : ℕ) (kept : KeptMemory) (vacant : get h.memories.map place ≡ None) (at : kept.first.0 ≡ first)
         (count : kept.count ≡ n) (long : kept.memory.len ≡ len) where

@@ -1,4 +1,4 @@
--- The memories of a driver, as one comes or goes.
+-- The memories of a driver when one comes or goes.
 use Rattle.std.proofs.Common.{◌≡◌, ◌≢◌, ◌⊎◌, inl, inr, ℕ, ◌+◌, ◌<◌, ◌≤◌, ◌==◌, ◌||◌, Bool, true, false, cond}
 use Rattle.std.proofs.Common.{Option, Some, None, is_some, refl, sym, ap, ◌∙◌, arith}
 use Rattle.std.specs.List.{list_any}
@@ -14,7 +14,7 @@ use Rattle.ideal_wire.proofs.Lent.{any_entry}
 use Rattle.ideal_wire.proofs.SyncedPositions.{decided}
 use Rattle.lane_state.proofs.Changing.{none-pass}
 
--- a byte of a memory lies where those of pages end, or above
+-- a byte of a memory is at the end of the pages or above
 pub byte-high : (first len va : ℕ) → is_byte first len va ≡ true → pages_end ≤ va
 byte-high first len va h = grind (arith, nat_tests)
 
@@ -37,7 +37,7 @@ any-there test m k x there passes = by (list_any test (entries m)) refl
     by true e = refl
     by false e = sym (none-pass test (entries m) k x e (sym (get-entries m k) ∙ there)) ∙ passes
 
--- what is put is there, and what was there is
+-- what is put is there, and so is what was there before
 pub put-here : {X : Type 0} (m : FinMap nat_cmp X) (k : ℕ) (x : X) → get (insert m k x) k ≡ Some x
 put-here m k x = get_put m k x k ∙ ap (λ b. cond b (Some x) (get m k)) (eq-eqb k k refl)
 
@@ -76,7 +76,7 @@ module _ {X : Type 0} (test : ℕ × X → Bool) (m : FinMap nat_cmp X) where
         let gone : None ≡ Some y = sym vacant ∙ ap (get m) (sym u) ∙ old in absurd (cc)
     out-at q y old passes (inr u) = any-there test (insert m k x) q y (put-off m k x q u ∙ old) passes
 
-    -- one comes that was not there
+    -- a memory comes that was not there
     pub any-put : list_any test (entries (insert m k x)) ≡ (test (k, x) || list_any test (entries m))
     any-put = same_tests (list_any test (entries (insert m k x))) (test (k, x) || list_any test (entries m)) (λ e.
         let r = any_entry test (entries (insert m k x)) (entries_sorted (insert m k x)) e in
@@ -90,7 +90,7 @@ module _ {X : Type 0} (test : ℕ × X → Bool) (m : FinMap nat_cmp X) where
             let r = any_entry test (entries m) (entries_sorted m) g in
             out-at r.key r.value (get-entries m r.key ∙ r.found) r.passes (decided r.key k)
 
-  -- what passes without one is another
+  -- what passes the test without one entry is another entry
   pub any-cut : (k : ℕ) → list_any test (entries (remove m k)) ≡ true →
       (q : ℕ) × (y : X) × (q ≢ k) × (get m q ≡ Some y) × (test (q, y) ≡ true)
   any-cut k e =
@@ -104,12 +104,12 @@ module _ {X : Type 0} (test : ℕ × X → Bool) (m : FinMap nat_cmp X) where
           absurd (cc)
       by q y there passes (inr t) = (q, y, t, sym (cut-off m k q t) ∙ there, passes)
 
-  -- and what passed beside it still does
+  -- what passed the test beside that entry still does
   pub any-left : (k : ℕ) (q : ℕ) (y : X) → q ≢ k → get m q ≡ Some y → test (q, y) ≡ true →
       list_any test (entries (remove m k)) ≡ true
   any-left k q y ne there passes = any-there test (remove m k) q y (cut-off m k q ne ∙ there) passes
 
--- what was not there is not there without another
+-- what was not there is not there after another entry is removed
 pub cut-away : {X : Type 0} (m : FinMap nat_cmp X) (k q : ℕ) → get m q ≡ None → get (remove m k) q ≡ None
 cut-away m k q none = get_cut m k q ∙ both (q == k) (get m q) none
   where
@@ -117,7 +117,7 @@ cut-away m k q none = get_cut m k q ∙ both (q == k) (get m q) none
     both true o e = refl
     both false o e = e
 
--- nor with one at another place
+-- what was not there is not there after an entry is put at another place
 pub put-away : {X : Type 0} (m : FinMap nat_cmp X) (k : ℕ) (x : X) (q : ℕ) → (q ≡ k → ⊥) → get m q ≡ None →
     get (insert m k x) q ≡ None
 put-away m k x q off none = put-off m k x q off ∙ none

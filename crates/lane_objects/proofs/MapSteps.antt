@@ -11,11 +11,11 @@ use Rattle.ideal_lane.specs.Outcomes.{gives, is_idle}
 use Rattle.ideal_lane.specs.State.{LaneState, LaneTag, LaneMap, named}
 
 module _ (l : LaneState) (t : ℕ) where
-  -- the tag is not there
+  -- the tag does not exist
   pub map-absent : get l.tags t ≡ None → map t l ≡ gives l (answer.Report (record { name = Absent; at = 0 }))
   map-absent none = rw none refl
 
-  -- the tag is there, and its loads do not bounce, or could
+  -- the tag exists, and its loads do not bounce, or could
   pub map-plain : (o : LaneTag) → get l.tags t ≡ Some o → bounces l.maxmem o ≡ false →
       map t l ≡ gives (with_map t None l) answer.Done
   map-plain o there off = rw (there, off) refl
@@ -25,17 +25,17 @@ module _ (l : LaneState) (t : ℕ) where
   map-created o there on = rw (there, on) refl
 
 module _ (l : LaneState) (m : ℕ) where
-  -- the map is not there
+  -- the map does not exist
   pub destroy-absent : get l.maps m ≡ None →
       map_destroy m l ≡ gives l (answer.Report (record { name = Absent; at = 0 }))
   destroy-absent none = rw none refl
 
-  -- it is not idle
+  -- the map is not idle
   pub destroy-busy : (o : LaneMap) → get l.maps m ≡ Some o → is_idle o.stage ≡ false →
       map_destroy m l ≡ gives l (answer.Refused EBUSY)
   destroy-busy o there busy = rw (there, busy) refl
 
-  -- it is idle, and has no zone or one
+  -- the map is idle, and has no zone, or has one
   pub destroy-plain : (o : LaneMap) → get l.maps m ≡ Some o → is_idle o.stage ≡ true → o.zone ≡ None →
       map_destroy m l ≡ gives (without_map m l) answer.Done
   destroy-plain o there idle none = rw (there, idle, none) refl
@@ -45,7 +45,7 @@ module _ (l : LaneState) (m : ℕ) where
       (λ r. record { lane = without_map m l; answer = answer.Done })
   destroy-zoned o z there idle zone = rw (there, idle, zone) refl
 
-  -- a wait for a map that is not there, that was tried, or that was not
+  -- a wait for a map that does not exist, that was tried, or that was not
   pub await-absent : get l.maps m ≡ None → await m l ≡ gives l (answer.Report (record { name = Absent; at = 0 }))
   await-absent none = rw none refl
 

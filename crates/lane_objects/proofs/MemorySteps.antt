@@ -37,7 +37,7 @@ use Rattle.lane_state.specs.Served.{IsServed}
 -- ---- the making of a memory
 
 module _ (l : LaneState) (t flags : ℕ) where
-  -- the tag is not there
+  -- the tag does not exist
   pub make-absent : get l.tags t ≡ None →
       dmamem t flags l ≡ gives l (answer.Report (record { name = Absent; at = 0 }))
   make-absent none = rw none refl
@@ -49,7 +49,7 @@ module _ (l : LaneState) (t flags : ℕ) where
 -- ---- its end
 
 module _ (l : LaneState) (m : ℕ) where
-  -- the memory is not there, or its map is not
+  -- the memory does not exist, or its map does not
   pub free-absent : get l.mems m ≡ None →
       dmamem_free m l ≡ gives l (answer.Report (record { name = Absent; at = 0 }))
   free-absent none = rw none refl
@@ -90,7 +90,7 @@ holds-new l d e c r served laid holds =
     (whole-history b.opening b.history p.form p.sound)
     (below-history b.opening b.history (well-opening b.opening p.form) p.sound low) laid l.id c)
 
--- they are as many as the memory has
+-- the frames are as many as the memory has
 placed-count : (m : MapId) (n first count : ℕ) (o : Option ℕ) (a : Account) →
     Run (record { 0 = first }) count ≡ (placed m n o a).reply → count ≡ n
 placed-count m n first count None a e = absurd (cc)
@@ -102,7 +102,7 @@ alloc-count d e lane m t first count holds =
     placed-count m (frames_for t.maxsize) first count
     (lowest_run t.maxsize t.boundary t.lowaddr.0 (account holds.between).bank) (account holds.between) holds.reply
 
--- the first of them
+-- the first frame of the run
 pub first-of-run : (n first : ℕ) (pages : List ℕ) → 1 ≤ n → pages ≡ frames_from n first →
     slice_index_or pages 0 0 ≡ first
 first-of-run zero first pages some e = absurd (omega arith)
@@ -131,7 +131,7 @@ made-memory l tag first count len flags coherent clear size shared filled = λ i
   memory = joined (in_run first (size i)) (if filled i then Known 0 else Unknown) l.memory;
 })
 
--- it is the one that the reply tells
+-- the memory is the one that the reply names
 pub placed-memory : (l : LaneState) (t first count : ℕ) (limits : TagLimits) (flags : ℕ) →
     count ≡ frames_for limits.maxsize →
     memories.memory_by_reply t limits flags l (Run (record { 0 = first }) count) ≡ record {

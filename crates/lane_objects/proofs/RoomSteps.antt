@@ -36,7 +36,7 @@ module _ (h k : Holdings) (s : KeepsButRoom h k) where
   pub room-state : KeepsState h k
   room-state = record { ideal = room-ideal; bytes = room-bytes }
 
--- bytes beside a memory, and then all bytes
+-- bytes beside a memory are kept, and then all bytes are
 pub beside-then : (h k n : Holdings) → KeepsBesideMemory h k → KeepsBytes k n →
     (ideal_of n).memory ≡ (ideal_of k).memory → KeepsBesideMemory h n
 beside-then h k n s t same = record {
@@ -45,7 +45,7 @@ beside-then h k n s t same = record {
   pages = λ m. t.pages m ∙ s.pages m;
 }
 
--- all bytes, and then bytes beside a memory
+-- all bytes are kept, and then bytes beside a memory are
 pub beside-after : (h k n : Holdings) → KeepsState h k → KeepsBesideMemory k n → KeepsBesideMemory h n
 beside-after h k n s t = record {
   own = λ a before after. t.own a (ap (λ l. is_some (l.memory a)) s.ideal ∙ before) after ∙ ap (λ w. w a) s.bytes.own;

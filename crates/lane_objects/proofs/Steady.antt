@@ -1,4 +1,4 @@
--- A byte of a driver's own that stays where frames come and go elsewhere.
+-- A byte of a driver's own that stays when frames come and go elsewhere.
 use Rattle.std.proofs.Common.{◌≡◌, ℕ, ◌+◌, ◌*◌, Bool, true, false, List, is_some, slice_get, unwrap_or}
 use Rattle.std.proofs.Common.{refl, sym, ap, ◌∙◌, arith}
 use Rattle.std.proofs.lemmas.Option.{slice_get-map}
@@ -33,7 +33,7 @@ module _ (h : Holdings) (wired : IsWired h) where
   abbrev l : LaneState
   l = ideal_of h
 
-  -- where a position of a loan has its byte
+  -- the place of a position of a loan that has the byte
   record Position-at (k i : ℕ) (p : Position) : Type 0 where
     placed : Placed
     found : IsPlacedAt (traces_of l) k i placed
@@ -75,7 +75,7 @@ module _ (h : Holdings) (wired : IsWired h) where
           sym (sym none ∙ ap (λ q. is_some (l.memory q)) (sym r.same ∙ p.same) ∙ there)
 
   module _ (m : Memory) (a : ℕ) (alike : wire m a ≡ wire h.memory.memory a) where
-    -- so is what stands at the bus address of a position of the byte
+    -- the byte at the bus address of a position of that byte stays too
     view-steady : (k i : ℕ) (t : Placed) → IsPlacedAt (traces_of l) k i t → t.pa ≡ a →
         device_view (devices_of h.maps.map k) m t.bus ≡ device_view (devices_of h.maps.map k) h.memory.memory t.bus
     view-steady k i t at is = by (lies-of l wired.laid k i t at)
@@ -102,7 +102,7 @@ module _ (h : Holdings) (wired : IsWired h) where
             covered-alike (devices_of h.maps.map k).pages b.index q.0 (wire m) (wire h.memory.memory) t.bus q.1
             (omega (arith, whole, low, high, address))
 
-    -- what is held at a byte stays where the frames have what they had there
+    -- what is held at a byte stays if the frames keep their byte there
     pub byte-steady : byte_among (devices_of h.maps.map) m (entries l.loans) a
         ≡ byte_among (devices_of h.maps.map) h.memory.memory (entries l.loans) a
     byte-steady = by (lent to_write a l.loans) refl

@@ -15,12 +15,12 @@ use Rattle.ideal_lane.specs.Tags.{tag, tag_or_invalid, tag_by_reply as attached}
 use Rattle.ideal_lane.specs.Tags.{with_space, with_tag, tag_destroy, has_maps}
 
 module _ (l : LaneState) where
-  -- the parent is not there
+  -- the parent does not exist
   pub tag-absent : (parent : ℕ) (limits : TagLimits) → get l.tags parent ≡ None →
       tag (Some parent) limits l ≡ gives l (answer.Report (record { name = Absent; at = 0 }))
   tag-absent parent limits none = rw none refl
 
-  -- the parent is there
+  -- the parent exists
   pub tag-below : (parent : ℕ) (limits : TagLimits) (t : LaneTag) → get l.tags parent ≡ Some t →
       tag (Some parent) limits l ≡ tag_or_invalid (effective (Some t.limits) limits) l
   tag-below parent limits t there = rw there refl
@@ -40,7 +40,7 @@ module _ (l : LaneState) where
       tag_or_invalid o l ≡ gives (with_tag l.place t false l) answer.Done
   tag-made o t made asks = rw (made, asks) refl
 
-  -- the end of a tag that is not there, that has a map, or that has none
+  -- destroying a tag that does not exist, that has a map, or that has none
   pub destroy-absent : (t : ℕ) → get l.tags t ≡ None →
       tag_destroy t l ≡ gives l (answer.Report (record { name = Absent; at = 0 }))
   destroy-absent t none = rw none refl

@@ -9,7 +9,8 @@ use Rattle.ideal_lane.specs.Tags.{tag_by_reply, with_tag}
 use Rattle.lane_objects.specs.declared.tags.TagPlan.{TagPlan}
 use Rattle.lane_objects.specs.declared.tags.TagPlan.TheVariants.{Refused, Made, Grown}
 
--- a step is what a plan says: the driver's answer, the tag kept at once, or the tag kept as a reply says
+-- a step does what a plan says: it gives the refusal, keeps the tag at once, or keeps the tag as the reply to a call
+-- says
 abbrev pub IsPlan : LaneState → Asking Outcome → TagPlan → Type 0
 IsPlan l step (Refused answer) = step ≡ gives l answer
 IsPlan l step (Made t) = step ≡ gives (with_tag l.place t false l) Done

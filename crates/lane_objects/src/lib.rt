@@ -1,4 +1,4 @@
-//! Tags, maps, dmamem memories and rings of a driver at work: how they come and go.
+//! The tags, maps, dmamem memories and rings of a driver at work: how they come and go.
 #![tactic(auto)]
 
 mod maps;

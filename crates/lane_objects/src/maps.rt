@@ -1,4 +1,4 @@
-//! Making and ending maps, and waiting for them.
+//! Creating and destroying maps, and waiting for their loads.
 
 ghost use Rattle.std.specs.Prelude.{◌≡◌, ◌<◌, ◌≤◌, true, Some, None, IfOk, OnErr, if◌then◌else◌};
 ghost use Rattle.std.specs.FinMap.{get};
@@ -21,7 +21,15 @@ use dma_map::{DmaMap, MapState};
 use lane_state::{Answered, Holdings, KeptMap, KeptTag, report};
 use std::alloc::{AllocError, Global};
 
-/// Makes the map of this place, of a tag.
+/// Creates a map of this tag, at the script's place, and returns the answer. After `bus_dmamap_create(9)`.
+///
+/// If the tag's loads could bounce, this makes one call at the door, which may add pages to the tag's zone. The answer
+/// is `Absent` if there is no such tag.
+///
+/// # Errors
+///
+/// `AllocError` if memory runs out, here or at the door. The driver and its bytes are then unchanged, and the call is
+/// not in the door's history.
 pub fn make_map<D: HubDoor>(
     holdings: &mut Holdings<'_>,
     alloc: Global,
@@ -59,7 +67,8 @@ pub fn make_map<D: HubDoor>(
     }
 }
 
-/// Whether the loads of a tag's maps could bounce, if it exists. Those of an IOMMU tag never do.
+/// Returns whether the loads of a tag's maps could bounce, or `None` if there is no such tag. The loads of an IOMMU
+/// tag's maps never do.
 fn bounces(holdings: &Holdings<'_>, tag: u32) -> Option<bool>
     ensures { result ≡ option_map (λ t. bounces holdings.now.maxmem (tag_of t)) (get holdings.now.tags.map tag) }
 {
@@ -67,7 +76,7 @@ fn bounces(holdings: &Holdings<'_>, tag: u32) -> Option<bool>
     Some(kept.space.is_none() && kept.tag.could_bounce(holdings.maxmem))
 }
 
-/// Makes a map without a call.
+/// Creates a map without a call.
 fn keep_map(holdings: &mut Holdings<'_>, alloc: Global, tag: u32) -> Result<Answer, AllocError>
     requires going { holdings.old.agenda.place < holdings.old.agenda.length }
     requires vacant { get holdings.old.maps.map holdings.old.agenda.place ≡ None }
@@ -84,8 +93,8 @@ fn keep_map(holdings: &mut Holdings<'_>, alloc: Global, tag: u32) -> Result<Answ
     Ok(Answer::Done)
 }
 
-/// Makes a map in the zone of its tag, where the tag's first allocation was done before or all pages came that are
-/// wanted. The first allocation is then done.
+/// Creates a map in the zone of its tag, and returns the answer. The map is made if the tag's first allocation was done
+/// before, or if all pages came that the first allocation needs. The first allocation is then done.
 fn create_map<D: HubDoor>(
     holdings: &mut Holdings<'_>,
     alloc: Global,
@@ -108,6 +117,7 @@ fn create_map<D: HubDoor>(
     ensures agenda { holdings.new.agenda ≡ holdings.old.agenda }
     ensures fixed { D.fixed door.new ≡ D.fixed door.old }
 {
+    // Room is taken before the call, so a map that the account made is always kept.
     holdings.maps.reserve(alloc)?;
     let id = holdings.map_id(holdings.agenda.place());
     let Some(kept) = holdings.tags.get(tag) else {
@@ -118,7 +128,7 @@ fn create_map<D: HubDoor>(
     Ok(Answer::Grown(grown))
 }
 
-/// Keeps the map of this place, of a tag, where it was made in its zone.
+/// Keeps the map of this tag at the script's place, if it was made in its zone.
 fn keep_created(holdings: &mut Holdings<'_>, tag: u32, grown: Grown)
     requires room { 1 ≤ holdings.old.maps.spare }
     requires going { holdings.old.agenda.place < holdings.old.agenda.length }
@@ -138,7 +148,7 @@ fn keep_created(holdings: &mut Holdings<'_>, tag: u32, grown: Grown)
     }
 }
 
-/// Puts the idle map of this place, of a tag.
+/// Puts an idle map of this tag at the script's place.
 pub(crate) fn put_map(holdings: &mut Holdings<'_>, tag: u32, zone: Option<ZoneId>)
     requires room { 1 ≤ holdings.old.maps.spare }
     requires going { holdings.old.agenda.place < holdings.old.agenda.length }
@@ -181,7 +191,10 @@ fn note_first(holdings: &mut Holdings<'_>, tag: u32)
     }
 }
 
-/// Ends a map that is idle.
+/// Destroys a map, and returns the answer. After `bus_dmamap_destroy(9)`.
+///
+/// The answer is `Absent` if there is no such map, and `EBUSY` if the map is not idle. A map with a zone makes one call
+/// at the door.
 pub fn destroy_map<D: HubDoor>(holdings: &mut Holdings<'_>, door: &mut D, map: u32) -> Answered
     requires { IsAllowedBy (D.seen door.old) holdings.old.id.0 (maps.map_destroy map (ideal_of holdings.old)) }
     ensures done { IsDone (D.seen door.old) holdings.old.id.0 (maps.map_destroy map (ideal_of holdings.old))
@@ -232,7 +245,8 @@ pub(crate) fn drop_map(holdings: &mut Holdings<'_>, map: u32)
     holdings.maps.take(map);
 }
 
-/// The end of a wait for a map.
+/// Returns the answer of a wait for a map, when the wait is over: done if a load of the map has called or kept its
+/// callback, `NotDeferred` if no load has, and `Absent` if there is no such map.
 pub fn await_map(holdings: &Holdings<'_>, map: u32) -> Answer
     ensures { Gives (given holdings.now result) ≡ maps.await map (ideal_of holdings.now) }
 {

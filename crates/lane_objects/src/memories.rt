@@ -1,4 +1,4 @@
-//! Operations on dmamem memories: after bus_dmamem_alloc(9) and bus_dmamem_free(9).
+//! Operations on dmamem memories, after `bus_dmamem_alloc(9)` and `bus_dmamem_free(9)`.
 
 ghost use Rattle.std.specs.Prelude.{◌≡◌, ℕ, ◌*◌, ◌<◌, ◌≤◌, [], true, length, None, Some, IfOk, OnErr, OnOk};
 ghost use Rattle.std.specs.Prelude.{if◌then◌else◌};
@@ -36,24 +36,33 @@ use lane_state::{Answered, Holdings, KeptMemory, report, unheld};
 use memory_pages::{first_address, put, take};
 use std::alloc::{AllocError, Global};
 
-/// The most frames that a memory can have: there are no more free ones.
+/// The most frames that a memory can have, because a machine has no more free frames.
 const MOST_FRAMES: u64 = 8192;
 
-/// Whether a memory begins with zeros.
+/// Returns whether the bytes of a memory with these flags begin as zeros.
 fn is_zero_filled(flags: u32) -> bool
     ensures { result ≡ zero_filled flags }
 {
     MemFlags(flags).contains(MemFlags::ZERO)
 }
 
-/// Whether driver and device see the bytes of a memory with no sync.
+/// Returns whether driver and device see the bytes of a memory with these flags without syncs.
 fn is_coherent(flags: u32) -> bool
     ensures { result ≡ coherent flags }
 {
     MemFlags(flags).contains(MemFlags::COHERENT)
 }
 
-/// Makes the memory of this place, of a tag, with a map of its own.
+/// Allocates a memory of this tag at the script's place, with a map of its own, and returns the answer. After
+/// `bus_dmamem_alloc(9)`.
+///
+/// Its size is the tag's maxsize. The answer is the physical address of its first byte, or `ENOMEM` if no such run of
+/// frames is free, or `Absent` if there is no such tag. Makes one call at the door if the tag exists.
+///
+/// # Errors
+///
+/// `AllocError` if memory runs out, here or at the door. The driver and its bytes are then unchanged, and the call is
+/// not in the door's history.
 pub fn make_memory<D: HubDoor>(
     holdings: &mut Holdings<'_>,
     alloc: Global,
@@ -87,7 +96,7 @@ pub fn make_memory<D: HubDoor>(
     Ok(Answered { answer, held: true })
 }
 
-/// Asks for the frames of a memory, and keeps it where they came.
+/// Asks the door for the frames of a memory, and keeps the memory if they came.
 fn alloc_memory<D: HubDoor>(
     holdings: &mut Holdings<'_>,
     alloc: Global,
@@ -115,6 +124,7 @@ fn alloc_memory<D: HubDoor>(
     ensures fixed { D.fixed door.new ≡ D.fixed door.old }
 {
     let frames = frames_for(limits).min(MOST_FRAMES) as u32;
+    // All room is taken before the call, so frames that came are always kept.
     reserve_memory(holdings, alloc, frames)?;
     let id = holdings.map_id(holdings.agenda.place());
     let Some(pages) = door.mem_alloc(alloc, id, limits)? else {
@@ -123,7 +133,7 @@ fn alloc_memory<D: HubDoor>(
     Ok(keep_memory(holdings, tag, limits.maxsize, flags, pages))
 }
 
-/// Takes the room of a memory of so many frames, with its map.
+/// Takes the room of a memory of so many frames and of its map.
 fn reserve_memory(holdings: &mut Holdings<'_>, alloc: Global, frames: u32) -> Result<(), AllocError>
     ensures room { OnOk result (HasMemoryRoom holdings.new frames) }
     ensures rest { KeepsButRoom holdings.old holdings.new }
@@ -134,7 +144,7 @@ fn reserve_memory(holdings: &mut Holdings<'_>, alloc: Global, frames: u32) -> Re
     holdings.memory.reserve(alloc, frames)
 }
 
-/// Keeps the memory of this place, of a tag, whose frames came, and an idle map of its own.
+/// Keeps the memory whose frames came, at the script's place, with an idle map of its own.
 fn keep_memory(
     holdings: &mut Holdings<'_>,
     tag: u32,
@@ -179,8 +189,8 @@ fn keep_memory(
     Answer::Placed(first)
 }
 
-/// Puts the memory of this place: its pages, their bytes, which are Known 0 with `zero` and else Unknown, and what
-/// is kept of it.
+/// Puts the memory at the script's place, with its pages and their bytes. With `zero` the bytes are 0 and Known,
+/// otherwise they are Unknown.
 fn join_memory(holdings: &mut Holdings<'_>, kept: KeptMemory, pages: PageList, zero: bool)
     requires going { holdings.old.agenda.place < holdings.old.agenda.length }
     requires no_map { get holdings.old.maps.map holdings.old.agenda.place ≡ None }
@@ -215,7 +225,14 @@ fn join_memory(holdings: &mut Holdings<'_>, kept: KeptMemory, pages: PageList, z
     holdings.memories.put(place, kept);
 }
 
-/// Ends a memory whose map is idle, and the map.
+/// Frees a memory whose map is idle, with the map, and returns the answer. After `bus_dmamem_free(9)`.
+///
+/// The answer is `Absent` if there is no such memory, and `EBUSY` if its map is not idle.
+///
+/// # Errors
+///
+/// `AllocError` if memory runs out. The driver and its bytes are then unchanged, and the call is not in the door's
+/// history.
 pub fn end_memory<D: HubDoor>(
     holdings: &mut Holdings<'_>,
     alloc: Global,
@@ -247,6 +264,7 @@ pub fn end_memory<D: HubDoor>(
     let MapState::Idle = map.map.state() else {
         return Ok(unheld(Answer::Refused(Errno::EBUSY)));
     };
+    // Room is taken before the memory is taken apart, so a failure leaves it as it was.
     let mut pages = PageList::with_room(alloc, kept.count as usize)?;
     holdings.loans.reserve(alloc, 1)?;
     part_memory(holdings, mem, kept, &mut pages);
@@ -258,8 +276,8 @@ pub fn end_memory<D: HubDoor>(
     })
 }
 
-/// Takes a memory whose map is idle: its pages, which are put into an empty list with the bytes that they hold, their
-/// marks, and what is kept of it.
+/// Takes a memory whose map is idle out of the driver. Its pages are put into an empty list, with the bytes that they
+/// hold.
 fn part_memory(holdings: &mut Holdings<'_>, mem: u32, kept: KeptMemory, pages: &mut PageList)
     requires there { get holdings.old.memories.map mem ≡ Some kept }
     requires idle { is_idle_map (get holdings.old.maps.map mem) ≡ true }

@@ -13,7 +13,15 @@ use busdma_base::{Answer, Errno, ReportName};
 use lane_state::{Holdings, KeptMemory, KeptRing, report};
 use std::alloc::{AllocError, Global};
 
-/// Makes the ring of this place: so many slots, in the first bytes of a memory, with the head at the first slot.
+/// Makes a ring at the script's place, and returns the answer. The ring has so many slots in the first bytes of a
+/// memory, and its head is at the first slot. This project's own rule.
+///
+/// The answer is `Absent` if there is no such memory, and `EINVAL` if the memory is not coherent, or if the slots are
+/// none, more than 256, or do not fit into it.
+///
+/// # Errors
+///
+/// `AllocError` if memory runs out. The driver and its bytes are then unchanged.
 pub fn make_ring(
     holdings: &mut Holdings<'_>,
     alloc: Global,
@@ -46,14 +54,15 @@ pub fn make_ring(
     Ok(Answer::Done)
 }
 
-/// Whether a ring of so many slots of 16 bytes fits into a memory, which must be coherent.
+/// Returns whether a ring of so many slots of 16 bytes can be made in a memory: the memory is coherent, the slots are 1
+/// to 256, and they fit.
 fn fits_in(slots: u32, kept: &KeptMemory) -> bool
     ensures { result ≡ fits_in slots (memory_of kept.now) }
 {
     kept.memory.coherent && 1 <= slots && slots <= 256 && 16 * slots as u64 <= kept.memory.len
 }
 
-/// Puts the ring of this place.
+/// Puts a ring at the script's place.
 fn put_ring(holdings: &mut Holdings<'_>, ring: KeptRing)
     requires room { 1 ≤ holdings.old.rings.spare }
     requires going { holdings.old.agenda.place < holdings.old.agenda.length }

@@ -29,22 +29,32 @@ use std::alloc::{AllocError, Global};
 /// How a tag is made.
 #[derive(Drop)]
 enum TagPlan {
-    /// It is not, with this answer.
+    /// The tag is not made; this is the answer.
     Refused(Answer),
-    /// Without a call.
+    /// The tag is made without a call.
     Made(Tag),
-    /// By a first allocation in its zone.
+    /// The tag is made by a first allocation in its zone.
     Grown(Tag),
 }
 
-/// Whether limits ask for a first allocation at the making of a tag that could bounce: the flag ALLOCNOW.
+/// Returns whether these limits ask for a first allocation when a tag that could bounce is made: they have
+/// `BUS_DMA_ALLOCNOW`.
 fn allocates(limits: &TagLimits) -> bool
     ensures { result ≡ allocnow limits.now.flags }
 {
     TagFlags(limits.flags).contains(TagFlags::ALLOCNOW)
 }
 
-/// Makes the tag of this place, perhaps below a parent.
+/// Creates a tag at the script's place, below a parent or without one, and returns the answer. After
+/// `bus_dma_tag_create(9)`.
+///
+/// A tag with `BUS_DMA_ALLOCNOW` whose loads could bounce makes one call at the door, which may add pages to its zone.
+/// The answer is `Absent` if there is no such parent, and `EINVAL` if the limits make no tag.
+///
+/// # Errors
+///
+/// `AllocError` if memory runs out, here or at the door. The driver and its bytes are then unchanged, and the call is
+/// not in the door's history.
 pub fn make_tag<D: HubDoor>(
     holdings: &mut Holdings<'_>,
     alloc: Global,
@@ -84,7 +94,7 @@ pub fn make_tag<D: HubDoor>(
     }
 }
 
-/// How the tag of this place is to be made.
+/// Returns how the tag is to be made, below this parent or without one.
 fn plan_tag(holdings: &Holdings<'_>, parent: Option<u32>, limits: &TagLimits) -> TagPlan
     ensures { IsPlan (ideal_of holdings.now) (tags.tag parent limits.now (ideal_of holdings.now)) result }
 {
@@ -97,7 +107,7 @@ fn plan_tag(holdings: &Holdings<'_>, parent: Option<u32>, limits: &TagLimits) ->
     plan_below(holdings, Some(&kept.tag), limits)
 }
 
-/// The same below a parent that exists, or without one.
+/// Returns how the tag is to be made below a parent that exists, or without one.
 fn plan_below(holdings: &Holdings<'_>, parent: Option<&Tag>, limits: &TagLimits) -> TagPlan
     ensures { IsPlan (ideal_of holdings.now)
         (tag_or_invalid (effective (option_copied parent.entry) limits.now) (ideal_of holdings.now)) result }
@@ -126,7 +136,7 @@ fn keep_tag(holdings: &mut Holdings<'_>, alloc: Global, tag: Tag) -> Result<Answ
     Ok(Answer::Done)
 }
 
-/// Makes the first allocation of a tag, and keeps the tag where all pages came that are wanted.
+/// Makes the first allocation of a tag, and keeps the tag if enough pages came.
 fn grow_tag<D: HubDoor>(
     holdings: &mut Holdings<'_>,
     alloc: Global,
@@ -144,13 +154,14 @@ fn grow_tag<D: HubDoor>(
     ensures rest { KeepsButTags holdings.old holdings.new }
     ensures fixed { D.fixed door.new ≡ D.fixed door.old }
 {
+    // Room is taken before the call, so a tag whose pages came is always kept.
     holdings.tags.reserve(alloc)?;
     let grown = door.attach_tag(alloc, holdings.id, tag.limits())?;
     keep_grown(holdings, tag, grown.made);
     Ok(Answer::Grown(grown))
 }
 
-/// Keeps a tag of which the first allocation is done, where it is made.
+/// Keeps a tag whose first allocation is done, if the tag was made.
 fn keep_grown(holdings: &mut Holdings<'_>, tag: Tag, made: bool)
     requires room { 1 ≤ holdings.old.tags.spare }
     requires going { holdings.old.agenda.place < holdings.old.agenda.length }
@@ -164,7 +175,7 @@ fn keep_grown(holdings: &mut Holdings<'_>, tag: Tag, made: bool)
     }
 }
 
-/// Puts the tag of this place.
+/// Puts a tag at the script's place.
 fn put_tag(holdings: &mut Holdings<'_>, tag: Tag, first_done: bool)
     requires room { 1 ≤ holdings.old.tags.spare }
     requires going { holdings.old.agenda.place < holdings.old.agenda.length }
@@ -181,7 +192,14 @@ fn put_tag(holdings: &mut Holdings<'_>, tag: Tag, first_done: bool)
     holdings.tags.put(place, kept);
 }
 
-/// Makes the IOMMU tag of this place.
+/// Creates an IOMMU tag at the script's place, and returns the answer. This project's own rule.
+///
+/// The tag's device is behind an IOMMU, with an address space that has no live run yet. The answer is `EINVAL` if the
+/// limits make no tag.
+///
+/// # Errors
+///
+/// `AllocError` if memory runs out. The driver and its bytes are then unchanged.
 pub fn make_iommu_tag(
     holdings: &mut Holdings<'_>,
     alloc: Global,
@@ -202,7 +220,7 @@ pub fn make_iommu_tag(
     Ok(Answer::Done)
 }
 
-/// Puts the IOMMU tag of this place, of which the address space has no live run.
+/// Puts an IOMMU tag at the script's place. Its address space has no live run.
 fn put_iommu_tag(holdings: &mut Holdings<'_>, alloc: Global, tag: Tag)
     requires room { 1 ≤ holdings.old.tags.spare }
     requires going { holdings.old.agenda.place < holdings.old.agenda.length }
@@ -220,7 +238,9 @@ fn put_iommu_tag(holdings: &mut Holdings<'_>, alloc: Global, tag: Tag)
     holdings.tags.put(place, kept);
 }
 
-/// Ends a tag that has no map.
+/// Destroys a tag, and returns the answer. After `bus_dma_tag_destroy(9)`.
+///
+/// The answer is `Absent` if there is no such tag, and `EBUSY` if the tag has a map.
 pub fn destroy_tag(holdings: &mut Holdings<'_>, tag: u32) -> Answer
     ensures done { Gives (given holdings.new result) ≡ tags.tag_destroy tag (ideal_of holdings.old) }
     ensures bytes { KeepsBytes holdings.old holdings.new }
@@ -238,7 +258,7 @@ pub fn destroy_tag(holdings: &mut Holdings<'_>, tag: u32) -> Answer
     Answer::Done
 }
 
-/// Whether a tag has a map.
+/// Returns whether a tag has a map.
 fn has_maps(holdings: &Holdings<'_>, tag: u32) -> bool
     ensures { result ≡ tags.has_maps (ideal_of holdings.now) tag }
 {

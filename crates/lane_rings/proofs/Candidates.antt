@@ -33,7 +33,7 @@ module _ (l : LaneState) (d : Descriptor) (own k : ℕ) (o : LaneMap) where
   left-out out = sym (ap (λ b. if b then None
       else option_map (λ off. record { map = k; off = off }) (place_of d.addr d.len (segments_in o.stage))) out)
 
-  -- one that has the bytes
+  -- a map that is not left out and has the bytes
   pub candidate-at : is_left_out own l (k, o) ≡ false → (off : ℕ) →
       place_of d.addr d.len (segments_in o.stage) ≡ Some off →
       Some (record { map = k; off = off }) ≡ candidate_in d own l (k, o)
@@ -41,7 +41,7 @@ module _ (l : LaneState) (d : Descriptor) (own k : ℕ) (o : LaneMap) where
       else option_map (λ off. record { map = k; off = off }) (place_of d.addr d.len (segments_in o.stage))) kept
       ∙ ap (option_map (λ off. record { map = k; off = off })) place)
 
--- a map that is not left out is none of an IOMMU tag
+-- a map that is not left out has a tag that is not an IOMMU tag
 pub none-behind : (h : Holdings) (own k : ℕ) (o : KeptMap) → get h.maps.map k ≡ Some o →
     is_left_out own (ideal_of h) (k, map_of o) ≡ false → is_behind (ideal_of h) k ≡ false
 none-behind h own k o there kept =
@@ -79,7 +79,7 @@ within-segments addr len (s ∷ ss) at e =
         omega (arith, all, is, low, high)
     by f false h e = later f (place_of addr len ss) refl e
 
--- what has no load has no segment
+-- a map without a load has no segment
 none-loaded : (s : held.Stage KeptLoad) → is_loaded (stage_of s) ≡ false → held.segments_of s ≡ []
 none-loaded held.idle off = refl
 none-loaded (held.waiting load_at callback room) off = refl

@@ -156,7 +156,7 @@ module _ (h : Holdings) (wired : IsWired h) (m : ℕ) (x : KeptMemory) (memory :
     pub inside : AreIn h.loans.bytes (load_bytes l.loans m at n)
     inside = own-inside h (load_bytes l.loans m at n) own-byte
 
-    -- the first of them lies in a frame of the driver's
+    -- the first of the bytes is in a frame of the driver's
     pub framed : 1 ≤ n → has_frame h.memory.memory ((x.first.0 + at) / 4096) ≡ true
     framed some =
         own-frame h wired (x.first.0 + at)
@@ -166,7 +166,7 @@ module _ (h : Holdings) (wired : IsWired h) (m : ℕ) (x : KeptMemory) (memory :
         begins zero some = absurd (omega arith)
         begins (suc k) some = refl
 
-    -- what the device reads of them stands there
+    -- what the device reads of the bytes is what the driver's frames have
     pub reads : dev_read_answer (is_known l.memory) (loan_of l.loans m) at n ≡ Fine →
         values l (load_bytes l.loans m at n) ≡ map (wire h.memory.memory) (run_of (x.first.0 + at) n)
     reads fine =
@@ -176,7 +176,7 @@ module _ (h : Holdings) (wired : IsWired h) (m : ℕ) (x : KeptMemory) (memory :
         ∙ sym (own-reads h wired (load_bytes l.loans m at n) inside)
         ∙ ap (map (wire h.memory.memory)) part
 
-  -- where the device may read sixteen bytes, the last two of them are Known
+  -- if the device may read sixteen bytes, the last two of them are Known
   pub last-two : (at : ℕ) → at + 16 ≤ length ps →
       dev_read_answer (is_known l.memory) (loan_of l.loans m) at 16 ≡ Fine →
       AllByRecursion (λ a. is_known l.memory a ≡ true) (run_of (x.first.0 + (at + 14)) 2)
@@ -187,7 +187,7 @@ module _ (h : Holdings) (wired : IsWired h) (m : ℕ) (x : KeptMemory) (memory :
       (subst (AllByRecursion (λ a. is_known l.memory a ≡ true)) (part at 16 range)
       (all-known (is_known l.memory) (loan_of l.loans m).coherent 0 (stretch at 16 ps) fine)))
 
-  -- it is coherent as the memory is
+  -- the load is coherent if the memory is
   pub coherent-load : (memory_of x).coherent ≡ true → (loan_of l.loans m).coherent ≡ true
   coherent-load is = load.load.coherent ∙ ap is_coherent is-there ∙ is
 
@@ -231,7 +231,7 @@ module _ (h : Holdings) (wired : IsWired h) (m : ℕ) (x : KeptMemory) (memory :
         (direct-faithful h wired m kept.0 kept.1 kept-on none at told range fine)
         (ap length (part at 2 range)) h.loans.bytes h.loans.loans marked refl
 
--- two bytes in a frame, fourteen behind where sixteen begin that the device may read
+-- the last two of sixteen bytes that the device may read are in a frame of the driver's
 pub told-there : (h : Holdings) → IsWired h → (m : ℕ) (x : KeptMemory) → get h.memories.map m ≡ Some x → (at a : ℕ) →
     IsReadable (ideal_of h) m at 16 → a ≡ x.first.0 + at → has_frame h.memory.memory ((a + 14) / 4096) ≡ true
 told-there h wired m x memory at a r is =

@@ -51,7 +51,7 @@ module _ (l : LaneState) (k : ℕ) (p : Posting) where
   abbrev step : Asking Outcome
   step = ring_post k p.slot p.map p.off p.len p.kind p.fill l
 
-  -- what follows once the ring is found, and once its memory is
+  -- what follows after the ring, and then its memory, is found
   abbrev behind : LaneRing → LaneMap → Asking Outcome
   behind r o = if may_post r p.slot p.map o p.off p.len p.kind l
       then cpu_write (slot_place r p.slot) (descriptor_bytes (posted (segments_in o.stage) p.off p.len p.kind p.fill)) l
@@ -69,7 +69,7 @@ module _ (l : LaneState) (k : ℕ) (p : Posting) where
     found : step ≡ with_ring r
     found = ap (λ o. unless_absent o l with_ring) ring
 
-    -- its memory is not there
+    -- the ring's memory does not exist
     pub post-absent : get l.mems r.mem ≡ None → gives l (answer.Report (record { name = Absent; at = 0 })) ≡ step
     post-absent none = sym (found ∙ ap (λ o. unless_absent o l (λ (x : LaneMemory).
         unless_unloaded p.map l (λ o. unless_past p.map p.off p.len l (behind r o)))) none)
@@ -99,14 +99,14 @@ module _ (l : LaneState) (k : ℕ) (p : Posting) where
           ready : step ≡ behind r o
           ready = loaded ∙ ends l p.map p.off p.len range (behind r o)
 
-          -- it may not be posted
+          -- the bytes cannot be posted
           pub post-refused : IsUnposted l r p → gives l (answer.Refused EINVAL) ≡ step
           post-refused unfit = sym (ready ∙ ap (λ b. if b
               then cpu_write (slot_place r p.slot)
               (descriptor_bytes (posted (segments_in o.stage) p.off p.len p.kind p.fill)) l
               else gives l (answer.Refused EINVAL)) (unfit o there))
 
-          -- it is posted
+          -- the bytes are posted
           module _ (d : Descriptor) (is : IsPosted l r p d) where
             same : is.map ≡ o
             same = let e : Some is.map ≡ Some o = sym is.there ∙ there in cc
@@ -151,9 +151,9 @@ unposted-wire l k p a w idle is =
     ∙ ap (λ s. if_done s (put (place_bytes l (slot_place (rings.ring_of l k) p.slot) 16)
     (descriptor_bytes (posted (segments_in (stage_at l p.map)) p.off p.len p.kind p.fill)) w) w) is
 
--- ---- whether it may be posted
+-- ---- whether the bytes may be posted
 
--- one of these is not so
+-- one of these conditions fails
 pub one-false : (a b c d e : Bool) → (a ≡ false) ⊎ ((b ≡ false) ⊎ ((c ≡ true) ⊎ ((d ≡ true) ⊎ (e ≡ false)))) →
     (a && (b && (not c && (not d && e)))) ≡ false
 one-false false b c d e h = refl
@@ -167,7 +167,7 @@ one-false true true false false true (inr (inr (inl h))) = sym h
 one-false true true false false true (inr (inr (inr (inl h)))) = sym h
 one-false true true false false true (inr (inr (inr (inr h)))) = h
 
--- all are
+-- all conditions are met
 pub all-true : (a b c d e : Bool) → a ≡ true → b ≡ true → c ≡ false → d ≡ false → e ≡ true →
     (a && (b && (not c && (not d && e)))) ≡ true
 all-true true true false false true p q r s t = refl
@@ -177,7 +177,7 @@ all-true true true true d e p q r s t = absurd (cc)
 all-true true true false true e p q r s t = absurd (cc)
 all-true true true false false false p q r s t = t
 
--- its range does not lie in one segment
+-- the range is not in one segment
 pub not-posted : (l : LaneState) (r : LaneRing) (p : Posting) (o : LaneMap) → get l.maps p.map ≡ Some o →
     address_of p.off p.len (segments_in o.stage) ≡ None → IsUnposted l r p
 not-posted l r p o there none x found =

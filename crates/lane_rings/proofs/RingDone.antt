@@ -52,7 +52,7 @@ idle-wire l k a w idle is =
     sym (idle (fetched_wire (rings.ring_of l k) l w))
     ∙ ap (λ s. if_step_done s (fetched_wire (rings.ring_of l k) l w) w) is
 
--- one that did something changes them
+-- a step that did something changes the bytes of its access
 told-wire : (l : LaneState) (d : Descriptor) (c : rings.Candidate) (after w : Wire) →
     if_fetched (told d c l) after w ≡ after
 told-wire l d c after w = by (d.kind == 1)
@@ -77,7 +77,7 @@ module _ (h : Holdings) (wired : IsWired h) (stands : Stands (ideal_of h)) (k : 
   abbrev pub is-ring : IsRing l.place l.maps l.mems r
   is-ring = stands.ring k r ideal-ring
 
-  -- the ring's memory is not there, and then neither is its map
+  -- if the ring's memory is not there, its map is not there either
   pub no-memory : get h.memories.map q.mem ≡ None →
       gives l (answer.Report (record { name = Absent; at = 0 })) ≡ ring_step k l
   no-memory none =

@@ -31,7 +31,7 @@ use Rattle.lane_access.proofs.DeviceReads.{ends, loads}
 -- ---- what the device may read
 
 module _ (l : LaneState) (m off len : ℕ) where
-  -- nothing stands in its way
+  -- the device's read is not refused
   pub readable-passes : IsReadable l m off len → (step : Asking Outcome) → unless_unread m off len l step ≡ step
   readable-passes r step =
       loads l m r.map r.there r.loaded _ ∙ ends l m off len r.range _
@@ -60,7 +60,7 @@ module _ (l : LaneState) (m off len : ℕ) where
 
 -- ---- the candidates
 
--- a candidate before others, where there is one
+-- a candidate before others, if there is one
 abbrev pub joined : Option rings.Candidate → List rings.Candidate → List rings.Candidate
 joined None cs = cs
 joined (Some c) cs = c ∷ cs
@@ -80,20 +80,20 @@ module _ (d : Descriptor) (own : ℕ) (l : LaneState) where
       by false None = refl
       by false (Some off) = refl
 
--- what is found among candidates, where the first of others before them was refused so, if there is any
+-- what is found among candidates, after the first of earlier ones was refused with this report, if there was one
 abbrev pub found_in : Descriptor → LaneState → Option Report → List rings.Candidate → Work
 found_in d l first cs =
     at_or_refused (slice_get (allowed d l cs) 0) (unwrap_or first (blame d l (slice_get cs 0)))
 
 module _ (d : Descriptor) (l : LaneState) where
-  -- the first of them allows the access
+  -- the first candidate allows the access
   pub found-fine : (first : Option Report) (c : Candidate) (cs : List rings.Candidate) →
       Fine ≡ judged_at d l (candidate_of c) → work.At c ≡ found_in d l first (candidate_of c ∷ cs)
   found-fine first c cs fine =
       ap (λ j. at_or_refused (slice_get (cond (is_fine j) (candidate_of c ∷ allowed d l cs) (allowed d l cs)) 0)
       (unwrap_or first (blame_of (judged_at d l (candidate_of c))))) fine
 
-  -- it does not
+  -- the first candidate does not allow the access
   pub found-refused : (first : Option Report) (c : rings.Candidate) (cs : List rings.Candidate) (r : Report) →
       Refused r ≡ judged_at d l c →
       found_in d l (Some (unwrap_or first r)) cs ≡ found_in d l first (c ∷ cs)
@@ -107,7 +107,7 @@ module _ (l : LaneState) (k : ℕ) (r : LaneRing) (ring : get l.rings k ≡ Some
   abbrev d : Descriptor
   d = head_of r l
 
-  -- the ring's map is not there, or the device may not read the descriptor at the head
+  -- the ring's map is not there, or the device's read of the descriptor at the head is refused
   pub step-unread : (x : Report) → IsUnread l r.mem (head_at r) 16 x → gives l (answer.Report x) ≡ ring_step k l
   step-unread x h =
       sym (ap (λ o. unless_absent o l (λ (q : LaneRing).
@@ -135,7 +135,7 @@ module _ (l : LaneState) (k : ℕ) (r : LaneRing) (ring : get l.rings k ≡ Some
           else if not (is_work d.kind d.len) then gives l (answer.Refused EINVAL)
           else at_first k r d (candidates r l) (slice_get (allowed d l (candidates r l)) 0) l) owned
 
-      -- a device cannot be told so
+      -- no descriptor can say this work
       pub step-invalid : is_work d.kind d.len ≡ false → gives l (answer.Refused EINVAL) ≡ ring_step k l
       step-invalid off = sym (step-owned ∙ ap (λ b. if not b then gives l (answer.Refused EINVAL)
           else at_first k r d (candidates r l) (slice_get (allowed d l (candidates r l)) 0) l) off)
@@ -159,7 +159,7 @@ module _ (l : LaneState) (k : ℕ) (r : LaneRing) (ring : get l.rings k ≡ Some
                 ∙ sym (step-first ∙ ap (λ o. at_first k r d (candidates r l) o l) e)
             by (Some c) e same = absurd (cc)
 
-        -- this one does
+        -- this candidate allows the access
         module _ (c : Candidate) (is : work.At c ≡ work_of d l (candidates r l)) where
           pub first-is : slice_get (allowed d l (candidates r l)) 0 ≡ Some (candidate_of c)
           first-is = by (slice_get (allowed d l (candidates r l)) 0) is

@@ -60,7 +60,7 @@ differ a b no-same = by (a == b) refl
     by true e = absurd (no-same (eqb-true a b e))
     by false e = refl
 
--- what is so, and what follows of two facts of a value, where one was made
+-- a fact that holds in any case, and what follows from two facts of a value if a value was made
 pub always : {T E : Type 0} (r : Result T E) (Q : Type 0) → Q → IfOk r (λ x. Q)
 always (Ok x) Q q = q
 always (Err e) Q q = tt
@@ -76,7 +76,7 @@ module _ (l : LaneState) (d : Descriptor) (c : Candidate) (a : IsAllowedAt l d c
   abbrev at : rings.Candidate
   at = candidate_of c
 
-  -- it reads
+  -- the device reads
   pub read-used : (d.kind == 1) ≡ true → dev_read c.map c.off d.len l ≡ gives (used d at l) (told d at l)
   read-used reads =
       let fine : dev_read_answer (is_known l.memory) (loan_of l.loans c.map) c.off d.len ≡ Fine =
@@ -92,7 +92,7 @@ module _ (l : LaneState) (d : Descriptor) (c : Candidate) (a : IsAllowedAt l d c
   read-wire reads w = sym (ap (λ b. if b then w
       else put (load_buses l c.map c.off d.len) (replicate d.len d.fill) w) reads)
 
-  -- it writes
+  -- the device fills
   module _ (fills : (d.kind == 1) ≡ false) where
     abbrev vs : List ℕ
     vs = replicate d.len d.fill
@@ -129,7 +129,7 @@ lane-of x y e = ap (λ s. (by_reply {X = Outcome} s Nothing).lane) e
 
 -- ---- the driver after it
 
--- where memory and state are the same, it is wired
+-- a driver with the same ideal state and wire is wired too
 pub kept-wired : (h k : Holdings) → IsWired h → ideal_of k ≡ ideal_of h → wire_of k ≡ wire_of h → IsWired k
 kept-wired h k wired same wire =
     let back = sym same in
@@ -142,7 +142,7 @@ kept-wired h k wired same wire =
       faithful = subst (λ n. IsFaithful n (wire_of k)) back (subst (IsFaithful (ideal_of h)) (sym wire) wired.faithful);
     }
 
--- so it is after a write of the device that was done
+-- a driver is wired after a write of its device
 module _ (h k : Holdings) (wired : IsWired h) (stands : Stands (ideal_of h)) (m off : ℕ) (vs : List ℕ)
     (pas : List ℕ) (done : dev_write m off vs (ideal_of h)
     ≡ gives (record (ideal_of h) { memory = written pas vs (ideal_of h).memory }) answer.Done)
@@ -203,7 +203,7 @@ used-either P l d c before after = by (d.kind == 1)
     by true = before
     by false = after
 
--- bytes that are Known stay so where others are written
+-- bytes that are Known stay so if others are written
 known-written : (pas ws : List ℕ) (m : IdealMemory) (a : ℕ) → is_known m a ≡ true → is_known (written pas ws m) a ≡ true
 known-written [] ws m a h = h
 known-written (p ∷ pas) [] m a h = h
@@ -215,7 +215,7 @@ known-written (p ∷ pas) (v ∷ ws) m a h = known-written pas ws (written_at p 
     one true (Some c) k = refl
     one false o k = k
 
--- what the device may read it may read then
+-- what the device may read, it may read if more bytes are Known
 read-more : (f g : ℕ → Bool) → ((a : ℕ) → f a ≡ true → g a ≡ true) → (c : Bool) (i : ℕ) (ps : List Position) →
     judged (dev_read_refusal f c) i ps ≡ Fine → judged (dev_read_refusal g c) i ps ≡ Fine
 read-more f g more c i [] h = refl

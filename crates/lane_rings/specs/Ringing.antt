@@ -1,4 +1,4 @@
--- Steps of a ring's device and postings to a ring, by what a driver holds.
+-- The steps of a ring's device and the postings to a ring, by what a driver holds.
 use Rattle.std.specs.Prelude.{◌≡◌, ℕ, ◌+◌, ◌≤◌, true, false, List, Option, Some, None, if◌then◌else◌, slice_get}
 use Rattle.std.specs.FinMap.{get}
 use Rattle.std.specs.Option.{option_map}
@@ -24,11 +24,11 @@ use Rattle.lane_rings.specs.declared.rings.Work.TheVariants.{Refused, At}
 
 -- What is read
 
--- the device may not read `len` bytes of a map's load, from `off` on
+-- the device's read of `len` bytes of a map's load, from `off` on, is refused with this report
 abbrev pub IsUnread : LaneState → ℕ → ℕ → ℕ → Report → Type 0
 IsUnread l m off len r = (step : Asking Outcome) → unless_unread m off len l step ≡ gives l (answer.Report r)
 
--- it may
+-- the device may read `len` bytes of a map's load, from `off` on
 pub record IsReadable (l : LaneState) (m off len : ℕ) : Type 0 where
   pub map : LaneMap
   pub there : get l.maps m ≡ Some map
@@ -38,17 +38,17 @@ pub record IsReadable (l : LaneState) (m off len : ℕ) : Type 0 where
 
 -- What is done
 
--- a candidate, as the ideal driver has it
+-- the ideal driver's candidate of a candidate of the code
 abbrev pub candidate_of : Candidate → rings.Candidate
 candidate_of c = record { map = c.map; off = c.off }
 
--- the candidate that a map is for a descriptor, if it is one
+-- the candidate of a map for a descriptor, if the map has one
 abbrev pub candidate_in : Descriptor → ℕ → LaneState → ℕ × LaneMap → Option rings.Candidate
 candidate_in d own l e =
     if is_left_out own l e then None
     else option_map (λ off. record { map = e.0; off = off }) (place_of d.addr d.len (segments_in e.1.stage))
 
--- the rules of lending allow the access of a descriptor at a candidate, whose map is loaded and has the range
+-- the rules of lending allow the access of a descriptor at this candidate, whose map is loaded and has the range
 pub record IsAllowedAt (l : LaneState) (d : Descriptor) (c : Candidate) : Type 0 where
   pub map : LaneMap
   pub there : get l.maps c.map ≡ Some map
@@ -56,28 +56,30 @@ pub record IsAllowedAt (l : LaneState) (d : Descriptor) (c : Candidate) : Type 0
   pub range : c.off + d.len ≤ load_length l c.map
   pub fine : judged_at d l (candidate_of c) ≡ Fine
 
--- the first candidate that allows the access, or else a refusal
+-- the work at this candidate, if there is one, or else this refusal
 abbrev pub at_or_refused : Option rings.Candidate → Report → Work
 at_or_refused None r = Refused r
 at_or_refused (Some c) r = At (record { map = c.map; off = c.off })
 
+-- where the device of a ring does what a descriptor says: at the first of these candidates that allows it, or else the
+-- refusal
 abbrev pub work_of : Descriptor → LaneState → List rings.Candidate → Work
 work_of d l cs = at_or_refused (slice_get (allowed d l cs) 0) (blame d l (slice_get cs 0))
 
--- a fact of the candidate, where there is one
+-- a fact of the candidate, if the work is not refused
 abbrev pub IfAt : Work → (Candidate → Type 0) → Type 0
 IfAt (Refused r) P = Unit {0}
 IfAt (At c) P = P c
 
 -- What is posted
 
--- a map may be posted to a ring, and its range has this descriptor
+-- the bytes of a map may be posted to a ring, and this is their descriptor
 pub record IsPosted (l : LaneState) (r : LaneRing) (p : Posting) (d : Descriptor) : Type 0 where
   pub map : LaneMap
   pub there : get l.maps p.map ≡ Some map
   pub may : may_post r p.slot p.map map p.off p.len p.kind l ≡ true
   pub is : d ≡ posted (segments_in map.stage) p.off p.len p.kind p.fill
 
--- it may not
+-- the bytes of a map cannot be posted to a ring
 abbrev pub IsUnposted : LaneState → LaneRing → Posting → Type 0
 IsUnposted l r p = (o : LaneMap) → get l.maps p.map ≡ Some o → may_post r p.slot p.map o p.off p.len p.kind l ≡ false

@@ -1,4 +1,4 @@
-//! What is posted to a ring of a driver at work, and the steps of its device.
+//! What a driver posts to its rings, and the steps of their devices.
 #![tactic(auto)]
 
 mod posts;

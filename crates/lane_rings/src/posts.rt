@@ -20,8 +20,8 @@ use lane_state::{Holdings, KeptRing, report};
 use ring_device::descriptor_bytes;
 use std::alloc::{AllocError, Global};
 
-/// What is posted to a slot of a ring: the `len` bytes of a map's load from `off` on, whether the device shall read
-/// them or fill them, by `kind`, and what it shall fill them with.
+/// What is posted to a slot of a ring: `len` bytes of a map's load, from `off` on. By `kind` the device is to read them
+/// (1) or to fill them with the byte `fill` (2).
 #[derive(Clone, Copy, Debug)]
 pub struct Posting {
     pub slot: u32,
@@ -32,7 +32,15 @@ pub struct Posting {
     pub fill: u8,
 }
 
-/// The driver writes the descriptor of what it posts to a ring, for the device.
+/// Posts to a ring: the driver writes the descriptor of the posting to its slot, for the device. Returns the answer of
+/// the operation.
+///
+/// The answer is `Absent`, `NotLoaded` or `PastEnd` if the ring, its memory or the bytes are not there, and `EINVAL` if
+/// they cannot be posted. The driver's write of the descriptor can also be refused. This project's own rule.
+///
+/// # Errors
+///
+/// `AllocError` if memory runs out. The driver and its bytes are then unchanged.
 pub fn post(
     holdings: &mut Holdings<'_>,
     alloc: Global,
@@ -74,8 +82,9 @@ pub fn post(
     cpu_write(holdings, alloc, place, &descriptor_bytes(&descriptor))
 }
 
-/// The descriptor of what is posted to a ring, or None where it may not be: there is no such slot, a device cannot be
-/// told so, the map is the ring's own or one of an IOMMU tag, or the range does not lie in one segment.
+/// Returns the descriptor of what is posted to a ring. Returns `None` if it cannot be posted: the ring has no such
+/// slot, no descriptor can say the work, the map is the ring's own or one of an IOMMU tag, or the range is not in one
+/// segment.
 fn descriptor_of(holdings: &Holdings<'_>, ring: KeptRing, posting: Posting) -> Option<Descriptor>
     requires wired { IsWired holdings.now }
     requires loaded { has_load (get holdings.now.maps.map posting.map) ≡ true }
@@ -101,14 +110,19 @@ fn descriptor_of(holdings: &Holdings<'_>, ring: KeptRing, posting: Posting) -> O
     })
 }
 
-/// Whether a device can be told this: to read or to fill, and one to 4096 bytes.
+/// Returns whether a descriptor can say this work: its kind is to read (1) or to fill (2), and it has 1 to 4096 bytes.
 pub(crate) fn is_work(kind: u8, len: u64) -> bool
     ensures { result ≡ is_work kind len }
 {
     (kind == 1 || kind == 2) && 1 <= len && len <= 4096
 }
 
-/// The steps of a ring's device join the transfer queue.
+/// Has the steps of a ring's device join the transfer queue, and returns the answer. The answer is `Absent` if there is
+/// no such ring.
+///
+/// # Errors
+///
+/// `AllocError` if memory runs out. The driver and its queues are then unchanged.
 pub fn kick(holdings: &mut Holdings<'_>, ring: u32, steps: &ItemList) -> Result<Answer, AllocError>
     requires room { length steps.now ≤ holdings.old.agenda.room }
     ensures done { IfOk result (λ answer.

@@ -34,21 +34,29 @@ use phys_memory::LanePages;
 use ring_device::descriptor_of;
 use std::alloc::{AllocError, Global};
 
-/// A map, and the place in its load of the bytes that a descriptor names.
+/// A map, and the offset in its load of the bytes that a descriptor names.
 #[derive(Clone, Copy)]
 struct Candidate {
     map: u32,
     off: u64,
 }
 
-/// Where the device of a ring does what a descriptor says, if it may do so anywhere.
+/// The candidate at which the device of a ring does what a descriptor says, or the refusal if no candidate allows it.
 #[derive(Clone, Copy)]
 enum Work {
     Refused(Report),
     At(Candidate),
 }
 
-/// The device of a ring fetches the descriptor at the head, and does what it says at the first map that allows it.
+/// Makes a step of a ring's device: it fetches the descriptor at the head, and does what the descriptor says at the
+/// first map that allows it. Returns the answer of the step.
+///
+/// Afterwards the descriptor is done and the driver's again, and the head is at the next slot. If the step is refused,
+/// or the descriptor is the driver's, nothing changes. This project's own rule.
+///
+/// # Errors
+///
+/// `AllocError` if memory runs out. The driver and its bytes are then unchanged.
 pub fn ring_step(
     holdings: &mut Holdings<'_>,
     alloc: Global,
@@ -87,13 +95,14 @@ pub fn ring_step(
         Work::Refused(refusal) => return Ok(Answer::Report(refusal)),
         Work::At(candidate) => candidate,
     };
+    // The access comes first, because only it can run out of memory.
     let answer = access(holdings, alloc, descriptor, candidate)?;
     retire(holdings, kept);
     move_on(holdings, ring, kept);
     Ok(answer)
 }
 
-/// Where the descriptor at the head of a ring lies, in the ring's memory.
+/// Returns the physical address of the descriptor at the head of a ring, in the ring's memory.
 fn head_in(memory: &KeptMemory, ring: KeptRing) -> Pa
     requires { memory.now.first.0 ≤ 2 ^ 42 }
     ensures { result.0 ≡ memory.now.first.0 + head_at (ring_of ring) }
@@ -101,7 +110,7 @@ fn head_in(memory: &KeptMemory, ring: KeptRing) -> Pa
     Pa(memory.first.0 + 16 * ring.head as u64)
 }
 
-/// The descriptor that lies at an address, in one frame.
+/// Reads the descriptor at an address. Its 16 bytes are in one frame.
 fn read_descriptor(memory: &LanePages, at: Pa) -> Descriptor
     requires there { has_frame memory.now.memory (at.0 / 4096) ≡ true }
     requires inside { at.0 % 4096 + 16 ≤ 4096 }
@@ -112,7 +121,8 @@ fn read_descriptor(memory: &LanePages, at: Pa) -> Descriptor
     descriptor_of(&bytes)
 }
 
-/// The refusal of a device that may not read `len` bytes of a map's load, from `off` on.
+/// Returns the refusal of a device's read of `len` bytes of a map's load, from `off` on. Returns `None` if the device
+/// may read them.
 fn unread(holdings: &Holdings<'_>, map: u32, off: u64, len: u64) -> Option<Report>
     ensures refused { IfSome result (IsUnread (ideal_of holdings.now) map off len) }
     ensures readable { IfNone result (IsReadable (ideal_of holdings.now) map off len) }
@@ -130,8 +140,10 @@ fn unread(holdings: &Holdings<'_>, map: u32, off: u64, len: u64) -> Option<Repor
     }
 }
 
-/// The first candidate for a descriptor that allows the access, of those maps that are not the ring's own; or the
-/// refusal of the first candidate. It looks through the segments of a map once, and of no map behind that candidate.
+/// Returns the first candidate for a descriptor that allows the access. If no candidate allows it, returns the refusal
+/// of the first one, and `Untranslated` if there is no candidate.
+///
+/// Maps after the candidate that is found are not looked at.
 fn find_work(holdings: &Holdings<'_>, own: u32, descriptor: Descriptor) -> Work
     requires wired { IsWired holdings.now }
     ensures is { result ≡ work_of descriptor (ideal_of holdings.now)
@@ -154,8 +166,8 @@ fn find_work(holdings: &Holdings<'_>, own: u32, descriptor: Descriptor) -> Work
     }))
 }
 
-/// The candidate that a map is for a descriptor: the first of its segments that has all bytes which the descriptor
-/// names. The ring's own map is none, and none is one of an IOMMU tag.
+/// Returns the candidate of a map for a descriptor: the place of the bytes that the descriptor names, in the first
+/// segment that has them all. Returns `None` if no segment does, and for the ring's own map and maps of IOMMU tags.
 fn candidate_in(
     holdings: &Holdings<'_>,
     own: u32,
@@ -179,7 +191,7 @@ fn candidate_in(
     Some(Candidate { map, off })
 }
 
-/// Whether a map is no candidate, wherever its load lies: it is the ring's own, or one of an IOMMU tag.
+/// Returns whether a map is never a candidate, because it is the ring's own or one of an IOMMU tag.
 fn is_left_out(holdings: &Holdings<'_>, own: u32, map: u32) -> bool
     ensures { (o : LaneMap) → get (ideal_of holdings.now).maps map ≡ Some o →
         result ≡ is_left_out own (ideal_of holdings.now) (map, o) }
@@ -187,7 +199,7 @@ fn is_left_out(holdings: &Holdings<'_>, own: u32, map: u32) -> bool
     map == own || holdings.is_device(map)
 }
 
-/// What the rules of lending say of the access of a descriptor at a candidate.
+/// Judges the access of a descriptor at a candidate by the rules of lending.
 fn judge(holdings: &Holdings<'_>, descriptor: Descriptor, candidate: Candidate) -> Judged
     requires there { IsSome (get holdings.now.loans.loans candidate.map) }
     requires range { candidate.off + descriptor.len ≤ length (buffer_of holdings.now.loans candidate.map) }
@@ -202,7 +214,7 @@ fn judge(holdings: &Holdings<'_>, descriptor: Descriptor, candidate: Candidate) 
     }
 }
 
-/// The device does what a descriptor says, at a candidate that allows it.
+/// Does what a descriptor says, at a candidate that allows it.
 fn access(
     holdings: &mut Holdings<'_>,
     alloc: Global,
@@ -231,8 +243,8 @@ fn access(
     dev_write(holdings, alloc, candidate.map, candidate.off, &bytes)
 }
 
-/// The descriptor at the head of a ring is the driver's again, and done. Its bytes are Known already, so that this
-/// takes no memory.
+/// Marks the descriptor at the head of a ring as done, and gives it back to the driver. Its bytes are Known already, so
+/// this takes no memory.
 fn retire(holdings: &mut Holdings<'_>, ring: KeptRing)
     requires wired { IsWired holdings.old }
     requires memory { IsSome (get holdings.old.memories.map ring.mem) }
@@ -253,7 +265,7 @@ fn retire(holdings: &mut Holdings<'_>, ring: KeptRing)
     holdings.memory.write(owner, &[0, 1]);
 }
 
-/// The head of a ring is at its next slot, and at the first behind the last.
+/// Moves the head of a ring to its next slot, or from the last slot to the first.
 fn move_on(holdings: &mut Holdings<'_>, ring: u32, kept: KeptRing)
     requires there { get holdings.old.rings.map ring ≡ Some kept }
     requires head { kept.head < kept.slots }

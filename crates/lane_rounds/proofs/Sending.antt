@@ -1,4 +1,4 @@
--- A driver at work may go to another thread where its door may.
+-- A driver at work may go to another thread if its door may.
 use denote.RattleType.{RattleType}
 use denote.Ref.{NamedLft}
 use denote.Param.Send.{IsSend, IsSync, sendable}

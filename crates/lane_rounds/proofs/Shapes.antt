@@ -89,7 +89,7 @@ taking {X} (Asks c k) = takes c
 record IsFree {X : Type 0} (x : Asking X) : Type 0 where
   is : taking x ≡ false
 
--- what is known of a turn without a call, and of one with a call
+-- what is known of a turn without a call, and of a turn with a call
 abbrev pub Shape : LaneState → Asking Turned → Type 0
 Shape l (Gives t) = (is_step t.turn ≡ true) ⊎ (t.lane ≡ l)
 Shape l (Asks c k) =
@@ -299,7 +299,7 @@ module _ (l : LaneState) where
 
 -- ---- turns
 
--- either way a step is one
+-- if both of two turns are steps, so is either
 either-steps : (b : Bool) (x y : Turned) → is_step x.turn ≡ true → is_step y.turn ≡ true →
     is_step (if b then x else y).turn ≡ true
 either-steps true x y h k = h

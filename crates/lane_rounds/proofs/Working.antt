@@ -44,7 +44,7 @@ hold_of lane c r = record { lane = record { 0 = lane }; call = c; reply = r }
 of_lane-own : (lane : ℕ) (c : HubCall) (r : HubReply) → of_lane lane (hold_of lane c r ∷ []) ≡ hold_of lane c r ∷ []
 of_lane-own lane c r = rw (eq-eqb lane lane refl) refl
 
--- an own hold is one entry more of the lane
+-- a hold of the driver's own is one more entry of the lane
 own-holds : (lane : ℕ) (d e : Seen) (c : HubCall) (r : HubReply) → IsTrue (d.serves lane) → Holds d lane c r e →
     of_lane lane e.history ≡ of_lane lane d.history ++ hold_of lane c r ∷ []
 own-holds lane d e c r served h =
@@ -169,7 +169,7 @@ module _ (l : LaneState) (t : Turned) (d e : Seen) (none : is_step t.turn ≡ fa
 
 module _ (first l m : LaneState) (log more : Log) (s : Side) (d e : Seen) (work : IsAtWork first l log d)
     (served : IsServed m e) where
-  -- its run, where its own entries are by its number now
+  -- the run of a driver, if its own entries are by its number now
   same-id : l.id ≡ first.id
   same-id = work.own
 

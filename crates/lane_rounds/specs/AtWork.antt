@@ -18,7 +18,7 @@ pub record IsAtWork (first lane : LaneState) (log : Log) (d : Seen) : Type 0 whe
   pub runs : Runs first log (of_lane first.id d.history) lane
   pub served : IsServed lane d
 
--- so it is of a worker, by what its door has seen
+-- a worker's driver came from its first state by the worker's log and what its door has seen, and the door serves it
 abbrev pub Works : {D F : Type 0} → (D → Seen) → Worker D F → Type 0
 Works seen w = IsAtWork (ideal w.first.value) (ideal w.lane) w.log.items (seen w.door)
 
@@ -27,10 +27,11 @@ pub record Place (F : Type 0) : Type 0 where
   pub first : LaneState
   pub fixed : F
 
+-- what no turn of this worker changes: its driver's first state, and what is fixed of its door
 abbrev pub place_of : {D F : Type 0} → (D → F) → Worker D F → Place F
 place_of fixed w = record { first = ideal w.first.value; fixed = fixed w.door }
 
--- a worker went on from its place
+-- a worker is still at work, and has the same first state and the same fixed part of its door
 pub record GoesOn {D F : Type 0} (seen : D → Seen) (fixed : D → F) (before after : Worker D F) : Type 0 where
   pub works : Works seen after
   pub place : place_of fixed after ≡ place_of fixed before
@@ -42,18 +43,19 @@ waiting_after n (did.Callback m) a = n - 1
 waiting_after n d (answer.InProgress have need) = min (n + 1) (2 ^ 32 - 1)
 waiting_after n d a = n
 
--- a log has become longer where steps were made, and is as it was where none was
+-- a log has become longer if a step was made, and is as it was if none was
 abbrev pub Grows : Log → Log → Bool → Type 0
 Grows before after true = length before < length after
 Grows before after false = after ≡ before
 
--- a worker tells that its last round made a step, and that memory ran out in a round
+-- whether a worker says that its last round made a step
 abbrev pub tells_step : {D F : Type 0} → Worker D F → Bool
 tells_step w = w.stepped
 
+-- whether a worker says that memory ran out in a round
 abbrev pub tells_failure : {D F : Type 0} → Worker D F → Bool
 tells_failure w = w.failed
 
--- after a round a worker tells whether it made a step, unless memory ran out
+-- after a round, a worker says rightly whether it made a step, unless memory ran out
 abbrev pub Tells : {D F : Type 0} → Worker D F → Worker D F → Type 0
 Tells before after = tells_failure after ≡ false → Grows before.log.items after.log.items (tells_step after)

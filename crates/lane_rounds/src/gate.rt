@@ -2,8 +2,8 @@
 
 use busdma_base::LaneId;
 
-/// Is called before each turn of a driver of a run on threads; a driver's turns are counted from 0
-/// over the whole run.
+/// What is called before each turn of a driver in a run on threads, for example to decide the order of turns. A
+/// driver's turns are counted from 0, through all its rounds.
 pub trait Gate {
     fn at(&self, lane: LaneId, turn: u64);
 }

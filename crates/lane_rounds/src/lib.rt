@@ -1,4 +1,4 @@
-//! Drivers at work on threads: their turns behind a gate, their cycles and their rounds.
+//! Drivers at work on threads: their turns, each of which passes a gate first, their cycles and their rounds.
 #![tactic(auto)]
 
 mod gate;

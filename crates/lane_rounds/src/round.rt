@@ -12,11 +12,11 @@ use std::sync::Wait;
 use std::thread;
 use std::thread::Threads;
 
-/// How many threads a round has at the most. A scenario has no more drivers.
+/// The most threads of a round. A scenario has no more drivers.
 const MOST_THREADS: usize = 16;
 
-/// A round of each driver. With up to 16 drivers each is on a thread of its own, where one can be
-/// made. Each worker tells afterwards whether it made a step. May wait for ever.
+/// Makes a round of each driver. With up to 16 drivers, each driver is on a thread of its own if the thread can be
+/// made. Afterwards each worker says whether it made a step. May wait forever.
 pub fn round_on_threads<R: Threads + Wait + Sync, D: HubDoor + Drop + Send, G: Gate + Sync>(
     rt: &R,
     alloc: Global,

@@ -19,7 +19,7 @@ use std::collections::VecDeque;
 use std::snapshot::Snapshot;
 use std::sync::Wait;
 
-/// A driver, its door to the bounce lock, and the log of its steps.
+/// A driver with its door to the bounce lock and the log of its steps.
 #[derive(Drop)]
 pub struct Worker<'s, D: HubDoor + Drop> {
     pub(crate) first: Snapshot<Lane<'s>>,
@@ -33,7 +33,7 @@ pub struct Worker<'s, D: HubDoor + Drop> {
     pub(crate) failed: bool,
 }
 
-/// How many loads of a driver wait after a step, where `waiting` did so before it.
+/// Returns how many loads of a driver wait after a step, if `waiting` loads waited before it.
 fn waiting_after(waiting: u32, entry: &JournalEntry) -> u32
     ensures { result ≡ work.waiting_after waiting entry.now.did entry.now.answer }
 {
@@ -44,7 +44,7 @@ fn waiting_after(waiting: u32, entry: &JournalEntry) -> u32
     }
 }
 
-/// What is left of a worker that has done its work.
+/// What a worker leaves when its work is done.
 #[derive(Drop)]
 pub struct Finished<'s, D: Drop> {
     pub lane: Lane<'s>,
@@ -54,7 +54,7 @@ pub struct Finished<'s, D: Drop> {
 }
 
 impl<'s, D: HubDoor + Drop> Worker<'s, D> {
-    /// A driver of this number that has made no step yet. Takes no memory.
+    /// Makes the worker of a driver with this number that has made no step yet. Takes no memory.
     pub fn new(alloc: Global, id: LaneId, lane: Lane<'s>, door: D) -> Worker<'s, D>
         requires served { IsServed (ideal lane) (D.seen door) }
         requires none { of_lane (ideal lane).id (D.seen door).history ≡ [] }
@@ -74,8 +74,8 @@ impl<'s, D: HubDoor + Drop> Worker<'s, D> {
         }
     }
 
-    /// The turn of a side, behind the gate. Tells whether it was a step. By the code alone, running out of memory
-    /// leaves the driver and its log as they were, and the turn is counted.
+    /// Makes the turn of a side, after the gate. Returns whether it was a step. If memory runs out, the driver and its
+    /// log are as they were, and the turn is counted; no clause says this.
     fn turn<G: Gate>(&mut self, alloc: Global, gate: &G, side: Side) -> Result<bool, AllocError>
         requires { Works D.seen self.old }
         ensures works { Works D.seen self.new }
@@ -84,6 +84,7 @@ impl<'s, D: HubDoor + Drop> Worker<'s, D> {
     {
         gate.at(self.id, self.turns);
         self.turns = self.turns.saturating_add(1);
+        // Room is taken before the turn, so a step that is made always joins the log.
         self.log.reserve(1)?;
         let turn = self.lane.turn(alloc, &mut self.door, side)?;
         match turn {
@@ -96,8 +97,8 @@ impl<'s, D: HubDoor + Drop> Worker<'s, D> {
         }
     }
 
-    /// Returns whether a side makes no step, for which it only looks. If no load of the driver waits, no callback can be
-    /// its own; that the count of these is right is not said here.
+    /// Returns whether a side makes no step, as far as the driver can see without a call. If no load of the driver
+    /// waits, no callback is its own. No clause says that the count of waiting loads is right.
     fn is_idle(&self, side: Side) -> bool
         ensures script { side ≡ sides.Script → result ≡ not (has_step (ideal self.now.lane)) }
         ensures device { side ≡ sides.Transfer → result ≡ not (is_some (slice_get (ideal self.now.lane).queue 0)) }
@@ -109,8 +110,8 @@ impl<'s, D: HubDoor + Drop> Worker<'s, D> {
         }
     }
 
-    /// The turn of a side. Where a look tells that it makes no step, it is counted and no more, and the lock, which all
-    /// other drivers want, is not asked.
+    /// Makes the turn of a side, and returns whether it was a step. If the driver sees without a call that the side
+    /// makes no step, the turn is only counted, and the lock is not asked for. All other drivers need the lock too.
     fn side_turn<G: Gate>(
         &mut self,
         alloc: Global,
@@ -130,7 +131,7 @@ impl<'s, D: HubDoor + Drop> Worker<'s, D> {
         Ok(false)
     }
 
-    /// A turn of each side. Tells whether any was a step.
+    /// Makes a turn of each side. Returns whether any turn was a step.
     fn cycle<G: Gate>(&mut self, alloc: Global, gate: &G) -> Result<bool, AllocError>
         requires { Works D.seen self.old }
         ensures works { Works D.seen self.new }
@@ -143,7 +144,7 @@ impl<'s, D: HubDoor + Drop> Worker<'s, D> {
         Ok(called || moved || went_on)
     }
 
-    /// Cycles until one makes no step. Tells whether any did.
+    /// Makes cycles until one has no step. Returns whether any had one.
     fn cycles<R: Wait, G: Gate>(
         &mut self,
         rt: &R,
@@ -165,7 +166,8 @@ impl<'s, D: HubDoor + Drop> Worker<'s, D> {
         Ok(stepped)
     }
 
-    /// The driver's round: cycles until one makes no step, or memory runs out.
+    /// Makes the driver's round: cycles until one has no step, or until memory runs out.
+    /// [`Worker::has_stepped`] and [`Worker::has_failed`] say afterwards what happened. May wait forever.
     pub fn round<R: Wait, G: Gate>(&mut self, rt: &R, alloc: Global, gate: &G)
         requires { Works D.seen self.old }
         ensures works { Works D.seen self.new }
@@ -178,22 +180,22 @@ impl<'s, D: HubDoor + Drop> Worker<'s, D> {
         }
     }
 
-    /// Whether the last round made a step, where memory never ran out. By the clause of a round the log is
-    /// longer than before it where it did, and as it was where it did not.
+    /// Returns whether the last round made a step, if memory never ran out. By the contract of [`Worker::round`], the
+    /// log has then become longer in that round, and is otherwise as it was.
     pub fn has_stepped(&self) -> bool
         ensures { result ≡ tells_step self.now }
     {
         self.stepped
     }
 
-    /// Whether memory ran out in a round. After that nothing is known of what [`Worker::has_stepped`] tells.
+    /// Returns whether memory ran out in a round. After that, [`Worker::has_stepped`] says nothing.
     pub fn has_failed(&self) -> bool
         ensures { result ≡ tells_failure self.now }
     {
         self.failed
     }
 
-    /// The driver, its door, its log and the number of its turns.
+    /// Returns the driver, its door, its log and the number of its turns.
     pub fn finish(self) -> Finished<'s, D>
         requires { Works D.seen self }
         ensures work { IsAtWork (place_of D.fixed self.entry).first (ideal result.lane) result.log.items (D.seen result.door) }

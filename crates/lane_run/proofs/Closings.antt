@@ -60,7 +60,7 @@ steps-there w actor after e done = by (slice_get w.lanes actor.lane.0) refl
         ap (λ (x : WorldTurned). x.turn) done ∙ ap (λ o. (step_of w actor o).turn) none in absurd (cc)
     by (Some l) there = (l, there)
 
--- who has a log
+-- which driver has a log
 pub step-logged : {Q : Type 0} (s : Scenario) (items : Q → Log) (qs : List Q) (history : List HoldEntry)
     (w after : WorldState) (actor : Actor) (e : JournalEntry) → RunsTo s (map items qs) history w →
     record { world = after; turn = Stepped e } ≡ step w actor → actor.lane.0 < length qs
@@ -127,7 +127,7 @@ module _ (s : Scenario) (valid : IsValid s) (logs : List Log) (history more : Li
               (slice_set logs i (log_of logs i ++ logged e held ∷ [])) x.0 x.1) (λ t. (sym grown t, sym lanes t)) on;
         }
 
-    -- and leaves less to do
+    -- a step leaves less to do
     pub step-turned : HaveTurned (actor ∷ []) w after true
     step-turned =
         subst (λ (x : WorldState). left_of x < left_of w) (sym (ap (λ (x : WorldTurned). x.world) done))
@@ -210,9 +210,9 @@ at-rest s w well none a = by_place (nat_lt a.lane.0 (length s.drivers)) refl
         (in_round w (length s.drivers) 0 a.lane.0 a.side (none-steps w (round_of s) none) (grind (arith, nat_tests)))
     by_place false t = past-rests w a (let c = well.count in grind (arith, nat_tests))
 
--- ---- where no turn was made
+-- ---- if no turn was made
 
--- a log of none that are all empty is empty
+-- if all logs are empty, each of them is
 empty-log : {Q : Type 0} (items : Q → Log) (qs : List Q) → All (λ q. items q ≡ []) qs → (i : ℕ) →
     log_of (map items qs) i ≡ []
 empty-log items [] none i = refl

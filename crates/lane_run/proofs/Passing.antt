@@ -152,7 +152,7 @@ has-run s names first ls ms logs qs hub start count opened f h c =
     length-map [] = refl
     length-map (k ∷ ks) = ap suc (length-map ks)
 
--- what was written back through a slice of the whole
+-- what was written back through a slice of all values
 take_back : {A : Type 0} (xs zs : List A) (n : ℕ) → n ≡ length xs → take n (xs ++ zs) ≡ xs
 take_back xs zs n e = ap (λ k. take k (xs ++ zs)) e ∙ whole xs zs
   where

@@ -1,4 +1,4 @@
--- A lane's door may go to another thread where the handle may be shared.
+-- A lane's door may go to another thread if the handle may be shared.
 use denote.RattleType.{RattleType}
 use denote.Ref.{NamedLft}
 use denote.Param.Send.{IsSend, IsSync, sendable}

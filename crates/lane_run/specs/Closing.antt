@@ -9,12 +9,12 @@ use Rattle.ideal_runs.specs.FromLogs.{RunsTo}
 use Rattle.world_core.specs.Ideal.{holds, ideal_world}
 use Rattle.lane_run.specs.declared.closing.Closing.{Closing}
 
--- a run's logs and the holds so far run its scenario's opening to its world
+-- by a run's logs and the holds so far, the scenario's opening leads to the run's world
 abbrev pub HasCome : Scenario → Closing → Type 0
 HasCome s c = RunsTo s (map (λ l. l.items) c.logs.items) (holds c.world) (ideal_world c.world)
 
--- the turns of actors led from one world to another: where none was a step, it is the same world, and none of them can
--- step there; where one was, less is left to do
+-- the turns of actors lead from one world to another: if no turn was a step, the world is the same and no actor can
+-- step in it; otherwise there is less left to do
 abbrev pub HaveTurned : List Actor → WorldState → WorldState → Bool → Type 0
 HaveTurned actors w v false = (v ≡ w) × All (λ a. step_entry v a ≡ None) actors
 HaveTurned actors w v true = left_of v < left_of w

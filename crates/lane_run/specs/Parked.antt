@@ -8,7 +8,7 @@ use Rattle.lane_threads.specs.PassDoor as pass
 use Rattle.lane_rounds.specs.AtWork.{IsAtWork}
 use Rattle.lane_run.specs.Seated.{Seat, seat_of}
 
--- of each seat its driver and its log, by what its pass knows, which is the one that the seat had
+-- of each seat, in order: its driver and its log, by what its pass knows, and the pass is the one that the seat had
 abbrev pub ArePassed : List Seat → List Lane → List Log → List LanePass → Type 0
 ArePassed [] [] [] [] = Unit {0}
 ArePassed (w ∷ ws) (l ∷ ls) (log ∷ logs) (q ∷ qs) =

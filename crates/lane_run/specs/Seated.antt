@@ -11,14 +11,14 @@ use Rattle.lane_threads.specs.PassDoor.{seen_from}
 use Rattle.lane_rounds.specs.declared.worker.Worker.{Worker}
 use Rattle.lane_rounds.specs.AtWork.{Place, Works, place_of}
 
--- the driver has this number; a door with a pass of its name, which knows what the first pass does, serves it, and it
--- has made no hold
+-- the driver has this number and has made no hold; the door of a pass with its name that knows what the first pass
+-- knows serves it
 pub record IsFresh (first : LanePass) (i : ℕ) (l : LaneState) : Type 0 where
   pub number : l.id ≡ i
   pub served : IsServed l (seen_from first.start (i + 1) first.front)
   pub none : of_lane l.id (seen_from first.start (i + 1) first.front).history ≡ []
 
--- so it is of drivers, the first of which has this number
+-- each of these drivers is fresh, and they are numbered from this one on
 abbrev pub AreFresh : LanePass → ℕ → List Lane → Type 0
 AreFresh first i [] = Unit {0}
 AreFresh first i (l ∷ ls) = IsFresh first i (ideal l) × AreFresh first (i + 1) ls
@@ -27,18 +27,18 @@ AreFresh first i (l ∷ ls) = IsFresh first i (ideal l) × AreFresh first (i + 1
 abbrev pub Seat : Type 0
 Seat = Worker LanePass pass.Place
 
--- its place
+-- what no turn changes of a seat: its driver's first state, and which pass its door has
 abbrev pub seat_of : Seat → Place pass.Place
 seat_of w = place_of pass.place_of w
 
--- it is at work, began as this driver, and its pass is one of the turnstile
+-- the seat is at work, began as this driver, and has a pass of this turnstile
 pub record IsSeated (first : LanePass) (l : Lane) (w : Seat) : Type 0 where
   pub works : Works pass.seen w
   pub began : (seat_of w).first ≡ ideal l
   pub turnstile : (seat_of w).fixed.turnstile ≡ first.turnstile
   pub start : (seat_of w).fixed.start ≡ first.start
 
--- so it is of each driver
+-- each of these seats is at work, began as its driver, and has a pass of this turnstile
 abbrev pub AreSeated : LanePass → List Lane → List Seat → Type 0
 AreSeated first [] [] = Unit {0}
 AreSeated first (l ∷ ls) (w ∷ ws) = IsSeated first l w × AreSeated first ls ws

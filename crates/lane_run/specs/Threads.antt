@@ -8,7 +8,8 @@ use Rattle.ideal_runs.specs.Runs.{Log}
 use Rattle.world_core.specs.Kept.{world_of}
 use Rattle.ideal_runs.specs.FromLogs.{RunsTo}
 
--- the hub began with the scenario's opening account, and by its history the logs run the opening to the drivers' world
+-- the hub began with the scenario's opening account, and by its history the logs lead from the scenario's opening to
+-- the drivers' world
 pub record HasRun (s : Scenario) (lanes : List Lane) (logs : List Log) (hub : HubSeen) : Type 0 where
   pub begins : hub.opening ≡ opening s
   pub run : RunsTo s logs hub.history (world_of lanes hub)

@@ -1,4 +1,4 @@
-//! The last rounds of a run, on one thread, and its journal.
+//! The last rounds of a run, on one thread, and the run's journal.
 
 ghost use Rattle.std.specs.Prelude.{◌≡◌, ◌∷◌, [], All, IfOk, None, OnOk};
 ghost use Rattle.busdma_base.specs.Scenarios.Valid.{IsValid};
@@ -15,8 +15,8 @@ use lane_rounds::Gate;
 use std::alloc::{AllocError, Global};
 use world_core::{World, round_of};
 
-/// How far a run has come: its world, the log of each driver in the order of their numbers, and how
-/// many turns each was given.
+/// How far a run has come: its world, the log of each driver in the order of the drivers' numbers, and how many turns
+/// each driver was given.
 #[derive(Drop)]
 pub(crate) struct Closing<'s> {
     pub(crate) world: World<'s>,
@@ -24,7 +24,7 @@ pub(crate) struct Closing<'s> {
     pub(crate) turns: Vec<u64>,
 }
 
-/// Tells the gate of a driver's next turn, and counts it.
+/// Calls the gate for a driver's next turn, and counts the turn.
 fn pass_gate<G: Gate>(gate: &G, turns: &mut [u64], lane: LaneId) {
     let at = lane.0 as usize;
     if at < turns.len() {
@@ -34,7 +34,7 @@ fn pass_gate<G: Gate>(gate: &G, turns: &mut [u64], lane: LaneId) {
 }
 
 impl Closing<'_> {
-    /// An actor's turn, behind the gate. A step joins its driver's log. Tells whether it was one.
+    /// Makes an actor's turn, after the gate, and returns whether it was a step. A step joins its driver's log.
     fn turn<G: Gate>(
         &mut self,
         alloc: Global,
@@ -60,7 +60,7 @@ impl Closing<'_> {
         }
     }
 
-    /// The turns of actors, in order. Tells whether any was a step.
+    /// Makes the turns of actors, in order. Returns whether any turn was a step.
     fn turns<G: Gate>(
         &mut self,
         alloc: Global,
@@ -81,7 +81,7 @@ impl Closing<'_> {
         Ok(stepped)
     }
 
-    /// Rounds over these actors until a whole round makes no step.
+    /// Makes rounds of these actors until a complete round has no step.
     fn rounds<G: Gate>(
         &mut self,
         alloc: Global,
@@ -103,8 +103,8 @@ impl Closing<'_> {
     }
 }
 
-/// Goes on with a run of a scenario, by rounds on one thread behind the gate, until a whole round
-/// makes no step, and merges the drivers' logs to its journal.
+/// Continues the run of a scenario by rounds on one thread, each turn after the gate, until a complete round has no
+/// step. Then merges the drivers' logs to the journal.
 pub(crate) fn finish<G: Gate>(
     alloc: Global,
     gate: &G,

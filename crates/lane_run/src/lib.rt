@@ -1,4 +1,4 @@
-//! The run of a scenario whose drivers are on threads: its rounds, its end and its journal.
+//! The run of a scenario with its drivers on threads: its rounds, its end and its journal.
 #![tactic(auto)]
 
 mod closing;

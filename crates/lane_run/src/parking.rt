@@ -1,4 +1,4 @@
-//! Drivers leave their doors.
+//! How drivers leave their doors.
 
 ghost use Rattle.std.specs.Prelude.{All, IfOk, map};
 ghost use Rattle.lane_threads.specs.PassDoor.{seen};
@@ -13,7 +13,7 @@ use std::alloc::{AllocError, Global};
 use std::sync::Wait;
 use turnstile::Pass;
 
-/// Drivers on no thread, in the order of their numbers, with the log and the number of turns of each.
+/// Drivers on no thread, in the order of their numbers, with the log of each and the number of its turns.
 #[derive(Drop)]
 pub(crate) struct Parked<'s> {
     pub(crate) lanes: Vec<Lane<'s>>,
@@ -21,7 +21,7 @@ pub(crate) struct Parked<'s> {
     pub(crate) turns: Vec<u64>,
 }
 
-/// Takes the drivers from their doors, and gives their passes.
+/// Takes the drivers from their doors, and returns them and their passes.
 pub(crate) fn park<'s, Rt: Wait>(
     alloc: Global,
     workers: Vec<Worker<'s, PassDoor<'_, Rt>>>,

@@ -1,4 +1,4 @@
-//! The run of a scenario.
+//! The run of a scenario on threads.
 
 ghost use Rattle.std.specs.Prelude.{◌≡◌, All, IfOk, [], length, map};
 ghost use Rattle.busdma_base.specs.Scenarios.Valid.{IsValid};
@@ -20,7 +20,7 @@ use std::sync::Wait;
 use std::thread::Threads;
 use world_core::{World, opening_parts};
 
-/// The run that drivers have made. Takes no memory.
+/// Returns the run that these drivers have made at this hub. Takes no memory.
 fn closing_of<'s>(scenario: &'s Scenario, parked: Parked<'s>, hub: Hub) -> Closing<'s>
     requires valid { IsValid scenario.now }
     requires ran { HasRun scenario.now parked.lanes.items (map (λ l. l.items) parked.logs.items) hub }
@@ -34,7 +34,7 @@ fn closing_of<'s>(scenario: &'s Scenario, parked: Parked<'s>, hub: Hub) -> Closi
     }
 }
 
-/// So many logs without a step.
+/// Returns `count` logs without a step.
 fn empty_logs(alloc: Global, count: usize) -> Result<Vec<LaneLog>, AllocError>
     ensures count { IfOk result (λ logs. length logs.items ≡ count) }
     ensures empty { IfOk result (λ logs. All (λ log. log.items ≡ []) logs.items) }
@@ -46,7 +46,7 @@ fn empty_logs(alloc: Global, count: usize) -> Result<Vec<LaneLog>, AllocError>
     Ok(logs)
 }
 
-/// The drivers with which a scenario opens, no turn of which was made, and their hub.
+/// Returns the drivers with which a scenario opens, before their first turn, and their hub.
 fn opening_run(alloc: Global, scenario: &Scenario) -> Result<(Parked<'_>, Hub), AllocError>
     requires { IsValid scenario.now }
     ensures { IfOk result (λ ran.
@@ -58,12 +58,16 @@ fn opening_run(alloc: Global, scenario: &Scenario) -> Result<(Parked<'_>, Hub), 
     Ok((Parked { lanes, logs, turns }, hub))
 }
 
-/// Runs the drivers of a scenario on threads, all over one hub, until a round makes no step; goes
-/// rounds on one thread until one makes no step; and gives the journal, which is legal. Its entries are
-/// those of the drivers' logs, which the steps of the last rounds joined: each step that held nothing stands
-/// directly before its driver's next hold, or at the end. Each turn is made behind the gate. Where the
-/// turnstile gives a driver no pass, all rounds are on one thread. An error is that memory ran out. May wait for
-/// ever.
+/// Runs the drivers of a scenario on threads, all over one hub, and returns the journal, which is legal.
+///
+/// Rounds on threads are made until one has no step, and then rounds on one thread until one has no step. Each turn
+/// passes the gate first. The journal's entries are the steps of the drivers' logs: a step that held nothing is
+/// directly before its driver's next hold, or at the end. If a name of the turnstile is taken, all rounds are on one
+/// thread. May wait forever.
+///
+/// # Errors
+///
+/// `AllocError` if memory runs out, on any thread. The scenario is only read, so it can be run again.
 pub fn run_lanes<Rt: Threads + Wait + Sync, G: Gate + Sync>(
     rt: &Rt,
     alloc: Global,

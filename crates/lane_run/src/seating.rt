@@ -1,4 +1,4 @@
-//! Drivers get their passes.
+//! How drivers get their passes.
 
 ghost use Rattle.std.specs.Prelude.{◌≡◌, ◌+◌, ◌<◌, ◌≤◌, ◌^◌, IfOk, IfSome, length};
 ghost use Rattle.lane_run.specs.Seated.{AreFresh, AreSeated};
@@ -11,8 +11,8 @@ use std::alloc::{AllocError, Global};
 use std::sync::Wait;
 use turnstile::{Pass, Turnstile};
 
-/// Drivers at work, each at a door with a pass of its own, whose name is the driver's number plus
-/// one. None where a name was taken.
+/// Puts drivers to work, each at a door with a pass of its own. The pass's name is the driver's number plus one.
+/// Returns `None` if a name was taken.
 pub(crate) fn seat_lanes<'s, 'a, Rt: Wait>(
     rt: &'a Rt,
     alloc: Global,

@@ -1,4 +1,4 @@
-//! The drivers on threads.
+//! The rounds of drivers on threads.
 
 ghost use Rattle.std.specs.Prelude.{◌≡◌, ℕ, ◌<◌, All, IfOk, IfSome, OnOk, false, length, map, slice_index_or};
 ghost use Rattle.busdma_base.specs.Scenarios.Valid.{IsValid};
@@ -18,17 +18,17 @@ use std::thread::Threads;
 use turnstile::Turnstile;
 use world_core::opening_parts;
 
-/// Returns whether a further round is to be made: the last one made a step, and memory has not run out.
+/// Returns whether another round is to be made: the last one made a step, and memory has not run out.
 fn wants_round<Rt: Wait + Sync>(workers: &[Worker<'_, PassDoor<'_, Rt>>]) -> bool {
     let has_failed = workers.iter().any(|worker| worker.has_failed());
     !has_failed && workers.iter().any(|worker| worker.has_stepped())
 }
 
-/// Rounds on threads until one makes no step.
+/// Makes rounds on threads until one has no step.
 ///
 /// # Errors
 ///
-/// Returns `AllocError` if a driver ran out of memory in a round. The drivers are then wherever that left them.
+/// `AllocError` if a driver ran out of memory in a round. The drivers keep the steps that they made.
 fn all_rounds<Rt: Threads + Wait + Sync, G: Gate + Sync>(
     rt: &Rt,
     alloc: Global,
@@ -53,8 +53,8 @@ fn all_rounds<Rt: Threads + Wait + Sync, G: Gate + Sync>(
     Ok(())
 }
 
-/// Runs the drivers of a scenario on threads until a round makes no step. None where a name of the
-/// turnstile was taken.
+/// Runs the drivers of a scenario on threads until a round has no step. Returns `None` if a name of the turnstile was
+/// taken.
 pub(crate) fn run_on_threads<'s, Rt: Threads + Wait + Sync, G: Gate + Sync>(
     rt: &Rt,
     alloc: Global,

@@ -1,4 +1,4 @@
-//! Tests of runs on threads, each of whose journals is judged by stepping a world along it.
+//! Tests of runs on threads. Each journal is judged by stepping a world along it.
 #![tactic(auto)]
 
 #[cfg(test)]

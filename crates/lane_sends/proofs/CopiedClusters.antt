@@ -129,7 +129,7 @@ module _ (h : Holdings) (wired : IsWired h) (s : Send) (due : due_send (ideal_of
         j y.0 y.1
         (reached-once l wired.laid wired.apart wired.machine x.0 y.0 a x.2 (y.2 ∙ ap (λ c. Some c) (sym same)))))))
 
-    -- ---- what is held where they are copied
+    -- ---- what is held after the copy
 
     module _ (there : AreIn h.loans.bytes (addresses from)) (inside : AreIn h.loans.bytes (addresses to)) (n : Memory)
         (is : wire n ≡ put (addresses to) (map (wire h.memory.memory) (addresses from)) (wire h.memory.memory)) where
@@ -153,13 +153,13 @@ module _ (h : Holdings) (wired : IsWired h) (s : Send) (due : due_send (ideal_of
           (subst (AreIn h.loans.bytes) clusters-are inside)
           (marks-held h.loans.bytes h.loans.loans (devices_of h.maps.map) h.memory.memory) a)
 
--- ---- what is held is told alike before and after a load
+-- ---- what is held before a load is held after it
 
 no-pages : (ps : List FrameBytes) → page_addresses ps ≡ [] → ps ≡ []
 no-pages [] e = refl
 no-pages (p ∷ ps) e = absurd (cc)
 
--- a map that stands alike has alike what its load has
+-- two maps with the same ideal state have the same chunks and pages
 device-alike : (o p : Option KeptMap) → lends_pages o ≡ false → lends_pages p ≡ false →
     option_map map_of p ≡ option_map map_of o →
     ((device_of p).pages ≡ (device_of o).pages) ⊎ (((device_of o).pages ≡ []) ⊎ ((device_of p).pages ≡ [])) →

@@ -1,4 +1,5 @@
--- What a load leaves of a driver, whatever the reply to its call: it changes one map alone and no byte, and lends nothing.
+-- What a load leaves of a driver, whatever the reply to its call: it changes only one map and no byte, and lends
+-- nothing.
 use Rattle.std.proofs.Common.{◌≡◌, ℕ, ◌==◌, Bool, true, false, cond, List, [], length, Option, Some, None, refl, ap, ◌∙◌}
 use Rattle.std.proofs.Common.{nat_le, nat_lt, if◌then◌else◌, arith}
 use Rattle.std.proofs.lemmas.Bool.Decides.{nat_tests}
@@ -40,7 +41,7 @@ pub data AreLoansOf (m : ℕ) (before after : Loans) : Type 0 where
   More : (coherent : Bool) (bytes : List ℕ) → after ≡ insert before m (new_loan coherent bytes) →
       AreLoansOf m before after
 
--- a driver has another map at one place alone, and its bytes as they were
+-- a driver after a load has changed one map only, and no byte
 pub record IsAfterLoad (m : ℕ) (l n : LaneState) : Type 0 where
   pub memory : n.memory ≡ l.memory
   pub others : (q : ℕ) → (m == q) ≡ false → get n.maps q ≡ get l.maps q

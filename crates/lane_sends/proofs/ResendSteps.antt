@@ -1,4 +1,4 @@
--- The steps of a resend, by what stands in its way.
+-- The steps of a resend, by what refuses it.
 use Rattle.std.proofs.Common.{◌≡◌, ℕ, true, false, Option, Some, None, refl, sym, ap, ◌∙◌, if◌then◌else◌, map, subst}
 use Rattle.std.specs.FinMap.{get}
 use Rattle.busdma_base.specs.declared.journals.answer.Answer.TheVariants as answer
@@ -43,7 +43,7 @@ asks-on f (Asks c k) = refl
 
 -- ---- a resend
 
--- a report stands in its way, and it leaves the wire
+-- a resend is refused with this report, and leaves the wire
 pub record IsStopped (l : LaneState) (s : Send) (r : Report) : Type 0 where
   pub step : sends.resend s l ≡ gives l (answer.Report r)
   pub wire : (w : Wire) → wires.resend s l w ≡ w
@@ -131,7 +131,7 @@ module _ (l : LaneState) (s : Send) where
           wire = λ w. wire-to-write w ∙ ap (λ j. if_fine j (wires.copied s l w) w) is;
         }
 
-  -- nothing stands in its way: it is the load of the clusters, with the bytes of the chain in them
+  -- a resend that is not refused is the load of the clusters with the bytes of the chain in them
   module _ (u : IsUnrefused l s) where
     pub resend-is : sends.resend s l ≡ goes_on (outcome_with (copied s l).memory) (load_again s l)
     resend-is =

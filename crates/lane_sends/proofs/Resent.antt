@@ -104,7 +104,7 @@ module _ (h k : Holdings) (s : Send) (u : IsUnrefused (ideal_of h) s) (d e : See
       each [] are = tt
       each (x ∷ xs) are = (same-frame x.pa.0 ∙ are.0, each xs are.1)
 
-  -- and then the copy
+  -- the copy comes after the load
   module _ (wired : IsWired h) (due : due_send l ≡ Some s) (from to : List Extent) (are : AreItsBytes l s from to)
       (there : AreIn h.loans.bytes (addresses from)) (inside : AreIn h.loans.bytes (addresses to))
       (n : Holdings) (ideal : ideal_of n ≡ with_marked (addresses to) n.memory.memory k)

@@ -1,4 +1,4 @@
--- What stands of a resend before its bytes are copied.
+-- When a resend is not refused, and which bytes it copies.
 use Rattle.std.specs.Prelude.{◌≡◌, List, true}
 use Rattle.std.specs.FinMap.{get}
 use Rattle.busdma_machine.specs.declared.machine.address.Extent.{Extent}
@@ -12,15 +12,16 @@ use Rattle.ideal_lane.specs.Sends.{Send, chain_bytes, cluster_bytes}
 use Rattle.ideal_lane.specs.State.{LaneState}
 use Rattle.ideal_wire.specs.WireStep.{is_free}
 
--- nothing stands in the way of a resend: its map is idle, its clusters can be loaded, its chain can be read, and its
--- clusters can be written
+-- a resend is not refused: its map is idle, its clusters can be loaded, its chain may be read, and its clusters may be
+-- written
 pub record IsUnrefused (l : LaneState) (s : Send) : Type 0 where
   pub free : is_free (get l.maps s.map) ≡ true
   pub loads : load_judged l s.map (Vector s.clusters) ≡ Fine
   pub reads : cpu_read_answer (is_known l.memory) l.loans (chain_bytes s l) ≡ Fine
   pub writes : cpu_write_answer l.loans (cluster_bytes s l) ≡ Fine
 
--- the bytes of its chain and of its clusters are those of extents
+-- the first extents have the bytes of the resend's chain; the others have the bytes of its clusters, if these can be
+-- loaded
 pub record AreItsBytes (l : LaneState) (s : Send) (from to : List Extent) : Type 0 where
   pub chain : addresses from ≡ chain_bytes s l
   pub clusters : load_judged l s.map (Vector s.clusters) ≡ Fine → addresses to ≡ cluster_bytes s l

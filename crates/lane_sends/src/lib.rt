@@ -1,4 +1,4 @@
-//! Resends of a driver at work: the bytes of a chain that did not fit are copied to clusters and loaded once more.
+//! Resends of a driver at work: the bytes of a chain with too many segments are copied to clusters and loaded again.
 #![tactic(auto)]
 
 mod resends;

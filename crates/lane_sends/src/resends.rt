@@ -1,4 +1,4 @@
-//! Resends: a chain is copied to clusters, and loaded from there once more.
+//! Resends: a chain is copied to clusters, and loaded again from there.
 
 ghost use Rattle.std.specs.Prelude.{◌≡◌, ◌+◌, ◌<◌, ◌≤◌, ◌^◌, length, Some, IfNone, IfOk, IfSome, OnErr, OnOk};
 ghost use Rattle.busdma_base.specs.declared.journals.answer.Answer.TheVariants as answer;
@@ -28,9 +28,18 @@ use lane_state::{Answered, Holdings, LoadBytes, Resend, unheld};
 use mbuf_defrag::copy;
 use std::alloc::{AllocError, Global};
 
-/// Makes the resend that is due, but for the script's going on. Where nothing stands in its way, the clusters get the
-/// bytes of the chain and are loaded, and the load never waits. The load looks at none of these bytes, so they are
-/// copied behind it, when no memory can run out any more: a resend that ran out of memory has copied none.
+/// Makes the resend that is due: the clusters get the bytes of the chain and are loaded. The script's place does not
+/// move here. The load of a resend never waits.
+///
+/// A resend is refused with a report if its map is not idle, if its clusters cannot be loaded, if its chain cannot be
+/// read, or if its clusters cannot be written. The load looks at none of the bytes. So they are copied after it, when
+/// no memory can run out any more. This project's own rule, after network drivers that copy such a chain by
+/// `m_defrag(9)`.
+///
+/// # Errors
+///
+/// `AllocError` if memory runs out, here or at the door. The driver and its bytes are then unchanged, no byte is
+/// copied, and the call is not in the door's history.
 pub fn resend<'s, D: HubDoor>(
     holdings: &mut Holdings<'s>,
     alloc: Global,
@@ -79,8 +88,8 @@ pub fn resend<'s, D: HubDoor>(
     Ok(loaded)
 }
 
-/// What stands in the way of a resend whose chain and clusters lie in these extents: of its map, of the load of its
-/// clusters, of reading its chain, or of writing its clusters.
+/// Returns the refusal of a resend whose chain and clusters are in these extents: by its map, by the load of its
+/// clusters, by reading its chain, or by writing its clusters. Returns `None` if the resend is not refused.
 fn refusal_of(
     holdings: &Holdings<'_>,
     resend: Resend<'_>,
@@ -123,7 +132,7 @@ fn refusal_of(
     None
 }
 
-/// Makes room to mark the bytes of extents.
+/// Makes room to mark the bytes of these extents as Known.
 fn make_room(
     holdings: &mut Holdings<'_>,
     alloc: Global,
@@ -141,7 +150,7 @@ fn make_room(
     holdings.loans.reserve(alloc, parts)
 }
 
-/// Copies the bytes of extents to as many others, in order, which are Known then. There is room to mark them.
+/// Copies the bytes of extents to as many others, in order, and marks these as Known. There is room to mark them.
 fn copy_bytes(holdings: &mut Holdings<'_>, from: &[Extent], to: &[Extent])
     requires from { Lie holdings.old.memory.memory from.now }
     requires to { Lie holdings.old.memory.memory to.now }

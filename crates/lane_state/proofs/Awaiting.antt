@@ -1,4 +1,4 @@
--- What loads that wait keep, as one of the tables changes by which it is told.
+-- What holds of the loads that wait after a change of one of the tables that `AreAwaiting` is about.
 use Rattle.std.proofs.Common.{◌≡◌, ℕ, ◌==◌, Bool, true, false, cond, List, [], ◌∷◌, Option, Some, None, IfSome}
 use Rattle.std.proofs.Common.{Result, Ok, Err, OnOk, OnErr, is_some, refl, sym, ap, ◌∙◌, subst}
 use Rattle.std.proofs.lemmas.Bool.{eq-eqb, eqb-true, false≢true}
@@ -77,7 +77,7 @@ unawaited tags (Some x) none =
 cut-at : {X : Type 0} (m : FinMap nat_cmp X) (k : ℕ) → get (remove m k) k ≡ None
 cut-at m k = get_cut m k k ∙ ap (λ b. cond b None (get m k)) (eq-eqb k k refl)
 
--- no map has a tag, where none of the ideal driver has
+-- no map has a tag if no map of the ideal driver has it
 pub none-tagged : (maps : FinMap nat_cmp KeptMap) (t : ℕ) →
     list_any (λ (e : ℕ × LaneMap). e.1.tag == t) (entries (map_values map_of maps)) ≡ false →
     (q : ℕ) (o : KeptMap) → get maps q ≡ Some o → (o.tag == t) ≡ false
@@ -119,7 +119,7 @@ module _ (pages : List PageRun) (maxmem : ℕ) where
             subst (λ (x : Option Loan × Option (KeptLoad × LoadRoom × Option TagLimits)). Waits x.0 x.1)
             (λ i. (sym (ready q e) i, sym (told q e) i)) (are q)
 
-    -- a map has another stage, and what is prepared for it alone is another
+    -- the stage of one map changes, and so does what is prepared for this map only
     pub awaiting-put : (k : ℕ) (v : KeptMap) (ls : Loans) → ((q : ℕ) → (q == k) ≡ false → get ls q ≡ get prepared q) →
         Waits (get ls k) (awaited tags (Some v)) → AreAwaiting pages maxmem tags (insert maps k v) ls
     awaiting-put k v ls ready here =
@@ -170,7 +170,7 @@ module _ (pages : List PageRun) (maxmem : ℕ) where
         by None e was = tt
         by (Some o) e was = told o e (held.waiting_load o.map.stage) was
 
-    -- a tag is put where none was
+    -- a tag is put at a place that had none
     pub awaiting-tag : (p : ℕ) (t : KeptTag) → get tags p ≡ None →
         AreAwaiting pages maxmem (insert tags p t) maps prepared
     awaiting-tag p t none = awaiting-tags (insert tags p t) (λ q o e some.
@@ -207,14 +207,14 @@ module _ (pages : List PageRun) (maxmem : ℕ) where
 -- ---- what holds of a driver still
 
 module _ (h : Holdings) (ls : Loans) (same : ls ≡ h.loans.prepared) where
-  -- the same is prepared
+  -- if the same loans are prepared, all loads wait as they did
   pub still-awaiting : AreAwaiting h.pages.now h.maxmem h.tags.map h.maps.map ls
   still-awaiting = subst (AreAwaiting h.pages.now h.maxmem h.tags.map h.maps.map) (sym same) h.awaiting
 
   pub still-ready : AreOfMaps h.pages.now h.memories.map ls
   still-ready = subst (AreOfMaps h.pages.now h.memories.map) (sym same) h.ready
 
-  -- and a map is put of which no load waits
+  -- a map of which no load waits is put
   pub put-awaiting : (k : ℕ) (v : KeptMap) → kept_load (Some v) ≡ None →
       AreAwaiting h.pages.now h.maxmem h.tags.map (insert h.maps.map k v) ls
   put-awaiting k v none =

@@ -28,7 +28,7 @@ use Rattle.lane_state.specs.Served.{IsServed}
 use Rattle.lane_state.proofs.Keeping.{told-some}
 use Rattle.lane_state.proofs.MapValues.{get-map_values, image-some}
 
--- a map that stands so keeps a load that waits
+-- a map in this state keeps a load that waits
 pub record KeepsLoad (s : held.Stage KeptLoad) : Type 0 where
   pub load_at : ℕ
   pub callback : KeptLoad
@@ -89,7 +89,7 @@ kept-need (held.loaded bounced segments pages) v count e n = tt
 kept-need (held.lent bounced segments frames) v count e n = tt
 kept-need held.returning v count e n = tt
 
--- so does a map that the ideal driver sees waiting
+-- a map that the ideal driver sees waiting keeps a load with the same need
 pub kept-load : (h : Holdings) (m : ℕ) (o : KeptMap) → get h.maps.map m ≡ Some o →
     is_waiting (get (ideal_of h).maps m) ≡ true → KeepsLoad o.map.stage
 kept-load h m o there waits =
@@ -126,7 +126,7 @@ module _ (h : Holdings) (d : Seen) (served : IsServed (ideal_of h) d) (m : MapId
             (w.counted ∙ sym c.4 ∙ length-map pas (λ p. record { 0 = p })));
       }
 
--- so it needs as many pages as it gets
+-- a map whose callback is due gets as many pages as its load needs
 pub called-need : (h : Holdings) (d : Seen) (served : IsServed (ideal_of h) d) (m : MapId) (pages : List FrameBytes)
     (e : Seen) (holds : Holds d h.id.0 TakeCallback (reply.Called m (as_pages (page_addresses pages))) e) →
     IfSome (kept_load (get h.maps.map m.made_at)) (λ w. length pages ≡ w.1.need)

@@ -25,7 +25,7 @@ AreIn-join : (bytes : FinMap nat_cmp Bool) (xs ys : List ℕ) → AreIn bytes xs
 AreIn-join bytes [] ys h k = k
 AreIn-join bytes (x ∷ xs) ys h k = (h.0, AreIn-join bytes xs ys h.1 k)
 
--- extents of the lane's frames have bytes of its table alone
+-- extents in the driver's frames have only bytes of its table
 pub lie_in : (m : Memory) (bytes : FinMap nat_cmp Bool) (es : List Extent) → IsCovered m bytes →
     AllByRecursion IsExtent es → AllByRecursion (LiesIn m) es → AreIn bytes (addresses es)
 lie_in m bytes [] c h k = tt

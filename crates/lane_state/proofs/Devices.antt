@@ -202,7 +202,7 @@ module _ (h : Holdings) (wired : IsWired h) where
         (sym (slice_get-map (λ (t : Placed). t.bus) (stretch off len (traces_of l k)) i) ∙ at) in
         (t.0, (of_range (traces_of l k) off len i t.0 t.1).whole, t.2)
 
-    -- where the map is none of an IOMMU tag
+    -- if the map's tag is not an IOMMU tag
     module _ (plain : is_behind l k ≡ false) where
       -- the bus addresses of a range of its segments are those of its trace
       pub range-buses : (off len : ℕ) → bus_range off len (held.segments_of o.map.stage) ≡ load_buses l k off len

@@ -27,7 +27,7 @@ unasked step x is = sym (ap asks is)
 pub asked : {X : Type 0} (step : Asking X) (c : HubCall) (k : HubReply → X) → step ≡ Asks c k → true ≡ asks step
 asked step c k is = sym (ap asks is)
 
--- what follows where something was made
+-- a fact follows for a value that was made
 pub ok-weak : {T E P Q : Type 0} (r : Result T E) → (P → Q) → OnOk r P → OnOk r Q
 ok-weak (Ok x) f h = f h
 ok-weak (Err e) f h = tt
@@ -37,22 +37,22 @@ pub ok-map : {T E : Type 0} (r : Result T E) (P Q : T → Type 0) → ((x : T) �
 ok-map (Ok x) P Q f h = f x h
 ok-map (Err e) P Q f h = h
 
--- what follows where memory ran out
+-- a fact follows if memory ran out
 pub err-map : {T E P Q : Type 0} (r : Result T E) → (P → Q) → OnErr r P → OnErr r Q
 err-map (Ok x) f h = tt
 err-map (Err e) f h = f h
 
--- what holds anyway
+-- what holds in any case holds if memory ran out
 pub on-err : {T E P : Type 0} (r : Result T E) → P → OnErr r P
 on-err (Ok x) p = tt
 on-err (Err e) p = p
 
--- what holds anyway holds where a value was made
+-- what holds in any case holds if a value was made
 pub always-ok : {T E P : Type 0} (r : Result T E) → P → OnOk r P
 always-ok (Ok x) h = h
 always-ok (Err e) h = tt
 
--- what holds anyway holds where there is nothing
+-- what holds in any case holds if there is nothing
 pub on-none : {T P : Type 0} (o : Option T) → P → IfNone o P
 on-none None p = p
 on-none (Some x) p = tt

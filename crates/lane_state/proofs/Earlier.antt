@@ -1,4 +1,4 @@
--- The first of two things that stand in the way.
+-- The first of two refusals.
 use Rattle.std.proofs.Common.{◌≡◌, ℕ, ◌+◌, ◌≤◌, Bool, true, false, cond, List, [], ◌∷◌, Option, Some, None}
 use Rattle.std.proofs.Common.{refl, ap, arith, nat_le}
 use Rattle.std.proofs.lemmas.Bool.Decides.{nat_tests}
@@ -55,18 +55,18 @@ judged-either f g k (x ∷ xs) =
     by (Some name) None h a b = first-wins name k (judged g (k + 1) xs) (later k (judged g (k + 1) xs) b)
     by (Some name) (Some other) h a b = first-wins name k (at other k) (omega arith)
 
--- the same cause for each thing
+-- equal causes give equal judgements
 pub judged-alike : {X : Type 0} (f g : X → Option ReportName) → ((x : X) → f x ≡ g x) → (k : ℕ) (xs : List X) →
     judged f k xs ≡ judged g k xs
 judged-alike f g same k xs = λ i. judged (λ x. same x i) k xs
 
--- things with their places, judged without these
+-- things with their places are judged like the things
 pub judged-placed : {X : Type 0} (f : X → Option ReportName) (k n : ℕ) (xs : List X) →
     judged (λ b. f b.1) k (enumerate_from n xs) ≡ judged f k xs
 judged-placed f k n [] = refl
 judged-placed f k n (x ∷ xs) = ap (refused_or (f x) k) (judged-placed f (k + 1) (n + 1) xs)
 
--- the earliest of three
+-- the earliest of three refusals
 pub earlier-three : (a b c : Judged) → earlier (earlier a b) c ≡ earlier a (earlier b c)
 earlier-three Fine b c = refl
 earlier-three (Refused r) Fine c = refl

@@ -46,7 +46,7 @@ stays-held h k s = record {
   pages = λ m. (elim (s.pages m) [ inl e ↦ inl e | inr e ↦ inr (inr e) ]);
 }
 
--- where the driver stays as it is, it has no memory more or less
+-- if the driver stays as it is, no memory comes or goes
 pub beside-same : (h k : Holdings) → KeepsState h k → KeepsBesideMemory h k
 beside-same h k s = record {
   own = λ a before after. ap (λ w. w a) s.bytes.own;
@@ -57,7 +57,7 @@ beside-same h k s = record {
     none-some : (v : ℕ) → None ≡ Some (Known v) → ⊥
     none-some v e = absurd (cc)
 
--- the page of an address is held by a map
+-- a map holds the page of an address
 record Holding (h : Holdings) (m a : ℕ) : Type 0 where
   place : ℕ
   page : ℕ
@@ -92,7 +92,7 @@ holding h laid apart m a inside =
         by None e = absurd (cc)
         by (Some p) e = (p.frame, (let there : 4096 * p.frame ≡ x = cc in sym there))
 
--- what stands in a page that a map holds is told by the pages of that map
+-- the bytes in a page that a map holds are given by the pages of that map
 held-view : (h : Holdings) → AreLaid (ideal_of h) → IsApart (ideal_of h) → (m a : ℕ) →
     is_in_pages (pages_of (stage_at (ideal_of h) m)) a ≡ true →
     wire_of h a ≡ with_bytes_of (devices_of h.maps.map m).pages (wire h.memory.memory) a
@@ -101,7 +101,7 @@ held-view h laid apart m a inside =
     view-alike h.maps.map m (wire h.memory.memory) a
     (page-mine (ideal_of h) laid apart h.maps.map refl h.unlent m p.place p.page a p.holds p.is)
 
--- so it is the same whatever stands elsewhere
+-- the bytes in a page that a map holds do not depend on the bytes elsewhere
 in-pages : (h : Holdings) → AreLaid (ideal_of h) → IsApart (ideal_of h) → (m a : ℕ) →
     is_in_pages (pages_of (stage_at (ideal_of h) m)) a ≡ true → (u w : Wire) →
     with_bytes_of (devices_of h.maps.map m).pages u a ≡ with_bytes_of (devices_of h.maps.map m).pages w a
@@ -126,7 +126,7 @@ own-too : (l m : LaneState) → m.pages ≡ l.pages → m.mems ≡ l.mems → (a
 own-too l m pages mems a (OfPages is) = OfPages (ap (λ ps. is_own ps a) (sym pages) ∙ is)
 own-too l m pages mems a (OfMemory k x there inside) = OfMemory k x (ap (λ ms. get ms k) (sym mems) ∙ there) inside
 
--- so no byte comes to it
+-- no byte comes to a driver that keeps its pages and memories
 pub none-comes : (l m : LaneState) → AreLaid l → AreLaid m → m.pages ≡ l.pages → m.mems ≡ l.mems → (a : ℕ) →
     is_some (m.memory a) ≡ true → is_some (l.memory a) ≡ true
 none-comes l m laid laid' pages mems a own =
@@ -162,14 +162,14 @@ page-unowned h laid apart m a inside =
 
 module _ (h k : Holdings) (laid : AreLaid (ideal_of h)) (apart : IsApart (ideal_of h)) (laid' : AreLaid (ideal_of k))
     (apart' : IsApart (ideal_of k)) where
-  -- what the driver's frames have stands there
+  -- a byte of the driver's own has on the wire the value that its frame has
   own-stands : (a : ℕ) → is_some ((ideal_of k).memory a) ≡ true → wire_of k a ≡ wire k.memory.memory a
   own-stands a after = own-view (ideal_of k) laid' apart' k.maps.map refl k.unlent (wire k.memory.memory) a after
 
   own-stood : (a : ℕ) → is_some ((ideal_of h).memory a) ≡ true → wire_of h a ≡ wire h.memory.memory a
   own-stood a before = own-view (ideal_of h) laid apart h.maps.map refl h.unlent (wire h.memory.memory) a before
 
-  -- where a page of a map stays, its bytes do
+  -- if the pages of a map stay, their bytes stay
   paged : (m a : ℕ) → (devices_of k.maps.map m).pages ≡ (devices_of h.maps.map m).pages →
       is_in_pages (pages_of (stage_at (ideal_of h) m)) a ≡ true →
       is_in_pages (pages_of (stage_at (ideal_of k) m)) a ≡ true → wire_of k a ≡ wire_of h a
@@ -179,7 +179,7 @@ module _ (h k : Holdings) (laid : AreLaid (ideal_of h)) (apart : IsApart (ideal_
       ∙ in-pages h laid apart m a before (wire k.memory.memory) (wire h.memory.memory)
       ∙ sym (held-view h laid apart m a before)
 
-  -- so do those of each map that has pages before and after
+  -- the bytes in pages of a map stay if the map has pages before and after
   page : (m a : ℕ) → ((devices_of k.maps.map m).pages ≡ (devices_of h.maps.map m).pages)
       ⊎ (((devices_of h.maps.map m).pages ≡ []) ⊎ ((devices_of k.maps.map m).pages ≡ [])) →
       is_in_pages (pages_of (stage_at (ideal_of h) m)) a ≡ true →
@@ -199,7 +199,7 @@ module _ (h k : Holdings) (laid : AreLaid (ideal_of h)) (apart : IsApart (ideal_
       known = none-known (ideal_of h) (ideal_of k) laid laid' pages mems (wire_of k);
     }
 
-  -- where bytes of the driver were copied to others
+  -- if bytes of the driver were copied to others
   module _ (from to : List ℕ) (keeps : KeepsCopied from to h k) (pages : (ideal_of k).pages ≡ (ideal_of h).pages)
       (mems : (ideal_of k).mems ≡ (ideal_of h).mems) where
     pub follows-copied : Follows (ideal_of h) (ideal_of k) (put to (map (wire_of h) from) (wire_of h)) (wire_of k)
@@ -223,7 +223,7 @@ module _ (h k : Holdings) (laid : AreLaid (ideal_of h)) (apart : IsApart (ideal_
             subst (λ c. is_some ((ideal_of h).memory c) ≡ true) (sym same) (is-own h b (in-at h.loans.bytes pas i b there at)) in
             false≢true (sym (page-unowned h laid apart m a inside) ∙ own)
 
-  -- where a memory came or went
+  -- if a memory came or went
   pub follows-memory : KeepsBesideMemory h k → Follows (ideal_of h) (ideal_of k) (wire_of h) (wire_of k)
   follows-memory keeps = record {
     own = λ a before after. own-stands a after ∙ keeps.own a before after ∙ sym (own-stood a before);

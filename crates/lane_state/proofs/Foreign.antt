@@ -17,7 +17,7 @@ use Rattle.std.proofs.Math.Seq.{drop-cons}
 use Rattle.lane_state.specs.Judging.{earlier, foreign_refusal, foreign_at}
 use Rattle.lane_state.proofs.Earlier.{judged-either, judged-alike}
 
--- a byte of a run is refused that lies in one run of others
+-- a byte of a run is refused if it lies in this other run
 abbrev pub within : ℕ → ℕ → ℕ → Option ReportName
 within b n v = foreign_refusal (nat_le b v && nat_lt v (b + n))
 
@@ -30,7 +30,7 @@ none-within b n v (suc len) k h =
     ap (λ t. refused_or (foreign_refusal t) k (judged (within b n) (k + 1) (run_of (v + 1) len))) off
     ∙ none-within b n (v + 1) len (k + 1) (grind (arith, h))
 
--- the first that does
+-- the first byte of the run that lies in the other one is refused first
 pub first-within : (b n v len k m : ℕ) → b ≤ m → v ≤ m → (m ≡ b) ⊎ (m ≡ v) → m < b + n → m < v + len →
     judged (within b n) k (run_of v len) ≡ foreign_at (k + (m - v))
 first-within b n v zero k m p q e x y = absurd (omega arith)
@@ -54,7 +54,7 @@ first-within b n v (suc len) k m p q e x y =
         let place : k + 1 + (m - (v + 1)) ≡ k + (m - v) = omega (arith, there, lt) in
         rest (omega (arith, there, lt)) (inl there) (omega (arith, y)) ∙ ap foreign_at place
 
--- a byte at its place is refused that is not the byte of a run at this place
+-- a byte at its place is refused unless it is the byte of a run at this place
 abbrev pub off_place : ℕ → ℕ → ℕ × ℕ → Option ReportName
 off_place b n x = foreign_refusal (not (x.1 == b + x.0 && nat_lt x.0 n))
 
@@ -107,7 +107,7 @@ past-off b n v (suc len) i e h =
     ap (λ t. refused_or (foreign_refusal t) i
     (judged (off_place b n) (i + 1) (enumerate_from (i + 1) (run_of (v + 1) len)))) off
 
--- so the first is the later of that place and the run's end
+-- the first refused byte is the later of that place and the run's end
 pub max-off : (b n v len i m : ℕ) → v ≡ b + i → n ≤ m → i ≤ m → (m ≡ n) ⊎ (m ≡ i) → m < i + len →
     judged (off_place b n) i (enumerate_from i (run_of v len)) ≡ foreign_at m
 max-off b n v len i m e p q is inside = by (nat_le i n) refl
@@ -129,13 +129,13 @@ none-past b n v len i m e p q (inr is) past =
     let none : len ≡ 0 = omega (arith, is, past) in
     ap (λ k. judged (off_place b n) i (enumerate_from i (run_of v k))) none
 
--- bytes of frames, with a refusal for each
+-- bytes of frames are refused from the first on
 pub each-foreign : (v len i : ℕ) → 0 < len →
     judged (λ (x : ℕ × ℕ). foreign_refusal true) i (enumerate_from i (run_of v len)) ≡ foreign_at i
 each-foreign v zero i h = absurd (omega arith)
 each-foreign v (suc len) i h = refl
 
--- bytes one behind the other, of which the first ones pass, or do not
+-- if the first of two parts of bytes passes, the second part decides
 pub then-judged : (f : ℕ × ℕ → Option ReportName) (i : ℕ) (xs ys : List ℕ) →
     judged f i (enumerate_from i xs) ≡ Fine →
     judged f i (enumerate_from i (xs ++ ys)) ≡ judged f (i + length xs) (enumerate_from (i + length xs) ys)
@@ -179,7 +179,7 @@ rest-of-spans spans i inside =
     ap span_addresses (drop-cons spans i (record { va = record { 0 = 0 }; len = 0 }) inside
     ∙ ap (λ j. slice_index_or spans i (record { va = record { 0 = 0 }; len = 0 }) ∷ drop j spans) next)
 
--- one more run of others
+-- a byte is in one of the runs if it is in one more run
 pub any-within : {E : Type 0} (is : E → ℕ → Bool) (e : E) (es : List E) (k : ℕ) (vas : List ℕ) →
     judged (λ v. foreign_refusal (list_any (λ x. is x v) (e ∷ es))) k vas
     ≡ earlier (judged (λ v. foreign_refusal (is e v)) k vas)

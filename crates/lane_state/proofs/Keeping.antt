@@ -18,7 +18,7 @@ use Rattle.lane_state.specs.Held.{devices_of}
 pub bytes-same : (h : Holdings) → KeepsBytes h h
 bytes-same h = record { own = refl; pages = λ m. refl }
 
--- the tags alone changed
+-- a change of the tags only leaves all bytes
 pub tags-bytes : (h k : Holdings) → KeepsButTags h k → KeepsBytes h k
 tags-bytes h k rest = record {
   own = ap (λ x. wire x.memory) rest.most.memory;
@@ -56,17 +56,17 @@ idle-stage tag map held.returning e h = absurd (cc)
 pub idle-map : (o : KeptMap) → is_idle (map_of o).stage ≡ true → IsIdleMap o
 idle-map o h = idle-stage o.tag o.map o.map.stage refl h
 
--- an idle map is there
+-- if there is an idle map, it is known to be idle
 pub idle-there : (o : Option KeptMap) → is_idle_map o ≡ true → (x : KeptMap) × (o ≡ Some x) × IsIdleMap x
 idle-there None h = absurd (cc)
 idle-there (Some x) h = (x, refl, idle-map x h)
 
--- it is not loaded
+-- an idle map is not loaded
 pub idle-unloaded : (o : Option KeptMap) → is_idle_map o ≡ true → has_load o ≡ false
 idle-unloaded None h = absurd (cc)
 idle-unloaded (Some x) h = (idle-map x h).unloaded
 
--- what is told of what is there
+-- if the image of an optional value is `None`, so is the value
 pub told-none : {X Y : Type 0} (f : X → Y) (o : Option X) → option_map f o ≡ None → o ≡ None
 told-none f None h = refl
 told-none f (Some x) h = absurd (cc)
@@ -76,7 +76,7 @@ pub told-some : {X Y : Type 0} (f : X → Y) (o : Option X) (y : Y) → option_m
 told-some f None y h = absurd (cc)
 told-some f (Some x) y h = (x, refl, (let same : f x ≡ y = cc in same))
 
--- what the state of a map says of where it stands
+-- the stage of a map in the state Idle
 pub state-idle : (s : held.Stage KeptLoad) → held.state_of s ≡ state.Idle →
     is_idle (stage_of s) ≡ true
 state-idle held.idle h = refl
@@ -113,7 +113,7 @@ pub some-there : {X : Type 0} (o : Option X) → is_some o ≡ true → (x : X) 
 some-there None h = absurd (cc)
 some-there (Some x) h = (x, refl)
 
--- what an idle map says of its state, and where it stands
+-- a map whose stage is idle is in the state Idle
 pub idle-state : (s : held.Stage KeptLoad) → is_idle (stage_of s) ≡ true →
     held.state_of s ≡ state.Idle
 idle-state held.idle h = refl

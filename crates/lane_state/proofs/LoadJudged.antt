@@ -57,7 +57,7 @@ frames-foreign l m fs off len =
     ap (λ vas. judged (λ (x : ℕ × ℕ). foreign_refusal (is_some (get l.mems m))) 0 (enumerate_from 0 vas))
     (sym (append-nil (run_of off len)))
 
--- a byte of a memory, where the map is not a memory's
+-- the judgement of bytes for a map that is not a memory's: by all memories
 pub shared-judged : (l : LaneState) (m offset : ℕ) (vas : List ℕ) → get l.mems m ≡ None →
     judged (λ v. foreign_refusal (is_memory_byte l v)) offset vas ≡ foreign_bytes l m offset vas
 shared-judged l m offset vas none =
@@ -65,7 +65,7 @@ shared-judged l m offset vas none =
     (enumerate_from offset vas)) none
     ∙ judged-placed (λ v. foreign_refusal (is_memory_byte l v)) offset offset vas)
 
--- a byte that is not the memory's at its place, where the map is a memory's
+-- the judgement of bytes for a memory's own map: by the memory's bytes at their places
 pub own-judged : (l : LaneState) (m offset : ℕ) (x : LaneMemory) (vas : List ℕ) → get l.mems m ≡ Some x →
     own_judged x offset vas ≡ foreign_bytes l m offset vas
 own-judged l m offset x vas there =

@@ -121,12 +121,12 @@ entries-extents (e ∷ es) j =
     ∙ addresses-append e.parts (stream_extents (parts_of es ++ ending j))
     ∙ ap (λ bs. entry_addresses e ++ bs) (entries-extents es j)
 
--- they have the bytes of the load's entries
+-- the extents of a load's stream have the bytes of the load's entries
 pub stream-bytes : (l : LaneState) (b : Bio) →
     addresses (stream_extents (load_stream l b)) ≡ entries_addresses (load_entries l b)
 stream-bytes l b = entries-extents (load_entries l b) (bio_reached l b)
 
--- and no more than the load has
+-- the extents of a load's stream have no more bytes than the load
 pub stream-total : (l : LaneState) (b : Bio) → bio_bytes b ≤ 2 ^ 20 →
     byte_count (stream_extents (load_stream l b)) ≤ 2 ^ 20
 stream-total l b small =
@@ -178,7 +178,7 @@ module _ (Has : ℕ → Type 0) (rounded : Bool) (t : Translation) (is : IsPaged
       (lies-each (stream_extents (spans_stream rounded t spans))
       (all-extents (λ e. Has e.pa.0) es j (entries_have Has rounded t is spans)))
 
--- so do those of mapped bytes
+-- the extents of mapped bytes are in the driver's table
 pub mapped-inside : (m : Memory) (bytes : FinMap nat_cmp Bool) (spans : List Span) → IsMemory m → IsCovered m bytes →
     AreIn bytes (addresses (stream_extents (spans_stream true (memory.physical m) spans)))
 mapped-inside m bytes spans sound covered =
@@ -196,7 +196,7 @@ mapped-lie m spans sound =
       frames = all-extents (LiesIn m) es j (entries_have (IsHeld m) true t paged spans);
     }
 
--- and those of frames of the driver's pages
+-- a frame of the driver's pages is one of its memory's
 frame-held : (pages : List PageRun) (m : Memory) (fs : List ℕ) (f : ℕ) → HasFramesOf pages m →
     AllByRecursion (λ frame. runs.has_frame pages frame ≡ true) fs → Contains fs f → has_frame m f ≡ true
 frame-held pages m fs f framed own h =

@@ -32,7 +32,7 @@ use Rattle.lane_state.specs.Wire.{held_pages}
 use Rattle.lane_state.proofs.MapValues.{get-map_values}
 use Rattle.lane_state.proofs.Views.{IsMine, view-alike}
 
--- ---- what a map has, by where it stands
+-- ---- what a map has, by its stage
 chunks-stage : (s : held.Stage KeptLoad) → (device_in s).chunks ≡ bounced_in (stage_of s)
 chunks-stage held.idle = refl
 chunks-stage (held.waiting load_at callback room) = refl
@@ -96,7 +96,7 @@ module _ (l : LaneState) (laid : AreLaid l) (apart : IsApart l) (maps : FinMap n
       let at : page_address p ≡ page = omega (arith, e, is) in
       ne (sym (apart.one k n i j page has (subst (HoldsPage l n j) at (holds n j p h))).0))
 
-  -- nor that of a bus address of a load
+  -- no page of another map has the frame of a bus address of a load
   pub trace-mine : (k i : ℕ) (t : Placed) → IsPlacedAt (traces_of l) k i t → IsMine maps k t.bus
   trace-mine k i t h = by (lies-of l laid k i t h)
     where
@@ -110,7 +110,7 @@ module _ (l : LaneState) (laid : AreLaid l) (apart : IsApart l) (maps : FinMap n
           page-mine k b.index b.page t.bus
           (ap (λ s. slice_get (pages_of s) b.index) x.stage ∙ b.has_page) (omega (arith, whole, low, high))
 
-  -- what stands at a byte of the driver's own, and at a bus address of a load
+  -- the byte at an address of the driver's own, and at a bus address of a load
   pub own-view : (w : Wire) (a : ℕ) → is_some (l.memory a) ≡ true → with_bytes_of (held_pages maps) w a ≡ w a
   own-view w a own =
       view-alike maps 0 w a (own-mine 0 a own) ∙ no_page_at (devices_of maps 0).pages w a (own-none a own 0)

@@ -1,4 +1,4 @@
--- What holds of a driver's maps, as one of them is put, changed or dropped.
+-- What holds of a driver's maps when one of them is put, changed or dropped.
 use Rattle.std.proofs.Common.{◌≡◌, ℕ, ◌+◌, ◌≤◌, ◌==◌, Bool, true, false, List, Option, Some, None, not}
 use Rattle.std.proofs.Common.{sym, ap, ◌∙◌, arith}
 use Rattle.std.specs.Ordering.{nat_cmp}
@@ -23,19 +23,19 @@ pub record AreMaps (maps : FinMap nat_cmp KeptMap) (loans : Loans) (returns : Li
   pub tried : (k : ℕ) → is_tried (get maps k) ≡ true
 
 module _ {X : Type 0} (f : Option KeptMap → X) (maps : FinMap nat_cmp KeptMap) (k : ℕ) where
-  -- what is told of each map stays, where a map is put of which the same is told as of the one before
+  -- a fact of each map stays if a map is put that has the same fact as the one before
   pub told-put : (o : KeptMap) → f (Some o) ≡ f (get maps k) → (q : ℕ) → f (get (insert maps k o) q) ≡ f (get maps q)
   told-put o same q =
       ap f (get_put maps k o q) ∙ mapped f (q == k) (Some o) (get maps q)
       ∙ put_same (λ j. f (get maps j)) k q (f (Some o)) same
 
-  -- the same where a map is gone
+  -- a fact of each map stays if a map is removed that has the same fact as no map
   pub told-cut : f None ≡ f (get maps k) → (q : ℕ) → f (get (remove maps k) q) ≡ f (get maps q)
   told-cut same q =
       ap f (get_cut maps k q) ∙ mapped f (q == k) None (get maps q)
       ∙ put_same (λ j. f (get maps j)) k q (f None) same
 
--- pages of the queue are those of maps on their way back where the same are so
+-- pages of the queue are of maps on their way back, if this was so of the same maps before
 pub returns-alike : (maps others : FinMap nat_cmp KeptMap) (returns : List QueuedPage) →
     ((q : ℕ) → is_returning (get others q) ≡ is_returning (get maps q)) → AreReturning maps returns →
     AreReturning others returns
@@ -44,7 +44,7 @@ returns-alike maps others returns same are =
 
 module _ (maps : FinMap nat_cmp KeptMap) (loans : Loans) (returns : List QueuedPage) (owed : ℕ)
     (are : AreMaps maps loans returns owed) where
-  -- an idle map is put where none was
+  -- an idle map is put at a place that had none
   pub maps-new : (k : ℕ) (o : KeptMap) → get maps k ≡ None → has_load (Some o) ≡ false →
       lends_pages (Some o) ≡ false → due_of o ≡ 0 → is_returning (Some o) ≡ false → is_tried (Some o) ≡ true →
       AreMaps (insert maps k o) loans returns owed

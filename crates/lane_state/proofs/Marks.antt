@@ -30,7 +30,7 @@ there : {X : Type 0} (m : FinMap nat_cmp X) (q k : ℕ) (b : Bool) → (q == k) 
 there m q k true e h v = sym (ap (λ a. is_some (get m a)) (exact_unsigned_eq q k e) ∙ h)
 there m q k false e h v = refl
 
--- an entry put where one is adds none
+-- an entry that is put in the place of another adds none
 pub has_inserted : {X : Type 0} (m : FinMap nat_cmp X) (k : ℕ) (v : X) → IsSome (get m k) → (q : ℕ) →
     contains_key (insert m k v) q ≡ contains_key m q
 has_inserted m k v h q = ap is_some (get-put m k v q) ∙ there m q k (q == k) refl h v

@@ -45,7 +45,7 @@ module _ (h k : Holdings) (o p : Op) (same : o ≡ p) where
         ap (λ (x : Answered). x.held) is
         ∙ unasked (operation o (ideal_of h)) (given k a) (ap (λ q. operation q (ideal_of h)) same ∙ sym done)
 
-  -- its bytes came and went with their pages
+  -- the bytes of an operation that plainly leaves the wire came and went with their pages
   pub paged-wire : k.memories ≡ h.memories → wires.operation p (ideal_of h) (wire_of h) ≡ wire_of h →
       KeepsWhatStays h k → IsWireOf h k (wires.operation o (ideal_of h) (wire_of h))
   paged-wire memories plain keeps =
@@ -56,7 +56,7 @@ module _ (h k : Holdings) (o p : Op) (same : o ≡ p) where
       IsWireOf h k (wires.operation o (ideal_of h) (wire_of h))
   beside-wire plain keeps = WithMemory (ap (λ q. wires.operation q (ideal_of h) (wire_of h)) same ∙ plain) keeps
 
-  -- they are those of the operation
+  -- the bytes after a step are those that the operation makes
   pub done-wire : k.memories ≡ h.memories → wire_of k ≡ wires.operation p (ideal_of h) (wire_of h) →
       IsWireOf h k (wires.operation o (ideal_of h) (wire_of h))
   done-wire memories is = Becomes memories (is ∙ ap (λ q. wires.operation q (ideal_of h) (wire_of h)) (sym same))

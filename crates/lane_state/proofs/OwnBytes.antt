@@ -1,4 +1,4 @@
--- The driver's own bytes: those of its table, what is read of them, and what they make of what is held.
+-- The driver's own bytes: the bytes of its table, what is read of them, and what they make of what is held.
 use Rattle.std.proofs.Common.{◌≡◌, ℕ, zero, suc, ◌/◌, true, List, [], ◌∷◌, map, slice_get, Some, is_some, refl, sym, ap}
 use Rattle.std.proofs.Common.{◌∙◌}
 use Rattle.std.specs.FinMap.{get}
@@ -42,13 +42,13 @@ module _ (h : Holdings) where
   inside-own (b ∷ pas) are (suc i) a at = inside-own pas are.1 i a at
 
   module _ (wired : IsWired h) where
-    -- what is read of the driver's own bytes stands there in its wire
+    -- what is read of the driver's own bytes is what its wire has there
     pub own-reads : (pas : List ℕ) → AreIn h.loans.bytes pas → map (wire h.memory.memory) pas ≡ map (wire_of h) pas
     own-reads pas are = same_reads pas (wire h.memory.memory) (wire_of h) (λ i a at.
         sym (own-view l wired.laid wired.apart h.maps.map refl h.unlent (wire h.memory.memory) a
         (inside-own pas are i a at)))
 
-    -- where bytes are put into them, the wire has these at their addresses
+    -- if bytes are put into the driver's own, its wire has them at their addresses
     pub own-put : (pas vs : List ℕ) → AreIn h.loans.bytes pas → (n : Memory) →
         wire n ≡ put pas vs (wire h.memory.memory) →
         with_bytes_of (held_pages h.maps.map) (wire n) ≡ put pas vs (wire_of h)

@@ -15,7 +15,7 @@ use Rattle.busdma_base.specs.Scenarios.PageRuns.{is_own}
 use Rattle.lane_state.specs.OpeningMemory.{IsOwnRun, ArePages, is_one_of}
 use Rattle.lane_state.proofs.Marks.{get-set_all}
 
--- what stands for a run that a list does not have
+-- the run that is read past the end of a list
 abbrev pub no_run : PageRun
 no_run = record { va = record { 0 = 0 }; frame = 0; count = 0 }
 
@@ -140,7 +140,7 @@ run_is_new before run bytes is known = new_run bytes (4096 * run.frame) (4096 * 
     ∙ in_none (λ r. r.frame) before run (a / 4096) is.own_frames
     (one_of_is run.frame run.count (a / 4096) (omega arith) (omega arith))))
 
--- the bytes of one run more are Known
+-- the bytes of one more run are Known
 pub run_is_known : (pages : List PageRun) (i : ℕ) (bytes : FinMap nat_cmp Bool) →
     i < length pages → AreKnown (take i pages) bytes
     →

@@ -17,7 +17,7 @@ reput m k v = same_map nat_cmp_total exact_unsigned (insert (remove m k) k v) (i
     ∙ ap (cond (eq_by_cmp nat_cmp q k) (Some v)) (get-remove nat_cmp_total m k q)
     ∙ over (eq_by_cmp nat_cmp q k) (Some v) (get m q) ∙ sym (get-insert nat_cmp_total m k v q))
 
--- what was put where it is
+-- putting a value in its own place changes nothing
 pub put-back : {X : Type 0} (m : FinMap nat_cmp X) (k : ℕ) (v : X) → get m k ≡ Some v → insert m k v ≡ m
 put-back m k v found =
     same_map nat_cmp_total exact_unsigned (insert m k v) m (λ q. get_put m k v q ∙ put_same (get m) k q (Some v)
@@ -28,6 +28,6 @@ pub get_removed : {X : Type 0} (m : FinMap nat_cmp X) (k : ℕ) → get (remove 
 get_removed m k =
     get-remove nat_cmp_total m k k ∙ ap (λ b. cond b None (get m k)) ((eq_by_cmp_equiv nat_cmp_total).refl k)
 
--- a map is what it is without a value, with the value
+-- a value that is taken out and put back leaves the map as it was
 pub taken-back : {X : Type 0} (m : FinMap nat_cmp X) (k : ℕ) (v : X) → get m k ≡ Some v → insert (remove m k) k v ≡ m
 taken-back m k v found = reput m k v ∙ put-back m k v found

@@ -40,7 +40,7 @@ room-for t chunks pages len need segments room wanted paged are list shown bounc
       bounced = omega (arith, needs, bounced_more);
     }
 
--- it is enough in whichever pages
+-- the room of a load is enough in whichever pages
 pub room-for-any : (t : TagLimits) (chunks : List Chunk) (len need segments : ℕ) (room : LoadRoom) →
     IsWanted t chunks len need segments → room.list.items ≡ [] → room.shown.items ≡ [] → room.bounced.items ≡ [] →
     segments ≤ room.list.spare → segments ≤ room.shown.spare → need ≤ room.bounced.spare →

@@ -19,7 +19,7 @@ use Rattle.lane_state.specs.Covered.{AreStanding, IsCovered}
 use Rattle.lane_state.proofs.Covering.{lie_in}
 use Rattle.lane_state.proofs.Wires.{byte_count_addresses}
 
--- they have bytes of the lane's table alone
+-- extents that are reached have only bytes of the driver's table
 pub reach_inside : {E : Type 0} (m : Memory) (bytes : FinMap nat_cmp Bool) (r : Result Walked E) → IsCovered m bytes →
     IfOk r (λ w. IfParts w (AllByRecursion IsExtent)) → IfOk r (λ w. IfParts w (AllByRecursion (LiesIn m)))
     → IfOk r (λ w. IfParts w (λ es. AreIn bytes (addresses es)))
@@ -27,7 +27,7 @@ reach_inside m bytes (Ok (Parts es)) c h k = lie_in m bytes es c h k
 reach_inside m bytes (Ok (Unmapped at)) c h k = tt
 reach_inside m bytes (Err e) c h k = tt
 
--- they have as many bytes
+-- extents that are reached have as many bytes as were asked for
 pub reach_len : {E : Type 0} (f : ℕ → ℕ) (va len : ℕ) (r : Result Walked E) →
     IfOk r (λ w. IfParts w (λ es. addresses es ≡ map f (run_of va len))) →
     IfOk r (λ w. IfParts w (λ es. length (addresses es) ≡ len))
@@ -46,13 +46,13 @@ reach_total len (Err e) b h = tt
 pub same-physical : (m n : Memory) → SamePages m n → physical n ≡ physical m
 same-physical m n s = ap (λ t. λ va. physical (record { table = t; frames = n.frames }) va) s.table
 
--- each of its pages where memories lie has its own frame
+-- each page of a memory still has its own frame
 pub same-placed : (m n : Memory) → SamePages m n → AreAtTheirFrames m → AreAtTheirFrames n
 same-placed m n s placed v r e high =
     let is = placed v r (sym (ap (λ t. get t v) s.table) ∙ e) high in
     record { own = is.own; there = s.frames r.frame ∙ is.there }
 
--- and memories stand where they stood
+-- memories are in the same frames as before
 pub same-standing : (memories : FinMap nat_cmp KeptMemory) (m n : Memory) → SamePages m n → AreStanding memories m →
     AreStanding memories n
 same-standing memories m n s standing k x e v h = ap (λ t. get t v) s.table ∙ standing k x e v h

@@ -57,7 +57,7 @@ known-content None v = refl
 known-content (Some true) v = refl
 known-content (Some false) v = refl
 
--- a byte is Known where its mark says so
+-- a byte is Known if its mark says so
 pub known-held : (bytes : FinMap nat_cmp Bool) (loans : Loans) (d : ℕ → Device) (m : Memory) →
     is_known (held bytes loans d m) ≡ is_marked bytes
 known-held bytes loans d m =

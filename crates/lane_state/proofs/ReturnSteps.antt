@@ -1,4 +1,4 @@
--- The step that gives a page back, and where it leaves the page's map.
+-- The step that gives a page back, and the stage in which it leaves the page's map.
 use Rattle.std.proofs.Common.{◌≡◌, ℕ, ◌+◌, ◌==◌, ◌&&◌, ◌||◌, not, Bool, true, false, cond, List, [], ◌∷◌}
 use Rattle.std.proofs.Common.{map, Option, Some, None}
 use Rattle.std.proofs.Common.{refl, sym, ap, ◌∙◌, arith}
@@ -22,7 +22,7 @@ use Rattle.lane_state.specs.MapValues.{map_values}
 use Rattle.lane_state.proofs.MapValues.{image-some, map_values-insert}
 use Rattle.lane_state.proofs.Places.{put-back}
 
--- nothing is counted where nothing passes the test
+-- nothing is counted if nothing passes the test
 none-counted : {X : Type 0} (p : X → Bool) (xs : List X) → (count_by p xs == 0) ≡ not (list_any p xs)
 none-counted p [] = refl
 none-counted p (x ∷ xs) = ap (λ n. n == 0) (sum_by-cons (λ y. cond (p y) 1 0) x xs) ∙ by (none-counted p xs) (p x)
@@ -49,7 +49,7 @@ any-pages lane m (q ∷ pages) own are =
     let mine : (q.map.lane.0 == m.lane.0) ≡ true = ap (λ n. q.map.lane.0 == n) own ∙ parts.0 in
     (λ i. sym (ap (λ b. b && (q.map.made_at == m.made_at)) mine) i || any-pages lane m pages own parts.1 i)
 
--- a page of a map was the last of it in the queue where no other is there
+-- a page of a map was the map's last in the queue if no other page of the map is there
 pub last-is : (lane : ℕ) (m : MapId) (pages : List QueuedPage) → m.lane.0 ≡ lane → AreOwn lane pages →
     (returning m.made_at (map return_of pages) == 0) ≡ not (has_page m pages)
 last-is lane m pages own are =

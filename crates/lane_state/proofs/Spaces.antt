@@ -42,7 +42,7 @@ module _ (tags : FinMap nat_cmp KeptTag) (k : ℕ) where
   pub spaces-cut : spaces_of (remove tags k) ≡ with_space k no_space (spaces_of tags)
   spaces-cut = λ i q. (ap space_of (get_cut tags k q) ∙ cut-here q (q == k)) i
 
--- the address space of a tag is put where it is
+-- putting the address space of a tag in its own place changes nothing
 pub spaces-same : (spaces : ℕ → Space) (k : ℕ) (s : Space) → spaces k ≡ s → with_space k s spaces ≡ spaces
 spaces-same spaces k s is = λ i q. by q (q == k) refl i
   where
@@ -50,7 +50,7 @@ spaces-same spaces k s is = λ i q. by q (q == k) refl i
     by q true e = sym is ∙ ap spaces (sym (exact_unsigned_eq q k e))
     by q false e = refl
 
--- a tag of no address space is put where none is
+-- putting a tag without an address space at a place that had none changes no address space
 pub spaces-beside : (tags : FinMap nat_cmp KeptTag) (k : ℕ) (t : KeptTag) → get tags k ≡ None → t.space ≡ None →
     spaces_of (insert tags k t) ≡ spaces_of tags
 spaces-beside tags k t vacant none =
@@ -60,7 +60,7 @@ spaces-beside tags k t vacant none =
 
 -- ---- maps of IOMMU tags
 
--- a map is one of an IOMMU tag where its tag has an address space
+-- a map's tag is an IOMMU tag if the tag has an address space
 pub device-of : (h : Holdings) (o : LaneMap) (t : KeptTag) → get h.tags.map o.tag ≡ Some t →
     is_device (ideal_of h) o ≡ is_some t.space
 device-of h o t there =
@@ -70,7 +70,7 @@ pub device-none : (h : Holdings) (o : LaneMap) → get h.tags.map o.tag ≡ None
 device-none h o none =
     ap (λ x. option_map_or (λ (t : LaneTag). t.device) x false) (image-none tag_of h.tags.map o.tag none)
 
--- a tag whose maps could bounce has none
+-- a tag whose maps could bounce has no address space
 pub bounces-unspaced : (maxmem : ℕ) (t : KeptTag) → bounces maxmem (tag_of t) ≡ true → t.space ≡ None
 bounces-unspaced maxmem t on = by t.space (could_bounce t.tag maxmem) on
   where

@@ -70,7 +70,7 @@ module _ (maps : FinMap nat_cmp KeptMap) (loans : Loans) (returns : List QueuedP
 
 -- ---- the ideal state
 
--- a map of a driver that stands is idle
+-- the map whose load was taken out is idle in a driver that `Stands`
 module _ (l : LaneState) (m : ℕ) (o : LaneMap) (there : get l.maps m ≡ Some o) (stands : Stands l) where
   abbrev free : LaneMap
   free = record o { stage = Idle }

@@ -62,7 +62,7 @@ pages-due-in (held.loaded bounced segments pages) p h =
 pages-due-in (held.lent bounced segments frames) p h = absurd (cc)
 pages-due-in held.returning p h = absurd (cc)
 
--- and they are those that it holds
+-- the pages of a load are those that its map holds
 pages-held-in : (s : held.Stage KeptLoad) (p : RoomyPages) → held.pages_of s ≡ Some p → (device_in s).pages ≡ p.items
 pages-held-in held.idle p h = absurd (cc)
 pages-held-in (held.waiting load_at callback room) p h = absurd (cc)
@@ -75,7 +75,7 @@ queued-are : (m : MapId) (zone : ZoneId) (pages : List FrameBytes) → pages_in 
 queued-are m zone [] = refl
 queued-are m zone (p ∷ pages) = ap (λ ps. p ∷ ps) (queued-are m zone pages)
 
--- they join the queue with their bytes
+-- the pages of a map join the queue with their bytes
 pub joined-pages : (returns : List QueuedPage) (m : MapId) (zone : ZoneId) (s : held.Stage KeptLoad) (p : RoomyPages) →
     held.pages_of s ≡ Some p →
     pages_in (returns ++ queued_pages m zone p.items) ≡ pages_in returns ++ (device_in s).pages
@@ -123,7 +123,7 @@ both-false : (test : QueuedPage → Bool) (xs ys : List QueuedPage) → list_any
 both-false test xs ys f g =
     list_any-append test xs ys ∙ ap (λ b. b || list_any test ys) f ∙ g
 
--- the queue with a map's pages has the driver's pages alone
+-- the queue has only the driver's pages after a map's pages join it
 pub own-more : (lane : ℕ) (returns : List QueuedPage) (m : MapId) (zone : ZoneId) (pages : List FrameBytes) →
     (m.lane.0 == lane) ≡ true → AreOwn lane returns → AreOwn lane (returns ++ queued_pages m zone pages)
 own-more lane returns m zone pages own are =
@@ -145,7 +145,7 @@ module _ (maps : FinMap nat_cmp KeptMap) (loans : Loans) (returns : List QueuedP
   weight : pages_due now + due_of o ≡ pages_due maps + due_of (left o p.items)
   weight = weigh-put due_of maps k o (left o p.items) there
 
-  -- its pages are due no more
+  -- the pages of the map are not due any more
   pub pages-over : pages_due now + length p.items ≡ pages_due maps
   pages-over = omega (arith, weight, count, left-undue o p.items)
 

@@ -1,4 +1,4 @@
--- What stands at an address where the pages of all maps are held, and where those of one map alone are.
+-- The byte at an address, seen with the pages of all maps and with the pages of one map only.
 use Rattle.std.proofs.Common.{◌≡◌, ◌≢◌, ◌⊎◌, inl, inr, ℕ, ◌/◌, ◌==◌, cond, List, [], ◌∷◌, ◌++◌, Option}
 use Rattle.std.proofs.Common.{Some, None, refl, sym, ap, ◌∙◌, subst}
 use Rattle.std.specs.Prelude.{T}
@@ -22,7 +22,7 @@ both-parts : (ps qs : List FrameBytes) (w : Wire) (a : ℕ) →
 both-parts [] qs w a = refl
 both-parts (p ∷ ps) qs w a = ap (cond (a / 4096 == p.frame) (page_byte p a)) (both-parts ps qs w a)
 
--- what stands at an address is told by the pages and by what stands there without them
+-- the byte at an address is given by the pages and by the byte that is there without them
 pub under-alike : (ps : List FrameBytes) (u w : Wire) (a : ℕ) → u a ≡ w a → with_bytes_of ps u a ≡ with_bytes_of ps w a
 under-alike [] u w a h = h
 under-alike (p ∷ ps) u w a h = ap (cond (a / 4096 == p.frame) (page_byte p a)) (under-alike ps u w a h)
@@ -35,7 +35,7 @@ pages_in es = flat_map (λ e. (device_of (Some e.1)).pages) es
 abbrev HasNone : Option KeptMap → ℕ → Type 0
 HasNone o a = IsNone (device_of o).pages (a / 4096)
 
--- what stands there with the pages of what is found
+-- the byte that is there with the pages of what is found
 abbrev seen_by : Option KeptMap → Wire → ℕ → ℕ
 seen_by o w a = with_bytes_of (device_of o).pages w a
 
@@ -73,7 +73,7 @@ module _ (maps : FinMap nat_cmp KeptMap) where
   abbrev pub IsMine : ℕ → ℕ → Type 0
   IsMine k a = (n : ℕ) → n ≢ k → IsNone (devices_of maps n).pages (a / 4096)
 
-  -- so the pages of that map alone say what stands there
+  -- the byte is then given by the pages of that map only
   pub view-alike : (k : ℕ) (w : Wire) (a : ℕ) → IsMine k a →
       with_bytes_of (held_pages maps) w a ≡ with_bytes_of (devices_of maps k).pages w a
   view-alike k w a h =

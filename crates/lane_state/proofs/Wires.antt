@@ -1,4 +1,4 @@
--- What stands at each address as bytes are written part by part.
+-- The byte at each address while bytes are written part by part.
 use Rattle.std.proofs.Common.{◌≡◌, ℕ, suc, ◌+◌, ◌-◌, ◌<◌, ◌≤◌, ◌==◌, Bool, true, cond, List, [], ◌∷◌, ◌++◌, length}
 use Rattle.std.proofs.Common.{map, take, drop, ◌/◌, refl, sym, ap, ◌∙◌, arith}
 use Rattle.std.proofs.Common.{get_or, subst, ◌≢◌, inl, inr, length-take, length-drop, length-append}
@@ -99,7 +99,7 @@ pub extents_more : (parts : List Extent) (i : ℕ) → i < length parts →
     ++ addresses (drop (i + 1) parts)
 extents_more parts i h = at_drop_more addresses parts i no_extent h
 
--- how many addresses they have
+-- how many addresses the extents have
 pub count_more : (parts : List Extent) (i : ℕ) → i < length parts →
     length (addresses (drop i parts)) ≡ (get_or parts i no_extent).len + length (addresses (drop (i + 1) parts))
 count_more parts i h =
@@ -126,7 +126,7 @@ lies_all m n (e ∷ es) s h = (s.frames (e.pa.0 / 4096) ∙ h.0, lies_all m n es
 pub lie_same : (m n : Memory) (es : List Extent) → SamePages m n → Lie m es → Lie n es
 lie_same m n es s h = record { extents = h.extents; frames = lies_all m n es s h.frames }
 
--- so does the one
+-- the first extent lies in the frames of a memory if all do
 pub lie_first : (m : Memory) (parts : List Extent) (i : ℕ) → i < length parts →
     Lie m (drop i parts) → LiesIn m (get_or parts i no_extent)
 lie_first m parts i h k = (subst (Lie m) (drop_more parts i no_extent h) k).frames.0

@@ -1,4 +1,4 @@
--- What a load that waits keeps by it until its callback, which takes no memory.
+-- What a load that waits keeps until its callback, so that the callback takes no memory.
 use Rattle.std.specs.Prelude.{◌≡◌, ℕ, ◌||◌, Bool, true, false, List, Option, Some, None, IfSome, is_some, unwrap_or}
 use Rattle.std.specs.List.{All}
 use Rattle.std.specs.Option.{option_map}
@@ -26,21 +26,22 @@ use Rattle.lane_state.specs.declared.kept.KeptMemory.{KeptMemory}
 use Rattle.lane_state.specs.declared.kept.KeptTag.{KeptTag}
 use Rattle.lane_state.specs.Loading.{HasRoomForAny, IsLoadable, bio_of}
 
--- the load of a map that waits: its place in the script, its callback and its room
+-- the load that a map keeps while it waits: the place of the load in the script, its callback and its room
 abbrev pub kept_load : Option KeptMap → Option (ℕ × KeptLoad × LoadRoom)
 kept_load None = None
 kept_load (Some o) = waiting_load o.map.stage
 
--- the limits of the tag that was made at a place, if it is there
+-- the limits of the tag that was made at a place, if the tag exists
 abbrev pub limits_at : FinMap nat_cmp KeptTag → ℕ → Option TagLimits
 limits_at tags place = option_map (λ (t : KeptTag). t.tag) (get tags place)
 
--- the entries of a bio of these pages, in which its bytes lie whatever memories come and go
+-- the entries of a bio of these pages; its bytes are there, whatever memories come and go
 abbrev pub page_entries : List PageRun → Bio → List Entry
 page_entries pages b = entries_of (is_rounded b) (in_pages pages b) (bio_spans b)
 
--- a load that waits is one of bytes of the pages; its map has a tag; the room has space for what its callback makes of
--- the bytes by that tag, in whichever pages; and this loan, which is prepared for the map, has the bytes
+-- a load that waits has what its callback needs: its bytes are bytes of the pages; its map has a tag; the room is
+-- enough for the segments of the bytes by that tag, in whichever pages; and the loan that is prepared for the map has
+-- these bytes
 pub record IsAwaiting (pages : List PageRun) (maxmem : ℕ) (tag : Option TagLimits) (loan : Option Loan)
     (w : KeptLoad) (room : LoadRoom) : Type 0 where
   pub loadable : IsLoadable pages (bio_of w.bytes)
@@ -50,23 +51,23 @@ pub record IsAwaiting (pages : List PageRun) (maxmem : ℕ) (tag : Option TagLim
       (chunks_of (unwrap_or tag no_limits) maxmem (page_entries pages (bio_of w.bytes))) w.need room
   pub prepared : loan ≡ Some (new_loan false (entries_addresses (page_entries pages (bio_of w.bytes))))
 
--- the load of a map that waits, its room, and the limits of the map's tag
+-- the load for which a map waits, with its room and the limits of the map's tag
 abbrev pub awaited : FinMap nat_cmp KeptTag → Option KeptMap → Option (KeptLoad × LoadRoom × Option TagLimits)
 awaited tags None = None
 awaited tags (Some o) =
     option_map (λ (w : ℕ × KeptLoad × LoadRoom). (w.1, w.2, limits_at tags o.tag)) (waiting_load o.map.stage)
 
--- each load that waits has what its callback takes
+-- each load that waits has what its callback needs
 abbrev pub AreAwaiting : List PageRun → ℕ → FinMap nat_cmp KeptTag → FinMap nat_cmp KeptMap → Loans → Type 0
 AreAwaiting pages maxmem tags maps prepared = (m : ℕ) →
     IfSome (awaited tags (get maps m)) (λ w. IsAwaiting pages maxmem w.2 (get prepared m) w.0 w.1)
 
--- a byte may be loaded into a map: it is one of the pages, or of the memory whose map it is
+-- whether a byte may be loaded into a map: it is one of the driver's pages, or of the memory whose map it is
 abbrev pub is_of_map : List PageRun → Option KeptMemory → ℕ → Bool
 is_of_map pages None a = is_own pages a
 is_of_map pages (Some x) a = is_own pages a || in_run x.first.0 x.count a
 
--- what is prepared for maps has bytes that may be loaded into them
+-- each loan that is prepared for a map has only bytes that may be loaded into the map
 abbrev pub AreOfMaps : List PageRun → FinMap nat_cmp KeptMemory → Loans → Type 0
 AreOfMaps pages memories prepared = (m : ℕ) →
     All (λ p. is_of_map pages (get memories m) p.pa ≡ true) (loan_of prepared m).positions

@@ -1,4 +1,4 @@
--- What holds together of the parts of a lane.
+-- What the parts of a driver's holdings say of each other.
 use Rattle.std.specs.Prelude.{◌≡◌, ℕ, ◌/◌, ◌≤◌, ◌==◌, Bool, true, false, ◌||◌, not, List, sum_by, drop}
 use Rattle.std.specs.Prelude.{length, Option, Some, None}
 use Rattle.std.specs.Prelude.{if◌then◌else◌}
@@ -24,15 +24,15 @@ use Rattle.lane_state.specs.declared.kept.KeptMemory.{KeptMemory}
 use Rattle.lane_state.specs.Kept.{map_of, memory_of, due_of}
 use Rattle.lane_state.specs.Kept as kept
 
--- the bytes that are marked as Known or not are those of the lane's frames
+-- the table of Known and Unknown bytes has exactly the bytes of the driver's frames
 abbrev pub IsCovered : Memory → FinMap nat_cmp Bool → Type 0
 IsCovered m bytes = (a : ℕ) → contains_key bytes a ≡ has_frame m (a / 4096)
 
--- the frames of pages are those of the memory, beside others
+-- the memory has all frames of the driver's pages
 abbrev pub HasFramesOf : List PageRun → Memory → Type 0
 HasFramesOf runs m = (f : ℕ) → pages.has_frame runs f ≡ true → has_frame m f ≡ true
 
--- where the byte at a virtual address lies that pages have there, or else memories
+-- the physical address of a virtual one: by the driver's pages if they have it, or else by its memories
 abbrev pub reached_in : Option ℕ → FinMap nat_cmp KeptMemory → ℕ → Option ℕ
 reached_in (Some pa) memories va = Some pa
 reached_in None memories va =
@@ -42,7 +42,7 @@ reached_in None memories va =
 abbrev pub Reaches : List PageRun → FinMap nat_cmp KeptMemory → Memory → Type 0
 Reaches pages memories m = (va : ℕ) → physical m va ≡ reached_in (physical_in pages va) memories va
 
--- each memory stands in its frames, one behind the other
+-- each memory is in its frames, which follow one another
 abbrev pub AreStanding : FinMap nat_cmp KeptMemory → Memory → Type 0
 AreStanding memories m = (k : ℕ) (x : KeptMemory) → get memories k ≡ Some x → IsPlaced m x.first.0 x.count x.memory.len
 
@@ -56,7 +56,7 @@ abbrev pub is_idle_map : Option KeptMap → Bool
 is_idle_map None = false
 is_idle_map (Some o) = is_idle (map_of o).stage
 
--- the pages of a map that stands so are on their way back
+-- the pages of a map in this state are on their way back
 abbrev pub returns_in : Stage → Bool
 returns_in Idle = false
 returns_in (Waiting w) = false
@@ -77,7 +77,7 @@ is_tried (Some o) = is_idle (map_of o).stage || o.map.tried
 abbrev pub AreLoaded : FinMap nat_cmp KeptMap → Loans → Type 0
 AreLoaded maps loans = (k : ℕ) → contains_key loans k ≡ has_load (get maps k)
 
--- the pages of a map that stands so are lent out
+-- the pages of a map in this state are lent out for an access or a copy
 abbrev pub is_lent : held.Stage KeptLoad → Bool
 is_lent held.idle = false
 is_lent (held.waiting load_at callback room) = false
@@ -85,15 +85,16 @@ is_lent (held.loaded bounced segments pages) = false
 is_lent (held.lent bounced segments frames) = true
 is_lent held.returning = false
 
+-- the pages of a map, if there is one, are lent out for an access or a copy
 abbrev pub lends_pages : Option KeptMap → Bool
 lends_pages None = false
 lends_pages (Some o) = is_lent o.map.stage
 
--- how many pages go to the return queue at last, beside those that are there
+-- how many pages the maps will give to the return queue, beside those that are in it
 abbrev pub pages_due : FinMap nat_cmp KeptMap → ℕ
 pages_due maps = sum_by (λ e. due_of e.1) (entries maps)
 
--- how many items the loads bring that wait
+-- how many items the callbacks of the loads that wait will append
 abbrev pub items_due : FinMap nat_cmp KeptMap → ℕ
 items_due maps = sum_by (λ e. kept.items_of e.1) (entries maps)
 
@@ -101,7 +102,7 @@ items_due maps = sum_by (λ e. kept.items_of e.1) (entries maps)
 abbrev pub AreOwn : ℕ → List QueuedPage → Type 0
 AreOwn lane pages = list_any (λ q. not (q.map.lane.0 == lane)) pages ≡ false
 
--- they are those of maps whose pages are on their way back
+-- the pages of the return queue are of maps whose pages are on their way back
 abbrev pub AreReturning : FinMap nat_cmp KeptMap → List QueuedPage → Type 0
 AreReturning maps pages = list_any (λ q. not (is_returning (get maps q.map.made_at))) pages ≡ false
 
@@ -109,6 +110,6 @@ AreReturning maps pages = list_any (λ q. not (is_returning (get maps q.map.made
 abbrev pub IsVacantFrom : {X : Type 0} → ℕ → FinMap nat_cmp X → Type 0
 IsVacantFrom place made = (p : ℕ) → place ≤ p → contains_key made p ≡ false
 
--- how many items the operations from a place on have
+-- how many items the operations from this place of the script on have
 abbrev pub items_left : ℕ → List Op → ℕ
 items_left place script = sum_by (λ o. length (items_of o)) (drop place script)

@@ -8,6 +8,7 @@ use Rattle.lane_state.specs.Held.{devices_of, held}
 use Rattle.lane_state.specs.Kept.{tag_of, map_of, memory_of, ring_of, return_of, share_of, spaces_of}
 use Rattle.lane_state.specs.MapValues.{map_values}
 
+-- the ideal driver of what a driver holds
 abbrev pub ideal_of : Holdings → LaneState
 ideal_of h = record {
   id = h.id.0;
@@ -28,6 +29,6 @@ ideal_of h = record {
   spaces = spaces_of h.tags.map;
 }
 
--- what an operation gives that leaves these holdings
+-- the outcome of an operation with this answer that leaves these holdings
 abbrev pub given : Holdings → Answer → Outcome
 given h a = record { lane = ideal_of h; answer = a }

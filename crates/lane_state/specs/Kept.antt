@@ -1,4 +1,4 @@
--- What the tags, maps, memories, rings and shares that a lane keeps mean to the ideal driver.
+-- What the tags, maps, memories, rings and shares that a driver keeps mean to the ideal driver.
 use Rattle.std.specs.Prelude.{ℕ, ◌*◌, ◌==◌, List, [], ◌∷◌, map, length, Option, Some, None, if◌then◌else◌, is_some}
 use Rattle.std.specs.Prelude.{unwrap_or}
 use Rattle.std.specs.FinMap.{FinMap, get}
@@ -21,24 +21,24 @@ use Rattle.lane_state.specs.declared.kept.KeptRing.{KeptRing}
 use Rattle.lane_state.specs.declared.kept.KeptShare.{KeptShare}
 use Rattle.lane_state.specs.Loading.{bio_of}
 
--- a tag: its effective limits, whether its first allocation is done, and whether its device is behind an IOMMU
+-- the ideal tag: its effective limits, whether its first allocation is done, and whether its device is behind an IOMMU
 abbrev pub tag_of : KeptTag → LaneTag
 tag_of t = record { limits = t.tag; first_done = t.first_done; device = is_some t.space }
 
--- the address space of its device; one that is behind no IOMMU has none
+-- the address space of a tag's device, which is empty if the device is not behind an IOMMU
 abbrev pub space_of : Option KeptTag → Space
 space_of None = no_space
 space_of (Some t) = unwrap_or t.space no_space
 
--- those of tags, by the places that made them
+-- the address spaces of tags, by the places that made the tags
 abbrev pub spaces_of : FinMap nat_cmp KeptTag → ℕ → Space
 spaces_of tags k = space_of (get tags k)
 
--- a load that waits, which stands at a place of the script
+-- the ideal waiting load, by its place in the script and what its map keeps
 abbrev pub waits_of : ℕ → KeptLoad → WaitingLoad
 waits_of at w = record { load_at = at; bio = bio_of w.bytes; items = w.items; need = w.need }
 
--- where a map stands; pages that are lent out are still the map's
+-- the ideal stage of a map; pages that are lent out are still the map's
 abbrev pub stage_of : held.Stage KeptLoad → Stage
 stage_of held.idle = Idle
 stage_of (held.waiting load_at callback room) = Waiting (waits_of load_at callback)
@@ -46,7 +46,7 @@ stage_of (held.loaded bounced segments pages) = Loaded bounced segments (page_ad
 stage_of (held.lent bounced segments frames) = Loaded bounced segments (map (λ f. 4096 * f) frames)
 stage_of held.returning = Returning
 
--- a map
+-- the ideal map
 abbrev pub map_of : KeptMap → LaneMap
 map_of o = record {
   tag = o.tag;
@@ -55,7 +55,7 @@ map_of o = record {
   stage = stage_of o.map.stage;
 }
 
--- a memory
+-- the ideal memory object of a dmamem memory
 abbrev pub memory_of : KeptMemory → LaneMemory
 memory_of x = record {
   tag = x.tag;
@@ -65,11 +65,11 @@ memory_of x = record {
   coherent = x.memory.coherent;
 }
 
--- a ring
+-- the ideal ring
 abbrev pub ring_of : KeptRing → LaneRing
 ring_of r = record { mem = r.mem; slots = r.slots; head = r.head }
 
--- a page of the return queue
+-- the ideal entry of a page in the return queue
 abbrev pub return_of : QueuedPage → Return
 return_of q = record { map = q.map.made_at; zone = q.zone.0; page = page_address q.page }
 
@@ -77,7 +77,7 @@ return_of q = record { map = q.map.made_at; zone = q.zone.0; page = page_address
 abbrev pub pages_in : List QueuedPage → List FrameBytes
 pages_in returns = map (λ q. q.page) returns
 
--- the share of a zone, or 0 where none is kept
+-- a driver's share of the copying syncs of a zone, or 0 if none is kept
 abbrev pub share_of : List KeptShare → ℕ → ℕ
 share_of [] z = 0
 share_of (s ∷ shares) z = if z == s.zone.0 then s.count else share_of shares z
@@ -87,11 +87,11 @@ pub record Device : Type 0 where
   pub chunks : List Chunk
   pub pages : List FrameBytes
 
--- where there is no load, or one that has not ended
+-- the chunks and pages of a map without a load, or with one that waits or has ended: none
 abbrev pub no_device : Device
 no_device = record { chunks = []; pages = [] }
 
--- those of a map that stands so
+-- the bounced chunks and bounce pages of a map in this state
 abbrev pub device_in : held.Stage KeptLoad → Device
 device_in held.idle = no_device
 device_in (held.waiting load_at callback room) = no_device
@@ -99,12 +99,13 @@ device_in (held.loaded bounced segments pages) = record { chunks = bounced; page
 device_in (held.lent bounced segments frames) = record { chunks = bounced; pages = [] }
 device_in held.returning = no_device
 
--- those of a map, if there is one
+-- the bounced chunks and bounce pages of a map, or none if there is no map
 abbrev pub device_of : Option KeptMap → Device
 device_of None = no_device
 device_of (Some o) = device_in o.map.stage
 
--- how many pages a map that stands so gives to the return queue at last: those that it holds, or the need of its load
+-- how many pages a map in this state will give to the return queue: those that it holds, or the need of its waiting
+-- load
 abbrev pub due_in : held.Stage KeptLoad → ℕ
 due_in held.idle = 0
 due_in (held.waiting load_at callback room) = callback.need
@@ -112,10 +113,11 @@ due_in (held.loaded bounced segments pages) = length pages.items
 due_in (held.lent bounced segments frames) = length frames
 due_in held.returning = 0
 
+-- how many pages a map will give to the return queue
 abbrev pub due_of : KeptMap → ℕ
 due_of o = due_in o.map.stage
 
--- how many items the load of a map brings that waits
+-- how many items the callback of a map in this state will append
 abbrev pub items_in : held.Stage KeptLoad → ℕ
 items_in held.idle = 0
 items_in (held.waiting load_at callback room) = length callback.items
@@ -123,5 +125,6 @@ items_in (held.loaded bounced segments pages) = 0
 items_in (held.lent bounced segments frames) = 0
 items_in held.returning = 0
 
+-- how many items the callback of a map will append
 abbrev pub items_of : KeptMap → ℕ
 items_of o = items_in o.map.stage

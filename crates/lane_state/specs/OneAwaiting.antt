@@ -1,4 +1,4 @@
--- That loads that wait have what their callbacks take has one proof at most, so that a driver can keep it.
+-- `AreAwaiting` has at most one proof, so a driver can keep it as a ghost field.
 use Rattle.std.specs.Prelude.{ℕ, List, Option, Some, None, IfSome}
 use Rattle.std.specs.Coded.{Unit-prop}
 use Rattle.std.specs.Ordering.{nat_cmp}

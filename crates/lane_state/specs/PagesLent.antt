@@ -12,19 +12,19 @@ use Rattle.phys_memory.specs.Memory.{Memory}
 use Rattle.busdma_rules.specs.Segments.Obeying.{segments_bytes}
 use Rattle.lane_state.specs.Kept.{device_in}
 
--- a map has a load with its pages, which lie apart from each other and from the frames of a memory
+-- a map has a load with its pages, which share no frame with each other or with the memory
 pub record HasPages (m : Memory) (s : held.Stage KeptLoad) : Type 0 where
   pub loaded : held.state_of s ≡ Loaded
   pub unlent : held.lent_frames s ≡ None
   pub apart : AreApart m (frames_of (device_in s).pages)
 
--- its device reaches `len` bytes of the load, from `off` on, in the memory or in the pages
+-- a load's device reaches `len` bytes of the load, from `off` on, in the memory or in the load's pages
 pub record IsReached (m : Memory) (s : held.Stage KeptLoad) (off len : ℕ) : Type 0 where
   pub pages : HasPages m s
   pub range : off + len ≤ segments_bytes (held.segments_of s)
   pub there : AllByRecursion (IsThere m (frames_of (device_in s).pages)) (bus_range off len (held.segments_of s))
 
--- its bounced chunks lie in the memory, and on the bus in the pages
+-- the bounced chunks of a load are in the memory by their own addresses, and in the load's pages by their bus addresses
 pub record IsBounced (m : Memory) (s : held.Stage KeptLoad) : Type 0 where
   pub pages : HasPages m s
   pub chunks : AllZip (IsHeld m) (paged (held.chunks_of s)) (frames_of (device_in s).pages)

@@ -6,7 +6,7 @@ use Rattle.busdma_machine.specs.Bounce.History.{IsOpening, IsSound}
 use Rattle.ideal_lane.specs.Agreement.{AgreesWith}
 use Rattle.ideal_lane.specs.State.{LaneState}
 
--- a door serves a driver, its history is sound from an account whose frames lie below the end of the machine's memory,
+-- a door serves a driver, its history is sound from an account whose frames are below the end of the machine's memory,
 -- and its account agrees with the driver
 pub record IsServed (l : LaneState) (d : Seen) : Type 0 where
   pub served : IsTrue (d.serves l.id)

@@ -16,13 +16,14 @@ use Rattle.lane_state.specs.Ideal.{ideal_of}
 abbrev pub loaded_once : Op → ℕ
 loaded_once o = option_map_or buffer_bytes (about o).loads 0
 
--- how many bytes the operations from a place on load; where the resend of the first is due, it loads its bytes once more
+-- how many bytes the operations from this place on still load; an operation whose resend is due still loads its chain
+-- once
 abbrev pub bytes_ahead : Option Send → ℕ → List Op → ℕ
 bytes_ahead None place script = sum_by loaded_by (drop place script)
 bytes_ahead (Some s) place script = span_bytes s.chain + sum_by loaded_by (drop (place + 1) script)
 
--- each load is small; a place in the return queue is promised for each page that is due to join it, and for no other;
--- and these are, with the pages that the loads ahead may need, no more than all loads of a scenario have bytes
+-- the loads of a driver are small: each load is; a place in the return queue is promised exactly for each page that is
+-- due to join it; and these places, with the bytes that are still to be loaded, are within the limit of a scenario
 pub record HasSmallLoads (h : Holdings) : Type 0 where
   pub each : (p : ℕ) (o : Op) → slice_get h.script p ≡ Some o → loaded_once o ≤ buffer_limit
   pub due : h.agenda.promised ≡ pages_due h.maps.map

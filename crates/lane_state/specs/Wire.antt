@@ -1,4 +1,4 @@
--- The bytes that a lane really holds, by their bus addresses.
+-- The bytes that a driver really holds, by their bus addresses.
 use Rattle.std.specs.Prelude.{List, Some}
 use Rattle.std.specs.List.{flat_map}
 use Rattle.std.specs.Ordering.{nat_cmp}
@@ -17,16 +17,16 @@ use Rattle.lane_state.specs.declared.kept.KeptMap.{KeptMap}
 use Rattle.lane_state.specs.Ideal.{ideal_of}
 use Rattle.lane_state.specs.Kept.{device_of}
 
--- the bounce pages of maps
+-- the bounce pages of all maps
 abbrev pub held_pages : FinMap nat_cmp KeptMap → List FrameBytes
 held_pages maps = flat_map (λ e. (device_of (Some e.1)).pages) (entries maps)
 
--- the bytes of the bounce pages of a driver's maps, and of its own frames
+-- the bytes at each address that a driver really holds: in the bounce pages of its maps, or else in its own frames
 abbrev pub wire_of : Holdings → Wire
 wire_of h = with_bytes_of (held_pages h.maps.map) (wire h.memory.memory)
 
--- a driver lies in its machine; its loads are laid in its memory and in their pages, which lie apart; the address spaces
--- of its IOMMU tags are in order, and their loads stand in their runs; and its wire is faithful
+-- a driver is within its machine; its loads are in its memory and in their pages, which share no frame; the address
+-- spaces of its IOMMU tags are in order, with the loads in their runs; and its wire is faithful
 pub record IsWired (h : Holdings) : Type 0 where
   pub machine : IsInMachine (ideal_of h)
   pub laid : AreLaid (ideal_of h)

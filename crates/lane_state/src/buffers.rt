@@ -33,9 +33,11 @@ use load_mbuf::total;
 use segment_build::{Measured, build_into, fronts_ask_no_more, measure};
 use std::alloc::{AllocError, Global};
 
-/// The bytes that a load names: `len` bytes from a virtual address on, which may lie at 2^64 or above; or, where its
-/// operation has them in the script, those of spans one behind the other, or `len` bytes of frames that are not mapped,
-/// from `off` in the first on.
+/// The bytes that a load names.
+///
+/// `Span` has `len` bytes from the virtual address `va` on, which may be 2^64 or above. `Spans` has the bytes of these
+/// spans of the script in order. `Frames` has `len` bytes of frames that are not mapped, from byte `off` of the first
+/// frame on.
 #[derive(Clone, Copy)]
 pub enum LoadBytes<'s> {
     Span {
@@ -51,7 +53,7 @@ pub enum LoadBytes<'s> {
 }
 
 impl<'s> LoadBytes<'s> {
-    /// The bytes of a bio.
+    /// Returns the bytes of a bio.
     fn of(bio: &'s Bio) -> LoadBytes<'s>
         ensures { bio_of result ≡ bio.now }
     {
@@ -69,7 +71,7 @@ impl<'s> LoadBytes<'s> {
         }
     }
 
-    /// How many they are.
+    /// Returns how many bytes these are.
     pub fn len(self) -> u64
         requires { bio_bytes (bio_of self) ≤ 2 ^ 20 }
         ensures { result ≡ bio_bytes (bio_of self.entry) }
@@ -82,7 +84,8 @@ impl<'s> LoadBytes<'s> {
     }
 }
 
-/// Whether the load of a buffer with these flags is refused where it would have to wait.
+/// Returns whether the load of a buffer with these flags is refused if it would have to wait. Loads of mbuf chains and
+/// sends never wait, nor do loads with `BUS_DMA_NOWAIT`.
 pub fn never_waits(buffer: &Buffer, flags: u32) -> bool
     ensures { result ≡ turns.never_waits buffer.now flags }
 {
@@ -99,7 +102,7 @@ fn is_nowait(flags: u32) -> bool
 }
 
 impl Holdings<'_> {
-    /// The bytes of a buffer, or None where the memory of its place does not exist.
+    /// Returns the bytes of a buffer. Returns `None` if the buffer is in a memory that does not exist.
     pub fn load_bytes<'b>(&self, buffer: &'b Buffer) -> Option<LoadBytes<'b>>
         ensures none { IfNone result (bio_at (ideal_of self.now) buffer.now ≡ None) }
         ensures some { IfSome result (λ bytes. bio_at (ideal_of self.now) buffer.now ≡ Some (bio_of bytes)) }
@@ -116,7 +119,7 @@ impl Holdings<'_> {
         }
     }
 
-    /// The parts of the bytes of a load, in order, up to the first that the driver does not reach.
+    /// Returns the parts of the bytes of a load, in order, up to the first byte that the driver does not reach.
     pub fn parts<'a>(&'a self, bytes: LoadBytes<'a>) -> BioParts<'a>
         requires { IsLoadable self.now.pages.now (bio_of bytes) }
         ensures parts { result ≡ load_stream (ideal_of self.now) (bio_of bytes.entry) }
@@ -131,7 +134,12 @@ impl Holdings<'_> {
         }
     }
 
-    /// The extents of the bytes of spans, in order, up to the first byte that the driver does not reach.
+    /// Returns the extents of the bytes of spans, in order, up to the first byte that the driver does not reach. The
+    /// extents have physical addresses.
+    ///
+    /// # Errors
+    ///
+    /// `AllocError` if memory runs out. The driver is not changed.
     pub fn extents(&self, alloc: Global, spans: &[Span]) -> Result<Vec<Extent>, AllocError>
         requires { span_bytes spans.now ≤ 2 ^ 20 }
         ensures bytes { IfOk result (λ es.
@@ -143,7 +151,7 @@ impl Holdings<'_> {
         extents_of(alloc, parts_of_spans(&self.memory, spans))
     }
 
-    /// The parts of the `len` bytes from a virtual address on.
+    /// Returns the parts of the `len` bytes from a virtual address on.
     fn parts_from(&self, va: u128, len: u64) -> BioParts<'_>
         requires { len ≤ 2 ^ 20 }
         ensures parts { let bytes = Mapped (record { va = record { 0 = va }; len = len }) in
@@ -160,7 +168,11 @@ impl Holdings<'_> {
     }
 }
 
-/// The extents of the parts of a load, in order.
+/// Returns the extents of the parts of a load, in order.
+///
+/// # Errors
+///
+/// `AllocError` if memory runs out. The parts are used up in either case.
 pub fn extents_of(alloc: Global, parts: BioParts<'_>) -> Result<Vec<Extent>, AllocError>
     ensures { IfOk result (λ extents. extents.items ≡ stream_extents parts.entry) }
 {
@@ -173,7 +185,7 @@ pub fn extents_of(alloc: Global, parts: BioParts<'_>) -> Result<Vec<Extent>, All
     Ok(extents)
 }
 
-/// The measure of the parts of a load, without memory.
+/// Measures the parts of a load: its bytes, chunks and pieces. Takes no memory.
 pub fn measure_parts(tag: &Tag, maxmem: u64, parts: BioParts<'_>) -> Measured
     requires { IsStream parts }
     ensures { IsMeasured tag.now maxmem parts.entry result }
@@ -181,9 +193,12 @@ pub fn measure_parts(tag: &Tag, maxmem: u64, parts: BioParts<'_>) -> Measured
     measure(tag, maxmem, parts)
 }
 
-/// Builds the segments and the bounced chunks of the parts of a load into its room, in the pages whose addresses stand
-/// there, and answers whether the segments are few enough. Where they are not, the list of segments is empty; so is
-/// that of the chunks, but no clause here says it.
+/// Builds the segments and the bounced chunks of the parts of a load, and returns whether the segments are few enough
+/// for the tag.
+///
+/// The lists are built in the load's `room`. Bounced chunks are in the pages whose addresses the room has. If the
+/// segments are too many, the list of segments is empty afterwards. The list of chunks is then empty too, but no clause
+/// here says so.
 pub fn build_parts(tag: &Tag, maxmem: u64, parts: BioParts<'_>, room: &mut LoadRoom) -> bool
     requires stream { IsStream parts }
     requires pages { AllByRecursion IsPage room.old.addresses.items }
@@ -205,7 +220,7 @@ pub fn build_parts(tag: &Tag, maxmem: u64, parts: BioParts<'_>, room: &mut LoadR
     build_into(tag, maxmem, parts, pages, &mut room.list, &mut room.bounced)
 }
 
-/// The addresses of pages, in order, in an empty list that has room for them.
+/// Writes the bus addresses of pages, in order, to an empty list that has room for them.
 pub fn write_addresses(pages: &[Page], list: &mut RoomyList<Pa>)
     requires empty { list.old.items ≡ [] }
     requires room { length pages.now ≤ list.old.spare }
@@ -217,7 +232,7 @@ pub fn write_addresses(pages: &[Page], list: &mut RoomyList<Pa>)
     }
 }
 
-/// Copies segments behind those of a list that has room for them.
+/// Appends segments to a list that has room for them.
 pub fn copy_segments(from: &[Segment], to: &mut SegmentRoom)
     requires { length from.now ≤ to.old.spare }
     ensures { to.new.items ≡ to.old.items ++ from.now }

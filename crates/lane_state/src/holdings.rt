@@ -1,4 +1,4 @@
-//! What a driver holds.
+//! What a driver holds at work.
 
 ghost use Rattle.std.specs.Prelude.{◌≡◌, ◌≤◌, ℕ, true, false};
 ghost use Rattle.std.specs.FinMap.{get};
@@ -16,10 +16,13 @@ use lane_tables::{Agenda, PlaceTable};
 use loan_table::LoanTable;
 use phys_memory::LanePages;
 
-/// A driver's number, script and pages, the end of the machine's memory in frames, and all that its steps change: its
-/// memory; its tags, maps, dmamem memories and rings by the places that made them, where the map of a memory has the
-/// memory's place; what its maps lend; its place and queues, and whether the resend of the send at this place is due; and
-/// its shares of what zones copied.
+/// What one driver holds. Fixed are its script, its own pages, its number, and the end of the machine's memory in
+/// frames (`maxmem`). Its steps change the rest.
+///
+/// `tags`, `maps`, `memories` and `rings` are kept by the place in the script that made them, and the map of a dmamem
+/// memory has the memory's place. `loans` says which bytes are Known and what the maps lend. `agenda` has the place of
+/// the next operation and the queues. `due` says whether the resend of the send at this place is due. `shares` counts,
+/// for each zone, the driver's syncs that copied.
 #[derive(Drop)]
 pub struct Holdings<'s> {
     pub script: Script<'s>,
@@ -55,7 +58,7 @@ pub struct Holdings<'s> {
 }
 
 impl Holdings<'_> {
-    /// The map or the memory that was made at a place.
+    /// Returns the account's name for the map or the memory that was made at a place of the script.
     pub fn map_id(&self, made_at: u32) -> MapId
         ensures { result ≡ record { lane = self.now.id; made_at = made_at } }
     {
@@ -66,14 +69,14 @@ impl Holdings<'_> {
     }
 }
 
-/// What an operation answers, and whether it made a call under the bounce lock.
+/// The answer of an operation, and whether it made a call under the bounce lock.
 #[derive(Drop)]
 pub struct Answered {
     pub answer: Answer,
     pub held: bool,
 }
 
-/// What a step answers that makes no call.
+/// Returns the answer of a step that makes no call under the bounce lock.
 pub fn unheld(answer: Answer) -> Answered
     ensures { result ≡ record { answer = answer; held = false } }
 {
@@ -83,7 +86,7 @@ pub fn unheld(answer: Answer) -> Answered
     }
 }
 
-/// The answer of a step that is not done.
+/// Returns the answer of a step that is refused with this report, at byte `at`.
 pub fn report(name: ReportName, at: u64) -> Answer
     ensures { result ≡ answer.Report (record { name = name; at = at }) }
 {

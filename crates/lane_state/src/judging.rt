@@ -1,4 +1,7 @@
-//! What stands in the way of the bytes of a load.
+//! Whether the bytes of a load may be loaded: the first byte that the driver does not reach, or that is foreign.
+//!
+//! A byte is foreign to a load if it is a byte of a memory, unless the load is one of that memory's own map and has the
+//! byte at its place. The load of a memory's map must have the memory's first bytes, and nothing else.
 
 ghost use Rattle.std.specs.Prelude.{◌≡◌, ℕ, ◌+◌, ◌<◌, ◌≤◌, ◌^◌, is_some};
 ghost use Rattle.std.specs.FinMap.{get};
@@ -25,8 +28,11 @@ use load_bio::BioParts;
 impl Holdings<'_> {
     ghost use Rattle.lane_state.specs.Ideal.{ideal_of};
 
-    /// What stands in the way of a load of a map, at the first such byte: the driver does not reach it, or it is memory
-    /// that is not the map's.
+    /// Judges the bytes of a load of a map: the first byte that the driver does not reach is refused as `Unmapped`, and
+    /// the first foreign byte as `ForeignMemory`. The earlier of the two decides, and `Unmapped` if both are at one
+    /// byte.
+    ///
+    /// `map` is the place in the script that made the map. The report's `at` is an offset in the load. Takes no memory.
     pub fn judge_load(&self, map: u32, bytes: LoadBytes<'_>) -> Judged
         requires { IsLoadable self.now.pages.now (bio_of bytes) }
         ensures { result ≡ load_judged (ideal_of self.now) map (bio_of bytes.entry) }
@@ -36,7 +42,7 @@ impl Holdings<'_> {
         earlier(unreached, foreign)
     }
 
-    /// The first byte of memory that is not the map's.
+    /// Returns the refusal at the first byte of a load that is foreign to this map.
     fn judge_memory(&self, map: u32, bytes: LoadBytes<'_>) -> Judged
         requires { bio_bytes (bio_of bytes) ≤ 2 ^ 20 }
         ensures { result ≡ foreign_judged (ideal_of self.now) map (bio_of bytes.entry) }
@@ -48,7 +54,7 @@ impl Holdings<'_> {
         }
     }
 
-    /// The first byte of spans that is memory and not the map's.
+    /// Returns the refusal at the first byte of these spans that is foreign to this map.
     fn judge_spans(&self, map: u32, spans: &[Span]) -> Judged
         requires { span_bytes spans.now < 2 ^ 64 }
         ensures { result ≡ foreign_bytes (ideal_of self.now) map 0 (span_addresses spans.now) }
@@ -64,8 +70,8 @@ impl Holdings<'_> {
         Judged::Fine
     }
 
-    /// The first such byte of `len` bytes from a virtual address on, of which the first stands at an offset of the
-    /// load.
+    /// Returns the refusal at the first foreign byte among the `len` bytes from a virtual address on. The first of them
+    /// is at an offset of the load.
     fn judge_span(&self, map: u32, from: u128, len: u64, offset: u64) -> Judged
         requires { offset + len < 2 ^ 64 }
         ensures { result ≡ foreign_bytes (ideal_of self.now) map offset (run_of from len) }
@@ -76,8 +82,8 @@ impl Holdings<'_> {
         }
     }
 
-    /// The first of `len` bytes of frames that are not mapped, where the map is a memory's: no such byte is
-    /// the memory's.
+    /// Returns the refusal at the first foreign byte among `len` bytes of frames that are not mapped. For a memory's
+    /// map this is the first byte, because no such byte is the memory's. For another map no such byte is foreign.
     fn judge_frames(&self, map: u32, off: u64, len: u64) -> Judged
         ensures { result ≡ judged (λ (x : ℕ × ℕ). foreign_refusal (is_some (get (ideal_of self.now).mems map))) 0
             (enumerate_from 0 (run_of off len)) }
@@ -91,8 +97,8 @@ impl Holdings<'_> {
         foreign(0)
     }
 
-    /// The first byte of a memory among `len` bytes from a virtual address on, of which the first stands at an offset
-    /// of the load of a map that is no memory's.
+    /// Returns the refusal at the first byte that is in any memory, among the `len` bytes from a virtual address on,
+    /// for a map that is not a memory's. The first of these bytes is at an offset of the load.
     fn judge_shared(&self, from: u128, len: u64, offset: u64) -> Judged
         requires { offset + len < 2 ^ 64 }
         ensures { result ≡ judged (λ v. foreign_refusal (is_memory_byte (ideal_of self.now) v)) offset
@@ -106,7 +112,7 @@ impl Holdings<'_> {
     }
 }
 
-/// The first byte of one memory among them.
+/// Returns the refusal at the first of these bytes that is in this memory.
 fn judge_inside(kept: &KeptMemory, from: u128, len: u64, offset: u64) -> Judged
     requires { offset + len < 2 ^ 64 }
     ensures { result ≡ judged (λ v. foreign_refusal (is_in_memory v (memory_of kept.now))) offset
@@ -122,7 +128,8 @@ fn judge_inside(kept: &KeptMemory, from: u128, len: u64, offset: u64) -> Judged
     }
 }
 
-/// The first of them, in the load of a memory's map, that is not the memory's byte at its place.
+/// Returns the refusal at the first of these bytes that is not this memory's byte at its place, for the memory's own
+/// map.
 fn judge_own(kept: &KeptMemory, from: u128, len: u64, offset: u64) -> Judged
     requires { offset + len < 2 ^ 64 }
     ensures { result ≡ own_judged (memory_of kept.now) offset (run_of from len) }
@@ -139,7 +146,7 @@ fn judge_own(kept: &KeptMemory, from: u128, len: u64, offset: u64) -> Judged
     }
 }
 
-/// The virtual address of a memory whose first byte has this physical address.
+/// Returns the virtual address of a memory whose first byte has this physical address.
 pub(crate) fn begin_of(first: Pa) -> u128
     ensures is { result ≡ virtual_of first.0 }
     ensures low { result < 2 ^ 65 }
@@ -156,7 +163,7 @@ fn foreign(at: u64) -> Judged
     })
 }
 
-/// The byte at which a stream ends that cannot be reached.
+/// Returns the refusal at the byte that ends this stream because it is not reached.
 fn judge_parts(parts: BioParts<'_>) -> Judged
     ensures { result ≡ unmapped_judged (unmapped_of parts.entry) }
 {
@@ -171,7 +178,7 @@ fn judge_parts(parts: BioParts<'_>) -> Judged
     Judged::Fine
 }
 
-/// The earlier of two refusals.
+/// Returns the earlier of two refusals, and the first one if both are at one byte.
 fn earlier(one: Judged, other: Judged) -> Judged
     ensures { result ≡ earlier one other }
 {

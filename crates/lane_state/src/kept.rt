@@ -1,4 +1,4 @@
-//! What a lane keeps of its tags, maps, memories, rings and shares.
+//! What a driver keeps of its tags, maps, memories, rings and shares.
 
 ghost use Rattle.dma_map.specs.Callback.{appended};
 
@@ -9,7 +9,7 @@ use dma_tag::Tag;
 use dmamem::Memory;
 use iommu_map::Iommu;
 
-/// A tag, whether its first allocation is done, and the address space of its device where that is behind an IOMMU.
+/// A tag, whether its first allocation is done, and the address space of its device if the device is behind an IOMMU.
 #[derive(Drop)]
 pub struct KeptTag {
     pub tag: Tag,
@@ -17,8 +17,9 @@ pub struct KeptTag {
     pub space: Option<Iommu>,
 }
 
-/// A load that waits, as its map keeps it: the bytes that it loads, the items that its callback appends, and how many
-/// pages it needs. So the map of bus_dma(9) keeps the memory of a load that is deferred, with its callback.
+/// A load that waits, as its map keeps it: the bytes that it loads, the items that its callback appends to the transfer
+/// queue, and how many bounce pages it needs. Likewise, the map of bus_dma(9) keeps the memory and the callback of a
+/// deferred load.
 #[derive(Drop)]
 pub struct KeptLoad<'s> {
     pub bytes: LoadBytes<'s>,
@@ -44,8 +45,8 @@ pub struct KeptMap<'s> {
     pub map: DmaMap<KeptLoad<'s>>,
 }
 
-/// A memory, the place in the script that made its tag, and its frames, which follow one another: the physical address
-/// of the first, and how many they are.
+/// A memory: the place in the script that made its tag, the physical address of its first frame, and how many frames it
+/// has. The frames follow one another.
 #[derive(Clone, Copy, Debug, PartialEq, Eq)]
 pub struct KeptMemory {
     pub tag: u32,
@@ -63,7 +64,7 @@ pub struct KeptRing {
     pub head: u32,
 }
 
-/// The lane's share of the syncs of a zone that copied.
+/// How many of the driver's syncs copied bytes to or from pages of a zone.
 #[derive(Clone, Copy, Debug, PartialEq, Eq)]
 pub struct KeptShare {
     pub zone: ZoneId,

@@ -1,4 +1,4 @@
-//! What a driver holds at work, and what its steps share: where bytes lie, and how loads are judged and measured.
+//! What a driver holds at work, and what its steps share: where bytes are, and how loads are judged and measured.
 #![tactic(auto)]
 
 mod buffers;

@@ -1,4 +1,4 @@
-//! Where the bytes of places lie.
+//! Where bytes are that a script names by their places.
 
 ghost use Rattle.std.specs.Prelude.{◌≡◌, ◌^◌, ◌<◌, [], length, map, IfOk, Some};
 ghost use Rattle.std.specs.FinMap.{get};
@@ -20,11 +20,11 @@ use busdma_base::{ExtentList, Place, Va};
 use phys_memory::Walked;
 use std::alloc::{AllocError, Global};
 
-/// The virtual address at which no byte is reached, nor at any above it: 2^64.
+/// The end of the addresses at which bytes can be reached: 2^64.
 pub(crate) const END: u128 = 0x1_0000_0000_0000_0000;
 
 impl Holdings<'_> {
-    /// Whether a map is one of an IOMMU tag.
+    /// Returns whether the map's tag is an IOMMU tag. Also `false` if there is no such map.
     pub fn is_device(&self, map: u32) -> bool
         ensures { (o : LaneMap) → get (ideal_of self.now).maps map ≡ Some o → result ≡ is_device (ideal_of self.now) o }
     {
@@ -37,8 +37,8 @@ impl Holdings<'_> {
         }
     }
 
-    /// The virtual address of a place, or None where its memory does not exist. It may lie at 2^64 or above, since a
-    /// place is as far behind its memory's first byte as it says.
+    /// Returns the virtual address of a place, or `None` if the memory that it names does not exist. The address may be
+    /// 2^64 or above, because an offset in a memory is not limited.
     pub fn virtual_at(&self, place: Place) -> Option<u128>
         ensures { result ≡ virtual_at (ideal_of self.now) place }
     {
@@ -51,7 +51,12 @@ impl Holdings<'_> {
         }
     }
 
-    /// Where the `len` bytes from a virtual address on lie.
+    /// Finds the physical addresses of the `len` bytes from a virtual address on, as extents in order, or the first
+    /// byte that the driver does not reach.
+    ///
+    /// # Errors
+    ///
+    /// `AllocError` if memory runs out. The driver is not changed.
     pub fn reach(&self, alloc: Global, va: u128, len: u64) -> Result<Walked, AllocError>
         ensures verdict { let refusal = unreached (physical self.now.memory.memory) in
             IfOk result (λ w. verdict w ≡ judged refusal 0 (run_of va len)) }
@@ -70,7 +75,7 @@ impl Holdings<'_> {
     }
 }
 
-/// The walk over `len` bytes of which none is reached.
+/// Returns the walk over `len` bytes of which none is reached.
 fn unreached(alloc: Global, len: u64) -> Walked
     ensures { result ≡ walk_of [] len }
 {

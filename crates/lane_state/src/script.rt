@@ -1,4 +1,4 @@
-//! A driver's script.
+//! The script of a driver.
 
 ghost use Rattle.std.specs.Prelude.{◌≡◌, ◌+◌, ◌^◌, ◌<◌, ◌++◌, [], ◌∷◌, length, slice_get, option_copied};
 ghost use Rattle.std.specs.Prelude.{OnErr, OnOk};
@@ -7,8 +7,8 @@ use busdma_base::Op;
 use std::alloc::{AllocError, Global};
 use std::marker::Model;
 
-/// The operations of a script in order: those that it had when its driver opened, and behind them those that it got one
-/// by one.
+/// The operations of a script in order: those that it had when its driver opened, followed by those that were appended
+/// one by one.
 #[derive(Drop)]
 pub struct Script<'s> {
     first: &'s [Op],
@@ -27,7 +27,7 @@ impl<'s> Model for Script<'s> {
 }
 
 impl<'s> Script<'s> {
-    /// The script that has these operations.
+    /// Makes the script that has these operations.
     pub fn new(alloc: Global, first: &'s [Op]) -> Script<'s>
         requires { length first.now < 2 ^ 32 }
         ensures { result ≡ first.now }
@@ -38,14 +38,14 @@ impl<'s> Script<'s> {
         }
     }
 
-    /// How many operations it has.
+    /// Returns how many operations the script has.
     pub fn len(&self) -> u32
         ensures { result ≡ length self.now }
     {
         (self.first.len() + self.further.len()) as u32
     }
 
-    /// The operation at a place, or None where it has none there.
+    /// Returns the operation at a place, or `None` if the script has no operation there.
     pub fn get(&self, place: u32) -> Option<&'s Op>
         ensures { option_copied result ≡ slice_get self.now place }
     {
@@ -59,6 +59,10 @@ impl<'s> Script<'s> {
     }
 
     /// Appends an operation.
+    ///
+    /// # Errors
+    ///
+    /// `AllocError` if memory runs out. The script is then unchanged.
     pub fn push(&mut self, op: &'s Op) -> Result<(), AllocError>
         requires { length self.old + 1 < 2 ^ 32 }
         ensures ok { OnOk result (self.new ≡ self.old ++ op.now ∷ []) }

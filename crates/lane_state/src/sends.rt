@@ -1,4 +1,4 @@
-//! Sends, whose chain is copied to clusters and loaded from there once more where it has too many segments.
+//! Sends. If the chain of a send has too many segments, it is copied to clusters and loaded from there again.
 
 ghost use Rattle.std.specs.Prelude.{◌≡◌, option_map};
 ghost use Rattle.ideal_lane.specs.Sends as sends;
@@ -9,8 +9,8 @@ ghost use Rattle.lane_state.specs.Sends.{the_send};
 use crate::holdings::Holdings;
 use busdma_base::{Buffer, ItemList, Mbuf, Op, Span};
 
-/// What the resend of a send is made of: its map, its chain, its clusters as a vector of as many bytes, and the items
-/// that its callback appends.
+/// What a resend needs to know of its send: the map, the chain, the clusters as a vector of spans with as many bytes as
+/// the chain, and the items that its callback appends.
 #[derive(Clone, Copy)]
 pub struct Resend<'s> {
     pub map: u32,
@@ -20,7 +20,8 @@ pub struct Resend<'s> {
 }
 
 impl<'s> Resend<'s> {
-    /// The resend of an operation, if it is a send whose clusters are enough.
+    /// Returns the resend of an operation. Returns `None` if the operation is no send, or if its clusters are not
+    /// enough.
     pub fn of(op: &'s Op) -> Option<Resend<'s>>
         ensures { option_map the_send result ≡ sends.send_of op.now }
     {
@@ -50,7 +51,8 @@ impl<'s> Resend<'s> {
         }
     }
 
-    /// The same of the load of a buffer.
+    /// Returns the resend of the load of this buffer. Returns `None` if the buffer is no send's, or if its clusters are
+    /// not enough.
     fn of_buffer(map: u32, buffer: &'s Buffer, items: &'s ItemList) -> Option<Resend<'s>>
         ensures { option_map the_send result ≡ sends.send_in map items.now buffer.now }
     {
@@ -70,7 +72,7 @@ impl<'s> Resend<'s> {
 }
 
 impl<'s> Holdings<'s> {
-    /// The resend that is due, if one is.
+    /// Returns the resend that is due. Returns `None` if no resend is due.
     pub fn due_resend(&self) -> Option<Resend<'s>>
         ensures { option_map the_send result ≡ due_send (ideal_of self.now) }
     {

@@ -29,7 +29,7 @@ no_others : (es : List HoldEntry) → All (λ h. true ≡ false) es → es ≡ [
 no_others [] all = refl
 no_others (e ∷ es) all = absurd (true≢false (All-head (λ (h : HoldEntry). true ≡ false) e es all))
 
--- where a hub let others in, it let in none
+-- a hub that could let others in let in none
 same-passed : (h : HubSeen) (others : List HoldEntry) (m : Seen) → Passes (door h) others m → m.history ≡ h.history
 same-passed h others m p =
     p.history ∙ (ap (λ es. h.history ++ es) (no_others others p.apart) ∙ append-nil h.history)
@@ -66,7 +66,7 @@ pub made_or_failed : {X E : Type 0} (h g : HubSeen) (lane : ℕ) (c : HubCall) (
 made_or_failed h g lane c as_reply (Ok x) held fails = (made h g lane c (as_reply x) held, tt)
 made_or_failed h g lane c as_reply (Err e) held fails = (tt, failed h g fails)
 
--- the two of the taking of a callback
+-- the two answers when a callback is asked for
 pub made_or_missed : (h g : HubSeen) (lane : ℕ) (r : Option Called)
     → MatchOption r (Misses (door h) lane (door g)) (λ c. Holds (door h) lane TakeCallback (called_reply c) (door g))
     → MatchOption r (IsMissed h.opening h.history lane g.history)
@@ -79,7 +79,7 @@ in_row : (o : Option RoomyPages) → IfSome o (λ pages. IsRow (page_addresses p
 in_row None row few = tt
 in_row (Some pages) row few = record { row = row; few = few }
 
--- where memory was there, the pages of a memory lie in a row
+-- if memory did not run out, the pages of a memory are in a row
 pub with_row : {E : Type 0} (P : Option RoomyPages → Type 0) (same : Type 0) (r : Result (Option RoomyPages) E)
     → IfOk r P × OnErr r same → IfOk r (λ x. IfSome x (λ pages. IsRow (page_addresses pages.items)))
     → IfOk r (λ x. IfSome x (λ pages. length pages.items ≤ 8192))
@@ -87,13 +87,13 @@ pub with_row : {E : Type 0} (P : Option RoomyPages → Type 0) (same : Type 0) (
 with_row P same (Ok x) h row few = ((h.0, in_row x row few), tt)
 with_row P same (Err e) h row few = (tt, h.1)
 
--- a call that was made added an entry of its lane
+-- a call that was made has added an entry of its lane
 module _ (o : Account) (before after : List HoldEntry) (name : ℕ) where
   grows : (lane : ℕ) (c : HubCall) (r : HubReply) → lane + 1 ≡ name → IsEntered o before lane c r after
       → Grows (IsOfName name) before after
   grows lane c r own m = inr (record { lane = record { 0 = lane }; call = c; reply = r }, own, m.entry)
 
-  -- what answers a call added an entry of its lane, or none
+  -- what answers a call has added an entry of its lane, or none
   pub grows_answered : (c : DoorCall) (r : DoorReply) → lane_of c + 1 ≡ name → Answers o before name c r after
       → Grows (IsOfName name) before after
   grows_answered (call.AttachTag alloc lane tag) (reply.AttachTag (Ok g)) own h = grows _ _ _ own h.0
@@ -111,7 +111,7 @@ module _ (o : Account) (before after : List HoldEntry) (name : ℕ) where
   grows_answered (call.MemFree mem pages) reply.MemFree own h = grows _ _ _ own h
   grows_answered _ _ own h = absurd h
 
--- an answer, where the hub's value and the call are known by other names
+-- an answer, if the hub's value and the call are known by other names
 pub answers_here : (k h : HubSeen) (after : List HoldEntry) (name : ℕ) (d c : DoorCall) (r : DoorReply) → k ≡ h
     → c ≡ d → Answers k.opening k.history name d r after → Answers h.opening h.history name c r after
 answers_here k h after name d c r value same a =

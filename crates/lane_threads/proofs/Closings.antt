@@ -1,4 +1,4 @@
--- What the passes of lanes knew begins the hub's history, and what came after is of other lanes.
+-- The hub's history begins with what the passes of lanes knew, and what came after is of other lanes.
 use Rattle.std.proofs.Common.{◌≡◌, ◌≢◌, ℕ, ◌+◌, ◌==◌, ◌<◌, List, [], ◌∷◌, ◌++◌, All, Contains, Some, refl, sym, ap}
 use Rattle.std.proofs.Common.{◌∙◌, subst, arith, append-nil, eq-eqb, ne_eqb}
 use Rattle.std.proofs.lemmas.List.Elements.{All-nil, All-cons, All-head, All-tail, All-append, All-contains}
@@ -23,7 +23,7 @@ use Rattle.lane_threads.specs.Object.{IsLegalHistory, IsOfName}
 use Rattle.lane_threads.specs.PassDoor.{seen_from, seen}
 use Rattle.lane_threads.proofs.Turning.{at, passes as passes_to}
 
--- one more pass is joined
+-- a pass that was joined to the old one stays joined after one more pass
 joined-later : (old other new : LanePass) → TakesIn old other new → (p : LanePass) → IsJoined old p → IsJoined new p
 joined-later old other new t p h = record {
   begins = prefix_then p.front old.front new.front h.begins t.begins;

@@ -1,4 +1,4 @@
--- What a turn at the turnstile tells the door of a lane.
+-- What the door of a lane learns by a turn at the turnstile.
 use Rattle.std.proofs.Common.{◌≡◌, ◌≢◌, ℕ, ◌+◌, ◌==◌, ◌<◌, false, IsTrue, List, [], ◌∷◌, ◌++◌, All}
 use Rattle.std.proofs.Common.{Ok, Err, Option, Some, None, IfSome, refl, sym, ap, ◌∙◌, subst, arith, append_assoc}
 use Rattle.std.proofs.Common.{append-nil, unwrap_or}
@@ -64,7 +64,7 @@ All-right P (x ∷ xs) ys h = All-right P xs ys (All-tail P x (xs ++ ys) h)
 abbrev pub at : Start HoldEntry Account → ℕ → List (ℕ × HoldEntry) → Seen
 at start name turns = seen_from (Some start) name turns
 
--- turns of others came after the front, in a whole turn history that is sound
+-- turns of others came after the front, in a complete turn history that is sound
 module _ (start : Start HoldEntry Account) (name : ℕ) (front between whole : List (ℕ × HoldEntry))
     (begins : IsPrefix (front ++ between) whole) (others : IsOfOthers name between)
     (sound : IsLawful IsLegalHistory IsOfName start whole) where
@@ -83,7 +83,7 @@ module _ (start : Start HoldEntry Account) (name : ℕ) (front between whole : L
         sound = legal.sound;
       }
 
-  -- and after them the call's own
+  -- after the turns of others came the call's own turn
   holds : (lane : ℕ) (c : HubCall) (r : HubReply)
       → IsEntered start.fixed (history_after start (front ++ between)) lane c r (history_after start whole)
       → Holds (at start name front) lane c r (at start name whole)
@@ -98,7 +98,7 @@ module _ (start : Start HoldEntry Account) (name : ℕ) (front between whole : L
     sound = (sound.lawful whole ([], append-nil whole)).sound;
   }
 
-  -- or nothing
+  -- after the turns of others came no turn
   fails : history_after start whole ≡ history_after start (front ++ between)
       → Fails (at start name front) (at start name whole)
   fails same = let p = passes in record {
@@ -124,7 +124,7 @@ module _ (start : Start HoldEntry Account) (name : ℕ) (front between whole : L
         ≡ said.Nothing) (sym m.same) m.reply;
   }
 
-  -- by the call and its reply
+  -- the reply at the door, by the call and its reply
   replied : (c : DoorCall) (r : DoorReply)
       → Answers start.fixed (history_after start (front ++ between)) name c r (history_after start whole)
       → Replied (at start name front) c r (at start name whole)

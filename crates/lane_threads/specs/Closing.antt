@@ -1,4 +1,4 @@
--- What is known of the hub once all passes came together.
+-- What is known of the hub after all passes were joined.
 use Rattle.std.specs.Prelude.{◌≡◌, ◌+◌, ◌<◌, ◌==◌, ℕ, List, ◌∷◌, ◌++◌, All, Contains, Some}
 use mathlib.Core.List.{IsPrefix}
 use Rattle.busdma_machine.specs.declared.bounce.hold.HoldEntry.{HoldEntry}
@@ -11,15 +11,16 @@ use Rattle.turnstile.specs.Pass.{PassView, own_calls}
 use Rattle.lane_threads.specs.Object.{IsLegalHistory}
 use Rattle.lane_threads.specs.PassDoor.{seen}
 
+-- what contracts see of the pass of a lane
 abbrev pub LanePass : Type 0
 LanePass = PassView HoldEntry Account
 
--- a pass was joined to this one, which knows its turns and that it ended with its calls
+-- a pass was joined to this one, which knows the turns of that pass, and that it ended after its calls
 pub record IsJoined (into pass : LanePass) : Type 0 where
   pub begins : IsPrefix pass.front into.front
   pub ended : Contains into.ended (pass.name, own_calls pass)
 
--- passes were joined to the old one, which is now the new one
+-- the passes were joined to the old one, which is now the new one
 pub record Joins (old : LanePass) (passes : List LanePass) (new : LanePass) : Type 0 where
   pub turnstile : new.turnstile ≡ old.turnstile
   pub start : new.start ≡ old.start
@@ -28,22 +29,22 @@ pub record Joins (old : LanePass) (passes : List LanePass) (new : LanePass) : Ty
   pub own : own_calls new ≡ own_calls old
   pub each : All (IsJoined new) passes
 
--- what the lane of a pass sees of a hub
+-- what the door of a pass's lane sees of a hub
 abbrev pub hub_seen : LanePass → HubSeen → Seen
 hub_seen pass hub = record { opening = hub.opening; history = hub.history; serves = λ lane. lane + 1 == pass.name }
 
--- the history has, of the lane of a pass, what it began with and then the pass's own calls, and no other
+-- of the lane of a pass, the history has exactly the entries that it began with and then the pass's own calls
 abbrev pub HasOwnCalls : List HoldEntry → List HoldEntry → LanePass → Type 0
 HasOwnCalls opening history pass =
     (lane : ℕ) → lane + 1 ≡ pass.name → of_lane lane history ≡ of_lane lane opening ++ own_calls pass
 
--- beyond what a pass of this turnstile knew, holds of other lanes came, and nothing else
+-- since what a pass of this turnstile knew, only holds of other lanes came
 abbrev pub OthersCame : LanePass → HubSeen → LanePass → Type 0
 OthersCame first hub pass =
     pass.start ≡ first.start → (others : List HoldEntry) × Passes (seen pass) others (hub_seen pass hub)
 
--- the hub's history is legal, begins with that of the start, and goes on by entries of lanes whose passes have names;
--- of each lane it has its pass's own calls
+-- the hub's history is legal, begins with the history of the start, and continues with entries of lanes whose passes
+-- have names; of the lane of each pass it has that pass's own calls
 pub record ClosesAfter (first : LanePass) (passes : List LanePass) (hub : HubSeen) : Type 0 where
   pub start : Start HoldEntry Account
   pub started : first.start ≡ Some start

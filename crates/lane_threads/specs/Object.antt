@@ -1,4 +1,4 @@
--- What a hub owes as the object of a turnstile.
+-- What a hub must satisfy as the object of a turnstile.
 use Rattle.std.specs.Prelude.{◌≡◌, ℕ, ◌+◌, ◌≤◌, List, [], ◌∷◌, ◌++◌, length, IfOk, OnErr, IfSome, MatchOption}
 use Rattle.busdma_machine.specs.declared.bounce.hold.HubCall.{HubCall}
 use Rattle.busdma_machine.specs.declared.bounce.hold.HubCall.TheVariants as hub
@@ -23,11 +23,11 @@ pub record IsLegalHistory (opening : Account) (history : List HoldEntry) : Type 
   pub form : IsOpening opening
   pub sound : IsSound opening history
 
--- an entry of the lane whose pass has this name
+-- an entry is of the lane whose pass has this name
 abbrev pub IsOfName : ℕ → HoldEntry → Type 0
 IsOfName name e = e.lane.0 + 1 ≡ name
 
--- pages that are given back are those of the memory
+-- the pages that a call gives back are exactly those of the memory
 abbrev pub GivesBack : DoorCall → Account → Type 0
 GivesBack (call.MemFree mem pages) a = page_addresses pages.items ≡ frames_of mem a.mems
 GivesBack _ a = Unit {0}
@@ -38,13 +38,13 @@ pub record MayAct (opening : Account) (history : List HoldEntry) (name : ℕ) (c
   pub may : MayCall (lane_of c) (hub_call c) (account_of opening history)
   pub pages : GivesBack c (account_of opening history)
 
--- the lane's call added one entry, its own, whose reply is the account's
+-- the call of a lane added one entry of its own, whose reply is the account's
 pub record IsEntered (o : Account) (before : List HoldEntry) (lane : ℕ) (c : HubCall) (r : HubReply)
     (after : List HoldEntry) : Type 0 where
   pub reply : r ≡ (account_step lane c (account_of o before)).reply
   pub entry : after ≡ before ++ record { lane = record { 0 = lane }; call = c; reply = r } ∷ []
 
--- the head of the callback list was no map of the lane, and there is no entry
+-- the head of the callback list was no map of the lane, and no entry was added
 pub record IsMissed (o : Account) (before : List HoldEntry) (lane : ℕ) (after : List HoldEntry) : Type 0 where
   pub reply : (account_step lane hub.TakeCallback (account_of o before)).reply ≡ said.Nothing
   pub same : after ≡ before
@@ -54,7 +54,8 @@ pub record AreInRow (pages : RoomyPages) : Type 0 where
   pub row : IsRow (page_addresses pages.items)
   pub few : length pages.items ≤ 8192
 
--- the reply answers the call of the same name, and no other; where memory ran out there is no entry
+-- the reply is to the call of the same name, and says what the call added to the history; if memory ran out, nothing
+-- was added
 abbrev pub Answers : Account → List HoldEntry → ℕ → DoorCall → DoorReply → List HoldEntry → Type 0
 Answers o before name (call.AttachTag alloc lane tag) (reply.AttachTag r) after =
     IfOk r (λ g. IsEntered o before lane.0 (hub.AttachTag tag) (said.Grown g) after)

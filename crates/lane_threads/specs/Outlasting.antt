@@ -1,4 +1,4 @@
--- What a lane may call it may still call after an entry of another lane.
+-- A call that a lane may make stays allowed after entries of other lanes.
 use Rattle.std.specs.Prelude.{◌≡◌, ◌≢◌, ℕ, ◌+◌, List, [], ◌∷◌, ◌++◌, All}
 use Rattle.std.proofs.Common.{refl, sym, ap, ◌∙◌, subst}
 use Rattle.std.proofs.lemmas.List.Elements.{All-nil, All-cons}
@@ -15,7 +15,7 @@ use Rattle.lane_threads.specs.declared.call.DoorCall.TheVariants.{Release, TakeC
 use Rattle.lane_threads.specs.Calls.{hub_call, lane_of}
 use Rattle.lane_threads.specs.Object.{IsLegalHistory, IsOfName, MayAct, GivesBack}
 
--- the pages that a call of a lane gives back are still those of the memory after entries of others
+-- pages that a call gives back are still those of the memory after entries of other lanes
 gives_back-stays : (c : DoorCall) (a : Account) (es : List HoldEntry) → IsSound a es
     → All (λ e. e.lane.0 ≢ lane_of c) es → GivesBack c a → GivesBack c (account_of a es)
 gives_back-stays (AttachTag alloc l tag) a es sound others g = tt
@@ -28,7 +28,7 @@ gives_back-stays (MemAlloc alloc mem tag) a es sound others g = tt
 gives_back-stays (MemFree mem pages) a es sound others g =
     g ∙ sym (frames-stay mem.lane.0 mem a es refl sound others)
 
--- the law of the object of a turnstile
+-- a call that a lane may make stays allowed after entries of other lanes, which a turnstile requires of its object
 pub may-outlasts : OutlastsOthers IsLegalHistory IsOfName MayAct
 may-outlasts o history name other c e may apart fits legal =
     let here : Account = account_of o history in

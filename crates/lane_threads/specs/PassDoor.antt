@@ -17,26 +17,28 @@ use Rattle.lane_threads.specs.declared.call.DoorReply.TheVariants as reply
 use Rattle.lane_threads.specs.Calls.{called_reply}
 use Rattle.lane_threads.specs.Object.{AreInRow}
 
--- what a pass of this name has seen that knows these turns; it serves the lane whose number is one less
+-- what the door of a pass of this name has seen if the pass knows these turns; it serves the lane whose number is one
+-- less
 abbrev pub seen_from : Option (Start HoldEntry Account) → ℕ → List (ℕ × HoldEntry) → Seen
 seen_from None name turns = record { opening = no_account; history = []; serves = λ lane. lane + 1 == name }
 seen_from (Some start) name turns =
     record { opening = start.fixed; history = history_after start turns; serves = λ lane. lane + 1 == name }
 
--- the history that a pass knows, and the one lane that it serves
+-- what the door of a pass has seen: the history that the pass knows, and the one lane that it serves
 abbrev pub seen : PassView HoldEntry Account → Seen
 seen pass = seen_from pass.start pass.name pass.front
 
--- which pass it is: its turnstile, how that started, and its name
+-- which pass a door has: its turnstile, how that started, and its name
 pub record Place : Type 0 where
   pub turnstile : TableId
   pub start : Option (Start HoldEntry Account)
   pub name : ℕ
 
+-- which pass this is, by what contracts see of it
 abbrev pub place_of : PassView HoldEntry Account → Place
 place_of pass = record { turnstile = pass.turnstile; start = pass.start; name = pass.name }
 
--- the place of no pass
+-- the place of no pass, for a type that needs a value
 abbrev pub no_place : Place
 no_place = record {
   turnstile = record { words = 0; slots = 0; views_name = 0; atom = 0; block = 0; offset = 0; slot_names = [] };
@@ -44,7 +46,8 @@ no_place = record {
   name = 0;
 }
 
--- the reply to a call of the same name: its hold, or that memory ran out or that there was no callback
+-- the reply is to the call of the same name, and says what the call did: its hold, or that memory ran out, or that
+-- there was no callback
 abbrev pub Replied : Seen → DoorCall → DoorReply → Seen → Type 0
 Replied d (call.AttachTag alloc lane tag) (reply.AttachTag r) e =
     IfOk r (λ g. Holds d lane.0 (hub.AttachTag tag) (said.Grown g) e) × OnErr r (Fails d e)

@@ -1,31 +1,30 @@
-//! What is asked of a hub that threads share, and what it answers.
+//! The calls that drivers on threads make to a hub, and the hub's replies.
 
 use busdma_machine::{Called, Grabbed, Grown, LaneId, MapId, Page, PageList, TagLimits, ZoneId};
 use std::alloc::{AllocError, Global};
 
-/// A call of `HubDoor` with its arguments, one variant for each of the eight. Memory that the call
-/// takes comes from `alloc`.
+/// A call of `HubDoor` with its arguments: one variant for each method. Memory that the call takes comes from `alloc`.
 #[derive(Drop)]
 pub enum DoorCall {
-    /// The first allocation of a tag with ALLOCNOW.
+    /// The first allocation of a tag with `BUS_DMA_ALLOCNOW`.
     AttachTag {
         alloc: Global,
         lane: LaneId,
         tag: TagLimits,
     },
-    /// The making of a map.
+    /// Making a map.
     CreateMap {
         alloc: Global,
         map: MapId,
         tag: TagLimits,
         first_done: bool,
     },
-    /// The end of a map.
+    /// Destroying a map.
     DestroyMap {
         map: MapId,
         zone: ZoneId,
     },
-    /// The wish of a load for `need` pages.
+    /// A load's call for `need` pages.
     Grab {
         alloc: Global,
         map: MapId,
@@ -33,46 +32,46 @@ pub enum DoorCall {
         need: u32,
         nowait: bool,
     },
-    /// The return of a page to the zone that gave it.
+    /// A page goes back to the zone that gave it.
     Release {
         map: MapId,
         zone: ZoneId,
         page: Page,
     },
-    /// The taking of the lane's callback from the head of the callback list.
+    /// Taking the lane's callback from the head of the callback list.
     TakeCallback {
         lane: LaneId,
     },
-    /// The making of a dmamem memory.
+    /// Making a dmamem memory.
     MemAlloc {
         alloc: Global,
         mem: MapId,
         tag: TagLimits,
     },
-    /// The end of a memory, with its pages in rising order.
+    /// Freeing a memory, with its pages in rising order.
     MemFree {
         mem: MapId,
         pages: PageList,
     },
 }
 
-/// The answer to the call of the same name, as `HubDoor` has it: `Err` where memory ran out.
+/// The reply to the call of the same name, in the form of `HubDoor`. It is `Err` if memory ran out.
 #[derive(Drop)]
 pub enum DoorReply {
-    /// What was added to the tag's zone.
+    /// How many pages were added to the tag's zone, and whether they were enough.
     AttachTag(Result<Grown, AllocError>),
-    /// What was added to the map's zone.
+    /// How many pages were added to the map's zone, and whether the map was made.
     CreateMap(Result<Grown, AllocError>),
-    /// The map's end has no answer.
+    /// Destroying a map has no answer.
     DestroyMap,
-    /// What the wish for pages got.
+    /// What the call for pages got.
     Grab(Result<Grabbed, AllocError>),
-    /// How many maps that wait were completed.
+    /// How many loads that waited were completed by the page.
     Release(u32),
-    /// The map and its pages; None where the head of the callback list is not the lane's.
+    /// The map and its pages, or `None` if the head of the callback list is not the lane's.
     TakeCallback(Option<Called>),
-    /// The pages of the memory; None where no such run of frames is free.
+    /// The pages of the memory, or `None` if no such run of frames is free.
     MemAlloc(Result<Option<PageList>, AllocError>),
-    /// The memory's end has no answer.
+    /// Freeing a memory has no answer.
     MemFree,
 }

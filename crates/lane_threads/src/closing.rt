@@ -1,4 +1,4 @@
-//! The end of the threads: all passes come together, and the hub is its owner's again.
+//! The end of the threads: all passes are joined, and the hub is its owner's again.
 
 ghost use Rattle.std.specs.Prelude.{◌≡◌, All};
 ghost use Rattle.lane_threads.specs.Closing.{Joins, ClosesAfter};
@@ -8,8 +8,8 @@ use bounce_hub::Hub;
 use std::sync::Wait;
 use turnstile::{Pass, Turnstile};
 
-/// Joins the passes of lanes to the first one, waits for a last turn, closes the turnstile and gives
-/// the hub. It takes no memory, and may wait for ever.
+/// Joins the passes of lanes to the first one, waits for a last turn, closes the turnstile, and returns the hub. Takes
+/// no memory, and may wait forever.
 pub fn close_after<Rt: Wait>(
     rt: &Rt,
     turnstile: Turnstile<HubObject>,
@@ -24,7 +24,7 @@ pub fn close_after<Rt: Wait>(
     turnstile.close(rt, all).into_hub()
 }
 
-// The first pass, which took in the others.
+// Returns the first pass after it took in the others.
 fn join_all(
     turnstile: &Turnstile<HubObject>,
     first: Pass<HubObject>,

@@ -1,4 +1,4 @@
-//! The door of one lane: a pass beside the turnstile that it is of.
+//! The door of one lane: a pass, with the turnstile that the pass belongs to.
 
 ghost use Rattle.std.specs.Prelude.{◌≡◌, ◌+◌};
 ghost use Rattle.busdma_machine.specs.Bounce.Door.{Allows, account};
@@ -16,8 +16,8 @@ use std::marker::Model;
 use std::sync::Wait;
 use turnstile::{Pass, Turnstile};
 
-/// Which pass a door has, as contracts see it: its turnstile, how that started, and its name. No
-/// value of it is made.
+/// What contracts see of a door that no call changes: its turnstile, how the turnstile started, and its pass's name. No
+/// value of this type is made.
 #[derive(Drop)]
 pub struct PassPlace {
     _none: (),
@@ -31,9 +31,10 @@ impl Model for PassPlace {
     ghost view = { λ _. no_place };
 }
 
-/// A lane's door to a hub that stands in a turnstile. It serves the lane whose number is one below
-/// the pass's name. Each of its calls waits for the pass's turn, holds the hub for that one call,
-/// and may wait for ever. Contracts see it as the pass.
+/// A lane's door to a hub in a turnstile.
+///
+/// It serves the lane whose number is one below the pass's name. Each of its calls waits for the pass's turn, holds the
+/// hub for that one call, and may wait forever. Contracts see the door as its pass.
 #[derive(Drop)]
 pub struct PassDoor<'a, Rt: Wait> {
     rt: &'a Rt,
@@ -55,7 +56,7 @@ impl<'a, Rt: Wait> Model for PassDoor<'a, Rt> {
 }
 
 impl<'a, Rt: Wait> PassDoor<'a, Rt> {
-    /// The door of the lane, by its pass. Takes no memory.
+    /// Makes the door of a lane from the lane's pass. Takes no memory.
     pub fn new(
         rt: &'a Rt,
         turnstile: &'a Turnstile<HubObject>,
@@ -73,14 +74,14 @@ impl<'a, Rt: Wait> PassDoor<'a, Rt> {
         }
     }
 
-    /// Gives the pass back. Takes no memory.
+    /// Returns the pass. Takes no memory.
     pub fn into_pass(self) -> Pass<HubObject>
         ensures { result ≡ self.entry }
     {
         self.pass
     }
 
-    // One call, in the turn of the pass.
+    // Makes one call, in the turn of the pass.
     fn hold(&mut self, call: DoorCall) -> DoorReply
         requires allowed { Allows (seen self.old) (lane_of call) (hub_call call) }
         requires pages { GivesBack call (account (seen self.old)) }

@@ -1,5 +1,5 @@
-//! The way of drivers on threads to the hub that they share: a hub as what stands in a turnstile,
-//! the door of each lane, and the end at which the hub is its owner's again.
+//! How drivers on threads share a hub: the hub as the object of a turnstile, the door of each lane, and the end, when
+//! the hub is its owner's again.
 #![tactic(auto)]
 
 mod call;

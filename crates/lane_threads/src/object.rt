@@ -1,4 +1,4 @@
-//! A hub as what stands in a turnstile.
+//! A hub as the object of a turnstile.
 
 ghost use Rattle.std.specs.Prelude.{◌≡◌};
 ghost use Rattle.lane_threads.specs.Object.{IsLegalHistory};
@@ -9,8 +9,8 @@ use busdma_machine::{HoldEntry, HubDoor, Opening};
 use std::marker::Model;
 use turnstile::TurnObject;
 
-/// A hub in a turnstile, where each call comes from the pass of its lane: the lane's number plus one
-/// is the pass's name. Contracts see it as the hub.
+/// A hub in a turnstile. Each call comes from the pass of its lane, whose name is the lane's number plus one. Contracts
+/// see it as the hub.
 #[derive(Drop)]
 pub struct HubObject {
     hub: Hub,
@@ -25,17 +25,17 @@ impl Model for HubObject {
 }
 
 impl HubObject {
-    /// Wraps a hub, with the holds that it has. Takes no memory.
+    /// Wraps a hub with the history that it has. Takes no memory.
     pub fn new(hub: Hub) -> HubObject
         ensures hub { result ≡ hub }
         ensures legal { IsLegalHistory result.opening result.history }
     {
-        // For what is true of every hub: its holds are a sound history.
+        // Called for what is true of every hub: its history is sound.
         let _ = hub.history();
         HubObject { hub }
     }
 
-    /// Gives the hub back. Takes no memory.
+    /// Returns the hub. Takes no memory.
     pub fn into_hub(self) -> Hub
         ensures { result ≡ self }
     {

@@ -5,7 +5,7 @@ use Rattle.busdma_machine.specs.Bounce.History.{IsSound}
 use Rattle.lane_agreement.specs.Agreement.{Agrees}
 use Rattle.lane_agreement.specs.View.{View, OwnMap, Return, Stage, Idle}
 
--- the door serves the lane, and the account there agrees with a view of the lane of which this holds
+-- the door serves the lane, its history is sound, and its account agrees with a view of the lane of which this holds
 pub record Knows (lane : ℕ) (Has : View → Type 0) (d : Seen) : Type 0 where
   pub view : View
   pub id : view.id ≡ lane
@@ -14,11 +14,11 @@ pub record Knows (lane : ℕ) (Has : View → Type 0) (d : Seen) : Type 0 where
   pub sound : IsSound d.opening d.history
   pub agrees : Agrees view (account d)
 
--- a map of a zone in a stage
+-- a map of this zone in this stage
 abbrev pub in_zone : ℕ → Stage → Option OwnMap
 in_zone zone stage = Some (record { zone = zone; stage = stage })
 
--- the maps that the operations 1 and 2 made, no memory of the operations 3 and 4, and pages to give back
+-- a view has these maps of the operations 1 and 2, no memory of the operations 3 and 4, and these pages to give back
 pub record HasMaps (first second : Option OwnMap) (back : List Return) (l : View) : Type 0 where
   pub maxmem : l.maxmem ≡ 0x1010
   pub one : l.map_at 1 ≡ first
@@ -27,13 +27,13 @@ pub record HasMaps (first second : Option OwnMap) (back : List Return) (l : View
   pub four : l.mem_at 4 ≡ None
   pub returns : l.returns ≡ back
 
--- no map, and no page to give back
+-- a view has no map, and no page to give back
 pub record HasNone (l : View) : Type 0 where
   pub maxmem : l.maxmem ≡ 0x1010
   pub maps : (k : ℕ) → l.map_at k ≡ None
   pub returns : l.returns ≡ []
 
--- a map of zone 0 that no load uses, and no page to give back
+-- a view has a map of zone 0 that no load uses, and no page to give back
 pub record HasIdle (made_at : ℕ) (l : View) : Type 0 where
   pub map : l.map_at made_at ≡ in_zone 0 Idle
   pub returns : l.returns ≡ []

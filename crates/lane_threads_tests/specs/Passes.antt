@@ -7,7 +7,7 @@ use Rattle.atomic_table.specs.Seated.{TableId}
 use Rattle.turnstile.specs.declared.view.Start.{Start}
 use Rattle.lane_threads.specs.Closing.{LanePass}
 
--- it is of this turnstile, which began with a hub whose frames end below number 0x1010 and an empty history, and it
+-- a pass is of this turnstile, which began with an empty history and a hub whose frames end below number 0x1010, and it
 -- knows no turn
 pub record StartsAt (turnstile : TableId) (pass : LanePass) : Type 0 where
   pub here : pass.turnstile ≡ turnstile

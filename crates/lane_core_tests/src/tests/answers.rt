@@ -2,7 +2,7 @@
 
 use busdma_base::{Answer, Grown, Report, ReportName, ZoneId};
 
-/// It was done.
+/// The operation was done.
 pub fn is_done(answer: &Answer) -> bool {
     matches!(answer, Answer::Done)
 }
@@ -15,7 +15,7 @@ pub fn has_read(answer: &Answer, bytes: &[u8]) -> bool {
     }
 }
 
-/// It is refused under this name, at this offset.
+/// The access was refused with this report, at this offset.
 pub fn is_refused(answer: &Answer, name: ReportName, at: u64) -> bool {
     match answer {
         Answer::Report(report) => *report == Report { name, at },
@@ -23,7 +23,7 @@ pub fn is_refused(answer: &Answer, name: ReportName, at: u64) -> bool {
     }
 }
 
-/// A map was made, and so many pages came to zone 0.
+/// A map was made, and so many pages were added to zone 0.
 pub fn is_grown(answer: &Answer, added: u32) -> bool {
     let want = Grown {
         zone: ZoneId(0),
@@ -59,7 +59,7 @@ pub fn is_in_progress(answer: &Answer, have: u32, need: u32) -> bool {
     }
 }
 
-/// A page went back, and so many loads were completed by it.
+/// A page went back, and completed so many loads that waited.
 pub fn is_served(answer: &Answer, count: u32) -> bool {
     match answer {
         Answer::Served(served) => *served == count,

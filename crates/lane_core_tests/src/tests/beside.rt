@@ -25,7 +25,7 @@ pub struct Other<'s> {
     alloc: Global,
 }
 
-/// A turn of a driver at a hub.
+/// Makes a turn of a driver at a hub.
 fn turn_at(lane: &mut Lane, alloc: Global, hub: &mut Hub, side: Side) -> Result<Turn, AllocError>
     requires { IsServed (ideal lane.old) (door hub.old) }
     ensures served { IsServed (ideal lane.new) (door hub.new) }
@@ -36,7 +36,7 @@ fn turn_at(lane: &mut Lane, alloc: Global, hub: &mut Hub, side: Side) -> Result<
 }
 
 impl<'s> Other<'s> {
-    /// A driver that is to act, and has not yet.
+    /// Makes a driver that acts beside another one, and has not acted yet.
     pub fn new(alloc: Global, lane: Lane<'s>) -> Other<'s>
         ensures { result.lane ≡ lane.entry }
     {
@@ -48,7 +48,7 @@ impl<'s> Other<'s> {
         }
     }
 
-    /// The next turn, if there is to be one. Its step is kept where there is memory.
+    /// Makes the next turn, if one is due. Its step is kept if there is memory.
     fn act(&mut self, hub: &mut Hub)
         requires { IsServed (ideal self.old.lane) (door hub.old) }
         ensures served { IsServed (ideal self.new.lane) (door hub.new) }
@@ -91,7 +91,7 @@ impl<'s> Model for BesideDoor<'s> {
 }
 
 impl<'s> BesideDoor<'s> {
-    /// The door of a lane to a hub, beside another driver.
+    /// Makes the door of a lane to a hub at which another driver acts.
     pub fn new(lane: LaneId, hub: Hub, other: Other<'s>) -> BesideDoor<'s>
         requires apart { (ideal other.lane).id ≢ lane.0 }
         requires served { IsServed (ideal other.lane) (door hub) }
@@ -100,14 +100,14 @@ impl<'s> BesideDoor<'s> {
         BesideDoor { lane, hub, other }
     }
 
-    /// The side of the other driver, if one, that has a turn before the next call.
+    /// Sets the side of the other driver that has a turn before the next call, if one has.
     pub fn comes_next(&mut self, side: Option<Side>)
         ensures { self.new ≡ self.old }
     {
         self.other.next = side;
     }
 
-    /// The steps of the other driver.
+    /// Returns the steps of the other driver.
     pub fn entries(&self) -> &[JournalEntry] {
         &self.other.entries
     }

@@ -1,5 +1,4 @@
-//! A driver at a door at which the steps of another come between its own. The answers were worked out
-//! by hand.
+//! A driver at a door at which the steps of another driver come between its own. The answers were worked out by hand.
 
 ghost use Rattle.std.specs.Prelude.{IfOk};
 ghost use Rattle.busdma_base.specs.Scenarios.Valid.{IsValid};
@@ -46,7 +45,7 @@ const TAGS: [Actor; 2] = [
     },
 ];
 
-/// The world of a scenario once each of its two drivers has made its tag.
+/// Returns the world of a scenario after each of its two drivers has made its tag.
 fn begun<'s>(alloc: Global, scenario: &'s Scenario) -> Result<World<'s>, AllocError>
     requires { IsValid scenario.now }
 {
@@ -64,7 +63,7 @@ struct Seat<'s> {
     door: BesideDoor<'s>,
 }
 
-/// The first of two drivers, beside the second, once each has made its tag.
+/// Opens the first of two drivers, at a door beside the second, after each has made its tag.
 fn open_beside<'s>(
     rt: &impl Abort,
     alloc: Global,
@@ -90,12 +89,12 @@ fn open_beside<'s>(
     })
 }
 
-/// A turn of the first driver: the side of the other that has its turn before the first call, if one has, the side, and
-/// the answer that is wanted.
+/// A turn of the first driver: the side of the other driver that has a turn before the call, if one has; the side of
+/// the first; and the answer that is expected.
 type Row = (Option<Side>, Side, Want<'static>);
 
-/// The other driver has made its map before the first makes its own, so one page comes for each. It takes one of the
-/// two before a load wants both.
+/// The other driver makes its map before the first makes its own, so one page comes for each. It takes one of the two
+/// pages before a load needs both.
 const TAKEN: [Row; 2] = [
     (Some(Side::Script), Side::Script, Want::Grown(1)),
     (Some(Side::Script), Side::Script, Want::InProgress(1, 2)),
@@ -128,7 +127,7 @@ const OTHERS: [Want; 7] = [
     Want::Done,
 ];
 
-/// Makes turns of the first driver, and finds each answer as it is wanted.
+/// Makes turns of the first driver, and compares each answer with the expected one.
 fn turns(
     rt: &impl Abort,
     alloc: Global,
@@ -147,7 +146,7 @@ fn turns(
     Ok(())
 }
 
-/// The answers of the other driver are those that are wanted.
+/// Compares the answers of the other driver with those that are expected.
 fn assert_others(rt: &impl Abort, entries: &[JournalEntry], wants: &[Want]) {
     assert_eq!(rt; entries.len(), wants.len());
     for (entry, want) in entries.iter().zip(wants) {
@@ -156,7 +155,7 @@ fn assert_others(rt: &impl Abort, entries: &[JournalEntry], wants: &[Want]) {
 }
 
 impl Seat<'_> {
-    /// The first driver and the other make their turns, one between the calls of the other.
+    /// Makes the turns of the first driver, with the turns of the other between its calls.
     fn play(&mut self, rt: &impl Abort, alloc: Global) -> Result<(), Fail>
         requires { Serves (seen self.old.door) self.old.lane }
     {
@@ -169,7 +168,7 @@ impl Seat<'_> {
     }
 }
 
-/// The same, of a scenario.
+/// Makes the turns of both drivers of a scenario.
 fn play_both(rt: &impl Abort, alloc: Global, scenario: &Scenario) -> Result<(), Fail>
     requires { IsValid scenario.now }
 {

@@ -1,4 +1,4 @@
-//! The calls of a lane that take no door, each beside the answer that is wanted of it.
+//! The calls of a lane that take no door, each with the answer that is expected of it.
 
 use crate::tests::wanted::Want;
 use busdma_base::{Answer, MapId, Place, ZoneId};
@@ -8,10 +8,10 @@ use std::alloc::{AllocError, Global};
 use std::process::Abort;
 use std::test::Fail;
 
-/// A call of a lane that takes no door. Bytes of a load are an offset and how many.
+/// A call of a lane that takes no door. Bytes of a load are given as an offset and a length.
 #[derive(Clone, Copy, Debug)]
 pub enum Call<'a> {
-    /// The whole load is synced.
+    /// All bytes of the load are synced.
     Sync(MapId, SyncOps),
     /// Bytes of the load are synced.
     SyncRange(MapId, (u64, u64), SyncOps),
@@ -44,14 +44,14 @@ impl Call<'_> {
     }
 }
 
-/// Calls, each beside the answer that is wanted of it, and how many syncs have copied a bounce page after them.
+/// Calls, each with the answer that is expected of it, and how many syncs have copied a bounce page after them.
 #[derive(Clone, Copy)]
 pub struct Part<'a> {
     pub rows: &'a [(Call<'a>, Want<'a>)],
     pub bounced: u64,
 }
 
-/// Makes the calls in their order, and finds each answer as it is wanted.
+/// Makes the calls in order, and compares each answer with the expected one.
 fn calls(
     rt: &impl Abort,
     alloc: Global,
@@ -68,7 +68,11 @@ fn calls(
     Ok(())
 }
 
-/// Makes the calls of the parts in their order.
+/// Makes the calls of the parts in order. The test fails at the first answer that is not the expected one.
+///
+/// # Errors
+///
+/// `Fail` if memory runs out. The lane is then as the calls before left it.
 pub fn parts(rt: &impl Abort, alloc: Global, lane: &mut Lane, list: &[Part]) -> Result<(), Fail> {
     for part in list {
         calls(rt, alloc, lane, part.rows)?;

@@ -1,6 +1,6 @@
-//! The calls of a lane that take no door, each with ample memory. What they refuse, the operations and items of scripts
-//! are refused too, which `.ci/examples` runs; only a call can name what its driver did not make. The answers were
-//! worked out by hand.
+//! The calls of a lane that take no door, each with ample memory. `.ci/examples` runs the operations and items of
+//! scripts, which are refused as these calls are; but only a call can name what its driver did not make. The answers
+//! were worked out by hand.
 
 use crate::tests::calling::{Call, Part};
 use crate::tests::played::plays;
@@ -97,7 +97,7 @@ const BYTES: [Part; 3] = [
     },
 ];
 
-/// Two pages whose frames lie apart. Their load stands in the device pages 1 and 2.
+/// Two pages whose frames lie apart. Their load is in the device pages 1 and 2.
 const BEHIND_AN_IOMMU: &str = r#"{"frames": [["0x10", 8], ["0x1000", 16]],
  "drivers": [
   {"pages": [["0x100000", "0x1000", 1], ["0x101000", "0x1005", 1]], "script": [
@@ -114,7 +114,7 @@ const BEHIND_AN_IOMMU_LOADED: [Want; 3] = [
 /// The last two bytes of the first page.
 const SEAM: Place = Place::At(Va(0x100ffe));
 
-/// Bytes go and come over the end of a page, by device addresses. The place 2 made no tag.
+/// Bytes are written and read across the end of a page, by device addresses. The place 2 made no tag.
 const RAW: [Part; 1] = [Part {
     rows: &[
         (Call::CpuWrite(SEAM, &[1, 2, 3, 4]), Want::Done),

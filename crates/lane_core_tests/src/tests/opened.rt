@@ -15,7 +15,11 @@ use std::process::Abort;
 use std::test::Fail;
 use world_core::World;
 
-/// The scenario of a text.
+/// Reads the scenario of a text. The test fails if the text is no scenario.
+///
+/// # Errors
+///
+/// `AllocError` if memory runs out.
 pub fn read(rt: &impl Abort, alloc: Global, text: &str) -> Result<Scenario, AllocError>
     ensures { IfOk result IsValid }
 {
@@ -25,7 +29,11 @@ pub fn read(rt: &impl Abort, alloc: Global, text: &str) -> Result<Scenario, Allo
     }
 }
 
-/// The last driver of a scenario, and the hub, before the first turn.
+/// Opens the last driver of a scenario, and the hub, before their first turn.
+///
+/// # Errors
+///
+/// `AllocError` if memory runs out.
 pub fn open<'s>(
     rt: &impl Abort,
     alloc: Global,
@@ -41,7 +49,11 @@ pub fn open<'s>(
     Ok((lane, hub))
 }
 
-/// The answer of a side's next step at a door.
+/// Makes a step of a side at a door, and returns the step's answer. The test fails if the side makes no step.
+///
+/// # Errors
+///
+/// `AllocError` if memory runs out. The door still serves the lane.
 #[tactic(auto, unfolding(crate::specs::Serving::Serves))]
 pub fn step<D: HubDoor>(
     rt: &impl Abort,
@@ -67,7 +79,11 @@ pub fn step<D: HubDoor>(
     }
 }
 
-/// A side has a turn, and is blocked.
+/// Gives a side a turn. The test fails if the side is not blocked.
+///
+/// # Errors
+///
+/// `AllocError` if memory runs out. The door still serves the lane.
 #[tactic(auto, unfolding(crate::specs::Serving::Serves))]
 pub fn blocked<D: HubDoor>(
     rt: &impl Abort,
@@ -85,7 +101,11 @@ pub fn blocked<D: HubDoor>(
     }
 }
 
-/// Makes the next steps of the script, and finds each answer as it is wanted.
+/// Makes the next steps of the script. The test fails at the first answer that is not the expected one.
+///
+/// # Errors
+///
+/// `Fail` if memory runs out. The hub still serves the lane.
 pub fn steps(
     rt: &impl Abort,
     alloc: Global,

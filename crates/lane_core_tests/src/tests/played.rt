@@ -10,7 +10,7 @@ use std::alloc::Global;
 use std::process::Abort;
 use std::test::Fail;
 
-/// The driver makes its first steps, with the answers that are wanted of them, and then the calls.
+/// Makes the first steps of a scenario's last driver, and then the calls, and compares the answers.
 fn play(
     rt: &impl Abort,
     alloc: Global,
@@ -25,7 +25,12 @@ fn play(
     parts(rt, alloc, &mut lane, calls)
 }
 
-/// The last driver of a scenario's text makes its first steps and then the calls, with the answers that are wanted.
+/// Reads a scenario's text, makes the first steps of its last driver and then the calls. The test fails at the first
+/// answer that is not the expected one.
+///
+/// # Errors
+///
+/// `Fail` if memory runs out.
 pub fn plays(
     rt: &impl Abort,
     alloc: Global,

@@ -1,22 +1,22 @@
-//! The answers that are wanted of calls.
+//! The answers that are expected of calls.
 
 use crate::tests::answers::{
     has_read, has_segments, is_done, is_grown, is_in_progress, is_refused, is_served,
 };
 use busdma_base::{Answer, ReportName};
 
-/// The answer that is wanted.
+/// The answer that is expected.
 #[derive(Clone, Copy, Debug)]
 pub enum Want<'a> {
-    /// It was done.
+    /// The operation was done.
     Done,
-    /// A map was made, and so many pages came to zone 0.
+    /// A map was made, and so many pages were added to zone 0.
     Grown(u32),
     /// The load has these segments, each an address and a length.
     Segments(&'a [(u64, u64)]),
     /// The load waits: it has the first number of pages, and needs the second.
     InProgress(u32, u32),
-    /// A page went back, and so many loads were completed by it.
+    /// A page went back, and completed so many loads that waited.
     Served(u32),
     /// These bytes were read.
     Read(&'a [u8]),

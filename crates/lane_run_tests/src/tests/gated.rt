@@ -1,5 +1,5 @@
-//! Two drivers on two threads, whose order a gate decides. A body that turns both on one thread, or
-//! that replays an order of its own, fails.
+//! Two drivers on two threads, with their order decided by a gate. A body fails that makes the turns of both on one
+//! thread, or that replays an order of its own.
 
 use crate::tests::judging::is_legal;
 use crate::tests::opened::{TWO, read};
@@ -15,7 +15,7 @@ use std::thread;
 use std::thread::Threads;
 use world_core::status;
 
-/// How often a wait looks at the most.
+/// The most looks of a wait.
 const LOOKS: u32 = 1_000_000;
 
 /// Before its first turn each driver raises its flag and waits for the other's. Before its turn 9 the
@@ -70,7 +70,7 @@ impl Gate for EarlyAndLate {
     }
 }
 
-/// How many pages the driver's map brought to zone 0; None where its map was not made there.
+/// Returns how many pages the driver's map brought to zone 0, or `None` if its map was not made there.
 fn grown(entries: &[JournalEntry], lane: LaneId) -> Option<u32> {
     for entry in entries {
         if entry.actor.lane == lane
@@ -89,7 +89,7 @@ fn grown(entries: &[JournalEntry], lane: LaneId) -> Option<u32> {
     None
 }
 
-/// Runs both behind a gate. The early driver's map brings two pages, and the late one's a page.
+/// Runs both drivers with this gate. The early driver's map brings two pages, and the late one's map one page.
 fn runs<R: Threads + Wait + Sync + Abort>(
     rt: &R,
     alloc: Global,

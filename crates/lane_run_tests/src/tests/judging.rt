@@ -1,4 +1,4 @@
-//! Whether a journal is legal, by the verdict on its report.
+//! Whether a journal is legal, by the verdict on its printed form.
 
 ghost use Rattle.busdma_base.specs.Scenarios.Valid.{IsValid};
 
@@ -7,7 +7,11 @@ use journal_check::{Verdict, check_text};
 use report_text::report;
 use std::alloc::{AllocError, Global};
 
-/// Whether the journal's report is that of a legal journal.
+/// Returns whether the verdict on the printed journal is that it is legal.
+///
+/// # Errors
+///
+/// `AllocError` if memory runs out. The scenario and the journal are only read.
 pub fn is_legal(alloc: Global, scenario: &Scenario, journal: &Journal) -> Result<bool, AllocError>
     requires { IsValid scenario.now }
 {

@@ -1,5 +1,5 @@
-//! Scenarios of drivers whose loads contend for bounce pages. Each load needs two; the first map
-//! brings two to the zone, and each other map one.
+//! Scenarios of drivers whose loads contend for bounce pages. Each load needs two pages. The first map brings two pages
+//! to the zone, and each other map one.
 
 ghost use Rattle.std.specs.Prelude.{IfOk};
 ghost use Rattle.busdma_base.specs.Scenarios.Valid.{IsValid};
@@ -26,7 +26,7 @@ pub const THREE: &str = r#"{"frames": [["0x10", 8], ["0x1000", 16]], "max_bpages
     {"op": "map", "name": "m", "tag": "a"}, {"op": "load", "map": "m", "va": "0x100000", "len": 5000},
     {"op": "await", "map": "m"}, {"op": "unload", "map": "m"}]}]}"#;
 
-/// The first two of them.
+/// The first two of these drivers.
 pub const TWO: &str = r#"{"frames": [["0x10", 8], ["0x1000", 16]], "max_bpages": 2,
  "drivers": [
   {"pages": [["0x100000", "0x1000", 2]], "script": [
@@ -38,7 +38,11 @@ pub const TWO: &str = r#"{"frames": [["0x10", 8], ["0x1000", 16]], "max_bpages":
     {"op": "map", "name": "m", "tag": "a"}, {"op": "load", "map": "m", "va": "0x100000", "len": 5000},
     {"op": "await", "map": "m"}, {"op": "unload", "map": "m"}]}]}"#;
 
-/// The scenario of a text.
+/// Reads the scenario of a text. The test fails if the text is no scenario.
+///
+/// # Errors
+///
+/// `AllocError` if memory runs out.
 pub fn read(rt: &impl Abort, alloc: Global, text: &str) -> Result<Scenario, AllocError>
     ensures { IfOk result IsValid }
 {

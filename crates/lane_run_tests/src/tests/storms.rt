@@ -1,4 +1,4 @@
-//! Storms on threads: of each, four drivers that contend for few bounce pages.
+//! Storms on threads. In each storm four drivers contend for few bounce pages.
 
 ghost use Rattle.std.specs.Prelude.{◌≤◌};
 
@@ -12,7 +12,7 @@ use std::test::Fail;
 use std::thread::Threads;
 use storm::{storm_scenario, storms_are_valid};
 
-/// Whether the run of a storm on threads has a legal journal, and finishes.
+/// Returns whether the run of a storm on threads finishes with a legal journal.
 fn is_right<R: Threads + Wait + Sync>(
     rt: &R,
     alloc: Global,
@@ -29,7 +29,7 @@ fn is_right<R: Threads + Wait + Sync>(
     Ok(journal.end == End::Finished && is_legal(alloc, &scenario, &journal)?)
 }
 
-/// Whether 160 storms are right, of the seeds from this one on.
+/// Returns whether the 160 storms with the seeds from this one on are right.
 fn are_right<R: Threads + Wait + Sync>(
     rt: &R,
     alloc: Global,

@@ -7,8 +7,7 @@ use lane_run::run_lanes;
 use std::test::Fail;
 use world_core::status;
 
-/// How many entries of a driver are the callback of a load that waited, and how many of its loads
-/// waited.
+/// Returns how many entries of a driver are the callback of a load that waited, and how many of its loads waited.
 fn deferred(entries: &[JournalEntry], lane: LaneId) -> (usize, usize) {
     let map = MapId { lane, made_at: 1 };
     let called = entries

@@ -32,7 +32,11 @@ pub const LOW: TagLimits = TagLimits {
     flags: 0,
 };
 
-/// A hub of these frames in a turnstile with three names, and the first pass.
+/// Puts a hub of these frames into a turnstile with three names, and returns it with the first pass.
+///
+/// # Errors
+///
+/// `AllocError` if memory runs out.
 pub fn open(
     alloc: Global,
     max_bpages: u32,
@@ -45,7 +49,7 @@ pub fn open(
     Turnstile::new(alloc, HubObject::new(hub), 3)
 }
 
-/// The pass of a lane, whose name must be free.
+/// Splits the pass of a lane from the first one. The test fails if the pass's name is taken.
 pub fn pass_of(
     rt: &impl Abort,
     turnstile: &Turnstile<HubObject>,

@@ -2,7 +2,7 @@
 
 use busdma_machine::HubReply;
 
-/// Whether two replies say the same.
+/// Returns whether two replies say the same.
 pub fn same_reply(one: &HubReply, other: &HubReply) -> bool {
     match (one, other) {
         (HubReply::Nothing, HubReply::Nothing) => true,

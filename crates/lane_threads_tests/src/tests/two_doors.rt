@@ -1,4 +1,4 @@
-//! Twelve calls at two doors over a small machine, whose entries were worked by hand.
+//! Twelve calls at two doors over a small machine. Their entries were worked out by hand.
 
 ghost use Rattle.std.specs.Prelude.{◌≡◌, [], Some, None, All, IfOk};
 ghost use Rattle.busdma_machine.specs.Machine.PageList.{page_addresses};
@@ -40,7 +40,7 @@ const FOUR: MapId = MapId {
     made_at: 4,
 };
 
-/// The limits of a memory that may not cross a frame's end.
+/// The limits of a memory that must not cross a frame's end.
 const CUT: TagLimits = TagLimits {
     boundary: 4096,
     ..LOW
@@ -171,7 +171,7 @@ fn make_calls<R: Wait + Abort>(
     Ok(passes)
 }
 
-// The pages at these addresses, as a reply has them.
+// Returns the list of pages at these addresses that a reply has.
 fn pages_at(alloc: Global, addresses: &[u64]) -> Result<PaList, AllocError> {
     let pages = addresses.iter().map(|address| Pa(*address));
     Ok(ListOf::new(pages.collect(alloc)?))

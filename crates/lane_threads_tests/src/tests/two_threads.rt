@@ -20,7 +20,7 @@ use turnstile::{Pass, Turnstile};
 /// How often each lane grabs and releases.
 const ROUNDS: u32 = 1000;
 
-// Grabs a page and releases it; None where there is no memory or not one page.
+// Grabs a page and releases it. Returns `None` if there is no memory, or not one page.
 fn grab_and_release<R: Wait>(alloc: Global, door: &mut PassDoor<'_, R>, map: MapId) -> Option<()>
     requires { Knows map.lane.0 (HasIdle map.made_at) (seen door.old) }
     ensures idle { IfSome result (λ _. Knows map.lane.0 (HasIdle map.made_at) (seen door.new)) }
@@ -41,7 +41,7 @@ fn grab_and_release<R: Wait>(alloc: Global, door: &mut PassDoor<'_, R>, map: Map
     Some(())
 }
 
-// Makes the map in zone 0; None where there is no memory or there are too few frames.
+// Makes the map in zone 0. Returns `None` if there is no memory, or if there are too few frames.
 fn make_map<R: Wait>(alloc: Global, door: &mut PassDoor<'_, R>, map: MapId) -> Option<()>
     requires { Knows map.lane.0 HasNone (seen door.old) }
     ensures idle { IfSome result (λ _. Knows map.lane.0 (HasIdle map.made_at) (seen door.new)) }
@@ -69,8 +69,7 @@ fn work<R: Wait>(alloc: Global, door: &mut PassDoor<'_, R>, map: MapId) -> Optio
     Some(())
 }
 
-// The work of the lane whose number is one below the pass's name. Where it ends too soon, the
-// history tells.
+// Does the work of the lane whose number is one below the pass's name. If the work ends too soon, the history shows it.
 fn work_by<R: Wait>(
     rt: &R,
     alloc: Global,
@@ -87,7 +86,7 @@ fn work_by<R: Wait>(
     door.into_pass()
 }
 
-// Each pass in a thread of its own.
+// Does the work of each pass on a thread of its own.
 fn work_beside<R: Threads + Wait + Sync>(
     rt: &R,
     alloc: Global,
@@ -128,7 +127,7 @@ fn is_making(entry: &HoldEntry, map: MapId) -> bool {
     entry.call == call && same_reply(&entry.reply, &HubReply::Grown(grown))
 }
 
-// The page that the lane got by the entry, where it is a grab of one.
+// Returns the page that the lane got by this entry, if the entry is a grab of one page.
 fn page_grabbed(entry: &HoldEntry, map: MapId) -> Option<Pa> {
     let call = HubCall::Grab {
         map,

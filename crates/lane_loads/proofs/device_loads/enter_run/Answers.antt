@@ -31,7 +31,7 @@ invariant_of-holdings-2-clause-awaiting c =
     awaiting-tag-again h.pages.now h.maxmem h.tags.map h.maps.map h.loans.prepared h.awaiting c.args.tag v t
     (sym c.in-Some.ensures.value) refl
 
--- where no page is reached, frames have no run
+-- if no device page is reached, frames get no run
 none-entered : (frames : List ℕ) → with_frames frames no_space ≡ no_space
 none-entered frames = elim (length frames == 0)
     as (λ b. (if b then no_space else entered (first_free no_space (length frames)) frames no_space) ≡ no_space) [

@@ -24,7 +24,7 @@ use Rattle.lane_state.specs.Loading.{bio_of, load_loan}
 use Rattle.lane_state.proofs.Doors.{on-err}
 use Rattle.lane_loads.proofs.device_loads.keep_segments.Goals as goal
 
--- what is kept but for the tags is kept where the ideal state is
+-- a step that keeps all but the tags, and the ideal state, keeps the state
 kept-behind : (h p r : Holdings) → KeepsState h p → ideal_of r ≡ ideal_of p → KeepsButTags p r → KeepsState h r
 kept-behind h p r kept same rest = record {
   ideal = same ∙ kept.ideal;

@@ -29,7 +29,7 @@ same-frames : (l : LaneState) (b : Bio) (es : List Entry) (parts : List Part) (f
 same-frames l b es parts frames entries are is =
     are ∙ ap load_frames (ap entries_of is ∙ stream-entries l b ∙ sym entries)
 
--- and so is the page that is asked for them
+-- the page that is found for the frames is the page for the load's frames
 same-page : (l : LaneState) (o : LaneMap) (tag : ℕ) (asked frames : List ℕ) (page : Option ℕ) → tag ≡ o.tag →
     asked ≡ frames → page ≡ page_for (l.spaces tag) (length asked) → page_for (l.spaces o.tag) (length frames) ≡ page
 same-page l o tag asked frames page is same found =

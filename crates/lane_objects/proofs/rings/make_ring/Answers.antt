@@ -12,7 +12,7 @@ use Rattle.lane_state.specs.MapValues.{map_values}
 use Rattle.lane_state.proofs.MapValues.{image-none, image-some}
 use Rattle.lane_objects.proofs.rings.make_ring.Goals as goal
 
--- what is made of a memory, where there is one
+-- the ring that a step makes, by whether the memory is there
 module _ (l : LaneState) (mem slots : ℕ) where
   absent : get l.mems mem ≡ None → gives l (answer.Report (record { name = Absent; at = 0 })) ≡ ring mem slots l
   absent none = sym (ap (λ o. unless_absent o l (λ (x : LaneMemory).

@@ -11,7 +11,7 @@ use Rattle.lane_state.specs.Judging.{foreign_bytes}
 use Rattle.lane_state.proofs.Foreign.{first-judged, only-fine, rest-of-spans, then-judged}
 use Rattle.lane_state.proofs.holdings.Holdings.judge_spans.Goals as goal
 
--- what an index past the end stands for
+-- the span that is read past the end of the list
 abbrev no_span : Span
 no_span = record { va = record { 0 = 0 }; len = 0 }
 
