@@ -30,7 +30,7 @@ use Rattle.program_rules.specs.Commands.Runs.{IsReader}
 use Rattle.busdma_cmd.proofs.Endings.{done_answers, done_of_reading, long_keeps, no_memory_keeps, none_is_some, not_done, other_of_reading, refused_keeps, unread_keeps, unwritten_answers}
 use Rattle.busdma_cmd.proofs.Taking.{AsksFor, all_at_most, if_command, not_gave_too_many, of_command, some_command}
 
--- ---- what an input is judged to be
+-- ---- how an input is judged
 
 behind : (input : List ℕ) (o : Option Cut) → o ≡ cut_of input →
     scenario_behind_header input ≡ option_map_or (λ c. scenario_of c.scenario) o (Bad bad_header)

@@ -34,7 +34,7 @@ use Rattle.busdma_cmd.proofs.Taking.{AsksFor, all_at_most, if_command, is_long, 
 
 -- ---- the fields
 
--- the status of a run is one of those that are done
+-- the status of a run is one of a run that was done
 by_reports : (b : Bool) → IsDone (cond b 1 0)
 by_reports true = inr (inl refl)
 by_reports false = inl refl
@@ -58,7 +58,7 @@ not_written : (n : ℕ) → 2 < n → n ≢ 73 → HasWritten n → ⊥
 not_written n large other (inl done) = not_done n large done
 not_written n large other (inr is) = other is
 
--- at a status of no run and of no failed write there is no journal
+-- a call has no journal if its status is that of no run and of no failed write
 no_journal : (o : Option Command) (n : ℕ) → 2 < n → n ≢ 73 → IsSomeAnd o (λ c. KeepsJournal c n) → ⊥
 no_journal None n large other keeps = keeps
 no_journal (Some Replay) n large other keeps = not_written n large other keeps
@@ -76,12 +76,12 @@ other_of_reading n first second third (inl is) = first is
 other_of_reading n first second third (inr (inl is)) = second is
 other_of_reading n first second third (inr (inr is)) = third is
 
--- a scenario is not good and refused
+-- a scenario is not both good and refused
 not_both : (c : Command) (bytes : List ℕ) (s : Scenario) (r : Refusal) → judged c bytes ≡ Good s
     → judged c bytes ≡ Bad r → ⊥
 not_both c bytes s r good bad = let h : Good s ≡ Bad r = sym good ∙ bad in absurd (cc)
 
--- two refusals of the same bytes are one
+-- the same bytes have only one refusal
 same_refusal : (c : Command) (bytes : List ℕ) (r q : Refusal) → judged c bytes ≡ Bad r
     → judged c bytes ≡ Bad q → r ≡ q
 same_refusal c bytes r q first second = let h : Bad r ≡ Bad q = sym first ∙ second in cc
@@ -92,7 +92,7 @@ none_is_some is = absurd (cc)
 
 -- ---- each ending
 
--- what was read, and is good, is answered by what is done
+-- an input that was read and is good is answered by what is done
 pub done_answers : (c : Command) (e : Edges) (o : ProgramEnd) (bytes : List ℕ) (scenario : Scenario) → ReadAll bytes e
     → judged c bytes ≡ Good scenario → IsDone o.status → AnswersInput c e o
 done_answers c e o bytes scenario read good done = record {
@@ -125,7 +125,7 @@ unwritten_run Run e o ran = ran
 unwritten_run (Storm n seed) e o ran = ran
 unwritten_run Check e o ran = absurd ran.ran.runs
 
--- and it keeps its journal
+-- a command that ran a scenario keeps its journal
 journal_run : (c : Command) (e : Edges) (scenario : Scenario) (n : ℕ) → Runs c e scenario → HasWritten n → KeepsJournal c n
 journal_run Replay e scenario n runs written = written
 journal_run Run e scenario n runs written = written
@@ -172,7 +172,7 @@ done_keeps words c e j asked well_read well_written ends =
           (done_complete c e j ends.0 ends.1 done);
     }
 
--- where the sink failed, nothing is asked of it
+-- if the sink failed, nothing is required of it
 pub unwritten_answers : (c : Command) (e : Edges) (o : ProgramEnd) (bytes : List ℕ) (scenario : Scenario) → ReadAll bytes e
     → judged c bytes ≡ Good scenario → WriteFailed e → AnswersInput c e o
 unwritten_answers c e o bytes scenario read good failed = record {
@@ -231,7 +231,7 @@ unwritten_keeps words c e j asked well_read failed ends =
           (unwritten_complete c e j ends.0 ends.1 failed);
     }
 
--- what comes of the input makes a command that reads it complete
+-- the outcome of the input makes a command that reads it complete
 reader_complete : (c : Command) (e : Edges) (o : ProgramEnd) → IsReader c → AnswersInput c e o → IsComplete c e o
 reader_complete Replay e o reader answers = answers
 reader_complete Run e o reader answers = answers
@@ -344,7 +344,7 @@ unread_keeps words c e asked reader failed most nothing = record {
       }));
 }
 
--- where memory ran out, nothing is asked
+-- if memory ran out, nothing is required
 no_memory_answers : (c : Command) (e : Edges) → AnswersInput c e (outcome (Err cause.OutOfMemory))
 no_memory_answers c e = record {
   short = λ input is short unread unwritten. inr refl;
@@ -363,7 +363,7 @@ each_complete : (o : Option Command) (e : Edges)
 each_complete None e = tt
 each_complete (Some c) e = no_memory_complete c e
 
--- whatever the words ask for, memory may run out
+-- the end of a call that ran out of memory, whatever the words ask for
 pub no_memory_keeps : (words : List (List ℕ)) (e : Edges) → NoReadFailed e → ReadAtMost e
     → ((IsSomeAnd (command words) IsReader → ⊥) → ReadNothing e) → WroteNothing e
     → Keeps words e (outcome (Err cause.OutOfMemory))
@@ -392,7 +392,7 @@ no_memory_keeps words e well_read most unread nothing = record {
   complete = each_complete (command words) e;
 }
 
--- there was no memory for the words
+-- the outcome if there was no memory for the words
 pub unjudged_keeps : (words : List (List ℕ)) (e : Edges) → ReadNothing e → WroteNothing e
     → Keeps words e (outcome (Err cause.OutOfMemory))
 unjudged_keeps words e read nothing =

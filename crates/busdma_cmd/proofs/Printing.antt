@@ -13,7 +13,7 @@ use Rattle.program_rules.specs.Commands.Edges.{StreamEdges as Edges}
 use Rattle.program_rules.specs.Commands.ProgramCall.{AnswersWords as Answers}
 use Rattle.program_rules.specs.Commands.Line.{Writes}
 
--- a text was written as the answer of the writing says
+-- a text was written completely or in part, as the result of the writing says
 pub writes : {A B : Type 0} (ran : Result A B) (text : List ℕ) (before after : Option (List ℕ))
     (faults now : ℕ) → OnOk ran (Appends before after text) → OnOk ran (now ≡ faults)
     → OnErr ran (WritesPart text before after) → OnErr ran (Rose faults now)
@@ -39,7 +39,7 @@ writes_then first second before between after faults more now written well (inr 
       subst (λ f. Rose f now) well rose,
     )
 
--- after a write that failed a front of it is one of any longer text
+-- after a failed write, a front of the text is a front of any longer text
 pub writes_before : (first second : List ℕ) (before after : Option (List ℕ)) (faults now : ℕ)
     → WritesPart first before after → Rose faults now → Writes (first ++ second) before after faults now
 writes_before first second before after faults now (n, less, part) rose =
@@ -52,7 +52,7 @@ writes_before first second before after faults now (n, less, part) rose =
       rose,
     )
 
--- an outcome of a call has a refusal at 65 alone
+-- an outcome of a call has a refusal only at status 65
 pub refused_at : (words : Option (List (List ℕ))) (e : Edges) (o : ProgramEnd) → Answers words e o
     → IsSome o.fault ↔ (o.status ≡ 65)
 refused_at (Some words) e o answers = answers.fault

@@ -32,18 +32,18 @@ all_at_most bytes (Some left) after all short =
     let same : length left ≡ length bytes = ap length all.0 in
     (length left, omega arith, (omega arith, some))
 
--- no more than some limit is at most one more than it
+-- what is within the limit is at most one byte more than the limit
 pub one_more_at_most : (before after : Option (List ℕ)) → TakesAtMost input_limit before after
     → TakesAtMost (input_limit + 1) before after
 one_more_at_most before after most = (most.0, omega (arith, most.1), most.2)
 
--- nothing is at most one byte too many
+-- taking nothing is taking at most one byte too many
 pub nothing_at_most : (before after : Option (List ℕ)) → after ≡ before
     → TakesAtMost (input_limit + 1) before after
 nothing_at_most None after same = (0, omega arith, tt)
 nothing_at_most (Some left) after same = (0, omega arith, (omega arith, same))
 
--- a command that reads stops as its reading does
+-- a command that reads stops if its reading stops
 pub stops_reading : (c : Command) (e : Edges) (why : Cause) → IsReader c
     → StopsReading (judged c) e.left e.left_after why → Stops c e why
 stops_reading Replay e why reader stops = stops
@@ -51,7 +51,7 @@ stops_reading Run e why reader stops = stops
 stops_reading (Storm n seed) e why reader stops = absurd reader
 stops_reading Check e why reader stops = stops
 
--- memory ran out after the whole input was read
+-- memory ran out after all of the input was read
 pub ran_out : (c : Command) (e : Edges) (scenario : Scenario) (ran : Result Journal Cause) → IsReader c
     → IsErrAnd ran (λ why. why ≡ cause.OutOfMemory)
     → Reads e.left e.left_after (Ok scenario) → WroteNothing e → EndsBy c e ran
@@ -67,7 +67,7 @@ RunsInput Run = Unit {0}
 RunsInput (Storm n seed) = ⊥
 RunsInput Check = ⊥
 
--- the scenario of the whole input is the one that the command runs
+-- the scenario of the input is the one that the command runs
 pub runs_input : (c : Command) (e : Edges) (scenario : Scenario) → RunsInput c
     → Reads e.left e.left_after (Ok scenario) → Runs c e scenario
 runs_input c e scenario reader reads = of_command_that_reads c reader
@@ -81,7 +81,7 @@ runs_input c e scenario reader reads = of_command_that_reads c reader
     of_command_that_reads (Storm n seed) reader = absurd reader
     of_command_that_reads Check reader = absurd reader
 
--- and no read had failed
+-- if memory ran out after reading, no read had failed
 pub ran_out_after : {A : Type 0} (before now : ℕ) (ran : Result A Cause)
     → IsErrAnd ran (λ why. why ≡ cause.OutOfMemory) → now ≡ before → CountsReads before now ran
 ran_out_after before now (Ok done) is stayed = absurd is
@@ -145,7 +145,7 @@ all_not_too_many bytes (Some left) after all short input rest was is more =
     let m : length left ≡ length input = ap length l in
     absurd (omega arith)
 
--- bytes that were read whole are not too many
+-- bytes that were read completely are not too many
 pub not_gave_too_many : (bytes : List ℕ) (e : Edges) → ReadAll bytes e → GaveTooMany e → ⊥
 not_gave_too_many bytes e read more =
     all_not_too_many bytes e.left e.left_after read.all read.short more.0 more.1 more.2 more.3 more.4
@@ -158,7 +158,7 @@ same_length before after same input rest was is more =
     let long : length rest ≡ length input = ap length equal in
     absurd (omega arith)
 
--- nor are none
+-- no bytes are not too many
 pub not_gave_unread : (e : Edges) → ReadNothing e → GaveTooMany e → ⊥
 not_gave_unread e read more =
     same_length e.left e.left_after read.bytes more.0 more.1 more.2 more.3 more.4
@@ -193,13 +193,13 @@ same_input bytes None after input all is = absurd (cc)
 same_input bytes (Some left) after input all is =
     let l : left ≡ input = cc in sym l ∙ all.0
 
--- the input is judged as the bytes that were read whole
+-- the input is judged as the bytes that were read completely
 pub same_judged : (c : Command) (bytes : List ℕ) (e : Edges) (input : List ℕ) → ReadAll bytes e
     → e.left ≡ Some input → judged c input ≡ judged c bytes
 same_judged c bytes e input read is =
     ap (judged c) (same_input bytes e.left e.left_after input read.all is)
 
--- an input that was read whole is not long
+-- an input that was read completely is not long
 pub not_long : (bytes : List ℕ) (e : Edges) (input : List ℕ) → ReadAll bytes e
     → e.left ≡ Some input → input_limit < length input → ⊥
 not_long bytes e input read is long =

@@ -1,4 +1,4 @@
--- How reading ends, and how the whole run of a command ends, by the cause.
+-- How reading ends, and how the run of a command ends, by its cause.
 use Rattle.std.specs.Prelude.{◌≡◌, ℕ, ◌+◌, ◌≤◌, List, length, Option, Some, None, Result, Ok, Err}
 use Rattle.io_edge.specs.Faults.{Rose}
 use Rattle.io_edge.specs.Reading.{Takes, TakesAtMost, TakesAll}
@@ -20,12 +20,12 @@ use Rattle.program_rules.specs.Commands.Edges.{WrotePart, input_limit}
 use Rattle.program_rules.specs.Commands.Judging.{scenario_behind_header}
 use Rattle.program_rules.specs.Commands.Runs.{IsMadeOf, RunsScenario, text_of}
 
--- P holds of all the bytes that were left, which are not too many, and nothing is left
+-- P holds of all the bytes that were left; these are not too many, and nothing is left after them
 abbrev pub OfInput : Option (List ℕ) → Option (List ℕ) → (List ℕ → Type 0) → Type 0
 OfInput left after P =
     (bytes : List ℕ) × TakesAll bytes left after × (length bytes ≤ input_limit) × P bytes
 
--- why reading gave nothing to work on, by what the bytes are judged to be
+-- why reading gave nothing to work on, if this is how the bytes are judged
 abbrev pub StopsReading : (List ℕ → Reading) → Option (List ℕ) → Option (List ℕ) → Cause → Type 0
 StopsReading judge left after (cause.Refused refusal) =
     OfInput left after (λ bytes. judge bytes ≡ Bad refusal)
@@ -35,38 +35,38 @@ StopsReading judge left after cause.ReadFailed = TakesAtMost input_limit left af
 StopsReading judge left after (cause.WriteFailed journal) = ⊥
 StopsReading judge left after cause.LineUnwritten = ⊥
 
--- how reading a scenario ends, by what was left before it and after it
+-- how reading a scenario ends, by the bytes that were left before it and after it
 abbrev pub Reads : Option (List ℕ) → Option (List ℕ) → Result Scenario Cause → Type 0
 Reads left after (Ok scenario) = OfInput left after (λ bytes. scenario_of bytes ≡ Good scenario)
 Reads left after (Err why) = StopsReading scenario_of left after why
 
--- how often the source had failed before a call and after it: the count rose where a read that
--- failed is the cause, and stayed otherwise
+-- how often the source had failed before a call and after it: the count rose if a failed read is the cause,
+-- and otherwise it is the same
 abbrev pub CountsReads : {A : Type 0} → ℕ → ℕ → Result A Cause → Type 0
 CountsReads before now (Ok done) = now ≡ before
 CountsReads before now (Err cause.ReadFailed) = Rose before now
 CountsReads before now (Err why) = now ≡ before
 
--- the command made the journal of its scenario, a valid one, and this was written of its text
+-- the command made the journal of its valid scenario, and this was written of the journal's text
 abbrev pub Makes : Command → StreamEdges → Journal → (List ℕ → StreamEdges → Type 0) → Type 0
 Makes c e journal Wrote =
     (scenario : Scenario) × RunsScenario c e scenario × IsValid scenario × IsMadeOf c scenario journal
     × Wrote (text_of c scenario journal) e
 
--- why a command that wrote nothing stopped; a storm stops only where memory runs out
+-- why a command stopped that wrote nothing; a storm stops only if memory runs out
 abbrev pub Stops : Command → StreamEdges → Cause → Type 0
 Stops Replay e why = StopsReading scenario_of e.left e.left_after why
 Stops Run e why = StopsReading scenario_of e.left e.left_after why
 Stops (Storm n seed) e why = (why ≡ cause.OutOfMemory) × ReadNothing e
 Stops Check e why = StopsReading scenario_behind_header e.left e.left_after why
 
--- how the whole run of a command ends
+-- how the run of a command ends, with what it read and wrote
 abbrev pub EndsBy : Command → StreamEdges → Result Journal Cause → Type 0
 EndsBy c e (Ok journal) = NoWriteFailed e × Makes c e journal WroteAll
 EndsBy c e (Err (cause.WriteFailed journal)) = WriteFailed e × Makes c e journal WrotePart
 EndsBy c e (Err why) = Stops c e why × WroteNothing e
 
--- the outcome of a run that ended so
+-- the outcome of a run that ended with this result
 abbrev pub outcome : Result Journal Cause → ProgramEnd
 outcome (Ok journal) = record { status = status journal; journal = Some journal; fault = None }
 outcome (Err (cause.Refused refusal)) =

@@ -7,10 +7,10 @@ use busdma_base::Journal;
 use scenario_format::Refusal;
 use std::alloc::AllocError;
 
-/// Why a command does not end with its whole text written.
+/// The reason why a command does not end with its text written completely.
 #[derive(Debug, Drop)]
 pub(crate) enum Cause {
-    /// The bytes that were read are no scenario, or of a check no header and scenario.
+    /// The bytes that were read are no scenario; for a check, they are no header and scenario.
     Refused(Refusal),
     /// More bytes were given than an input may have.
     TooLong,
@@ -18,7 +18,7 @@ pub(crate) enum Cause {
     OutOfMemory,
     /// The source failed.
     ReadFailed,
-    /// The sink failed before the last byte of this journal's text, a report or a storm's summary.
+    /// The sink failed before the last byte of the text of this journal: a report or a storm's summary.
     WriteFailed(Journal),
     /// The sink failed before the last byte of a verdict's line.
     LineUnwritten,

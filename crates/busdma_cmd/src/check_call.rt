@@ -16,7 +16,7 @@ use scenario_format::{PathText, Reading, Refusal, RefusalKind};
 use scenario_read::scenario_of;
 use std::alloc::{AllocError, Global};
 
-/// The refusal of an input without a right header, which has no path.
+/// Returns the refusal of an input without a right header. It has no path.
 fn bad_header(alloc: Global) -> Refusal
     ensures { result ≡ judging.bad_header }
 {
@@ -26,7 +26,7 @@ fn bad_header(alloc: Global) -> Refusal
     }
 }
 
-/// The verdict on an input. Its header is judged before its scenario.
+/// Judges an input. Its header is judged before its scenario.
 fn judge(alloc: Global, input: &[u8]) -> Result<Verdict, Cause>
     ensures { Judges input.now result }
 {
@@ -39,7 +39,7 @@ fn judge(alloc: Global, input: &[u8]) -> Result<Verdict, Cause>
     }
 }
 
-/// The verdict on all that the source has.
+/// Reads all of the source and judges it.
 fn read_verdict<S: Source>(alloc: Global, source: &mut S) -> Result<Verdict, Cause>
     ensures reads { ReadsVerdict (S.left source.old) (S.left source.new) result }
     ensures faults { CountsReads (S.faults source.old) (S.faults source.new) result }
@@ -51,7 +51,7 @@ fn read_verdict<S: Source>(alloc: Global, source: &mut S) -> Result<Verdict, Cau
     }
 }
 
-/// The line of a verdict, with its line feed.
+/// Returns the line of a verdict, with its line feed.
 fn verdict_line(alloc: Global, verdict: &Verdict) -> Result<String, AllocError>
     ensures { IfOk result (λ line. string_bytes line ≡ spec.verdict_line verdict.now) }
 {
@@ -80,7 +80,7 @@ pub(crate) fn check_input<S: Source, K: Sink>(
     }
 }
 
-/// The outcome of a check.
+/// Returns the outcome of a check.
 pub(crate) fn outcome_of_check(checked: Result<Verdict, Cause>) -> ProgramEnd
     ensures { result ≡ checked_outcome checked }
 {

@@ -21,10 +21,10 @@ use std::alloc::{AllocError, Global};
 use storm::{storm_scenario, storms_are_valid, summary};
 use world_core::{replay, status};
 
-/// How many bytes an input has at the most. One more is read, which tells that there are too many.
+/// The greatest number of bytes of an input. One more byte is read, to see whether there are too many.
 pub(crate) const INPUT_LIMIT: usize = 16_777_216;
 
-/// The scenario that all of the source is.
+/// Reads all of the source as a scenario.
 pub(crate) fn read_scenario<S: Source>(alloc: Global, source: &mut S) -> Result<Scenario, Cause>
     ensures reads { Reads (S.left source.old) (S.left source.new) result }
     ensures faults { CountsReads (S.faults source.old) (S.faults source.new) result }
@@ -59,8 +59,7 @@ fn replay_input<S: Source, K: Sink>(
     }
 }
 
-/// Makes a storm, replays it and writes its summary. It is given no source, so of any source nothing
-/// changes.
+/// Makes a storm, replays it and writes its summary. It has no source, so no source changes.
 fn run_storm<K: Sink>(alloc: Global, n: u32, seed: u64, sink: &mut K) -> Result<Journal, Cause>
     requires rounds { 1 ≤ n }
     requires few { n ≤ 256 }
@@ -79,7 +78,7 @@ fn run_storm<K: Sink>(alloc: Global, n: u32, seed: u64, sink: &mut K) -> Result<
     }
 }
 
-/// The outcome of a run.
+/// Returns the outcome of a run.
 pub(crate) fn outcome_of(ran: Result<Journal, Cause>) -> ProgramEnd
     ensures { result ≡ outcome ran }
 {
@@ -99,8 +98,8 @@ pub(crate) fn outcome_of(ran: Result<Journal, Cause>) -> ProgramEnd
     }
 }
 
-/// Runs the command that the words ask for, which is no run on threads. It waits for nobody and
-/// always returns.
+/// Runs the command that the words ask for, and returns its outcome. The words must not ask for a run on
+/// threads. The call waits for nobody and always returns.
 pub fn plain_command<S: Source, K: Sink>(
     alloc: Global,
     words: &[String],

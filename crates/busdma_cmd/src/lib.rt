@@ -1,4 +1,4 @@
-//! The command of the program, over any source and any sink.
+//! Runs the commands of the program, over any source and any sink.
 #![tactic(auto)]
 
 mod cause;

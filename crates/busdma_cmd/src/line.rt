@@ -1,4 +1,4 @@
-//! The line on standard error.
+//! Writes the line on standard error.
 
 ghost use Rattle.std.specs.Prelude.{◌≡◌, ◌↔◌, IfOk, IsSome};
 ghost use Rattle.program_rules.specs.Commands.Line as text;
@@ -9,7 +9,7 @@ use program_rules::ProgramEnd;
 use report_text::refusal_line;
 use std::alloc::{AllocError, Global};
 
-/// The line of a status that alone says what is printed, without its line feed.
+/// Returns the line for a status that needs no more than itself, without its line feed.
 pub(crate) fn status_line(status: u8) -> &'static str
     ensures { result.now ≡ text.status_line status }
 {

@@ -1,4 +1,4 @@
-//! A call of the program, from its words to its status.
+//! Makes a call of the program, from its words to its status.
 
 ghost use Rattle.std.specs.Prelude.{◌≡◌, ◌≢◌, ◌↔◌, IfSome, IsSome, IsSomeAnd, Some, false, true, map, option_map, string_bytes};
 ghost use Rattle.command_words.specs.Command.{run_words};
@@ -23,11 +23,15 @@ use std::io::ErrorKind;
 use std::sync::Wait;
 use std::thread::Threads;
 
-/// The words after the program's name. Where one of them is no text, they ask for nothing, as no
-/// words do. The only error is that memory ran out.
+/// Returns the words after the program's name. If one of them is no text, no words are returned, and no words
+/// ask for nothing.
 ///
-/// It has no clause: what std reads of the environment is the machine's, and the contract of `env::args` says nothing
-/// of the words that it gives. What is done with words is the clause of [`program`].
+/// The function has no clause: what std reads of the environment is the machine's, and the contract of
+/// `env::args` says nothing of the words. What is done with the words is the clause of [`program`].
+///
+/// # Errors
+///
+/// `AllocError` if memory runs out.
 pub fn program_words<R: Env + AllocGlobal>(rt: &R) -> Result<Vec<String>, AllocError> {
     match env::args(rt) {
         Ok(args) => Ok(args.skip(1).collect(rt.alloc())?),
@@ -36,7 +40,7 @@ pub fn program_words<R: Env + AllocGlobal>(rt: &R) -> Result<Vec<String>, AllocE
     }
 }
 
-/// Prints a line with its line feed. Where it cannot be printed whole, nothing tells.
+/// Prints a line with its line feed. If a write fails, nothing reports it.
 fn print_line<E: Sink>(errors: &mut E, line: &[u8])
     ensures { WritesLine (Some line.now)
         (E.held errors.old) (E.held errors.new) (E.faults errors.old) (E.faults errors.new) }
@@ -71,7 +75,7 @@ fn print_fault<E: Sink>(outcome: &ProgramEnd, errors: &mut E)
     }
 }
 
-/// How a call ends for whose words there was no memory.
+/// Returns the outcome of a call that had no memory for its words.
 fn no_memory() -> ProgramEnd
     ensures { result ≡ no_memory }
 {
@@ -82,8 +86,8 @@ fn no_memory() -> ProgramEnd
     }
 }
 
-/// Runs the command that the words ask for. Where there was no memory for the words, that is the
-/// outcome.
+/// Runs the command that the words ask for. `None` says that there was no memory for the words, which is then
+/// the outcome.
 fn run_words<R: Threads + Wait + Sync, S: Source, K: Sink>(
     rt: &R,
     alloc: Global,
@@ -112,8 +116,8 @@ pub fn is_run_call(words: &Option<Vec<String>>) -> bool
     }
 }
 
-/// Does what [`program`] does, for words that do not ask for a run on threads. It starts no thread, waits for nobody and
-/// always returns.
+/// Does what [`program`] does, for words that do not ask for a run on threads. It starts no thread, waits for
+/// nobody and always returns.
 pub fn plain_program<S: Source, K: Sink, E: Sink>(
     alloc: Global,
     words: Option<Vec<String>>,
@@ -135,8 +139,8 @@ pub fn plain_program<S: Source, K: Sink, E: Sink>(
     outcome.status
 }
 
-/// Runs the command that the words ask for, prints the line that tells why it did not go well, and
-/// gives the status to exit with. The words are None where there was no memory for them.
+/// Runs the command that the words ask for, prints the line that says why it did not go well, and returns the
+/// status to exit with. `words` is `None` if there was no memory for them.
 pub fn program<R: Threads + Wait + Sync, S: Source, K: Sink, E: Sink>(
     rt: &R,
     alloc: Global,

@@ -1,4 +1,4 @@
-//! The command that turns the drivers on threads.
+//! The command that runs the drivers on threads.
 
 ghost use Rattle.std.specs.Prelude.{◌≡◌};
 ghost use Rattle.command_words.specs.Command.{run_words};
@@ -41,8 +41,8 @@ fn run_input<R: Threads + Wait + Sync, S: Source, K: Sink, G: Gate + Sync>(
     }
 }
 
-/// Runs the command of the word `run`: the drivers of the scenario that is read, each on a thread,
-/// behind the gate. May wait for ever.
+/// Runs the command of the word `run`: the drivers of the scenario that is read, each on a thread, behind the
+/// gate. Returns the outcome. The call may wait forever.
 pub fn run_command<R: Threads + Wait + Sync, S: Source, K: Sink, G: Gate + Sync>(
     rt: &R,
     alloc: Global,

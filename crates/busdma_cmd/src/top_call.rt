@@ -14,8 +14,8 @@ use std::alloc::Global;
 use std::sync::Wait;
 use std::thread::Threads;
 
-/// Runs the command that the words ask for. For the word `run` alone the drivers are turned on
-/// threads, each turn behind the gate, and it may wait for ever.
+/// Runs the command that the words ask for, and returns its outcome. Only the word `run` runs the drivers on
+/// threads, each turn behind the gate; this call may wait forever.
 pub fn top<R: Threads + Wait + Sync, S: Source, K: Sink, G: Gate + Sync>(
     rt: &R,
     alloc: Global,

@@ -1,4 +1,4 @@
-//! Tests of the command over sources and sinks in memory: what no run of the program shows.
+//! Tests of the command over sources and sinks in memory, for what no run of the program shows.
 #![tactic(auto)]
 
 #[cfg(test)]

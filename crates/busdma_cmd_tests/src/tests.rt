@@ -1,4 +1,5 @@
-//! The program between sources and sinks in memory. Whole runs and refusals stand as files, which `.ci/examples` runs.
+//! The program between sources and sinks in memory. Complete runs and refusals are in files, which
+//! `.ci/examples` runs.
 
 mod called;
 mod edges;

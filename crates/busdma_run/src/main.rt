@@ -1,4 +1,4 @@
-//! The program: its words and its standard streams, handed to the command.
+//! The program hands its words and its standard streams to the command.
 #![tactic(auto)]
 
 use busdma_cmd::{is_run_call, plain_program, program, program_words};
@@ -12,7 +12,7 @@ fn main(rt: HostRuntime) -> ExitCode {
     let mut sink = StdSink::new(io::writer(&rt));
     let mut errors = StdSink::new(rt.stderr());
     let alloc = rt.alloc();
-    // Only a run on threads may wait, so every other command is a call that cannot.
+    // Only a run on threads may wait, so every other command is made by a call that cannot wait.
     let status = if is_run_call(&words) {
         program(&rt, alloc, words, &mut source, &mut sink, &mut errors)
     } else {

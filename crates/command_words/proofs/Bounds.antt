@@ -42,7 +42,7 @@ storm_small first second n seed is =
     let few = number_bounds 256 first n parts.0 in
     (few.0, few.1, (number_bounds (2 ^ 64 - 1) second seed parts.1).0)
 
--- one word asks for no storm
+-- a single word asks for no storm
 no_storm_alone : (a b c : Bool) (n seed : ℕ)
     → cond a (Some Replay) (cond b (Some Run) (cond c (Some Check) None)) ≡ Some (Storm n seed) → ⊥
 no_storm_alone true b c n seed is = cc
@@ -73,7 +73,7 @@ no_run_chosen true first second is = no_run_made (number 256 first) (number (2 ^
     no_run_made None y made = cc
 no_run_chosen false first second is = cc
 
--- `run` alone asks for a run
+-- only the word `run` asks for a run
 pub run_alone : (words : List (List ℕ)) → command words ≡ Some Run → words ≡ run_words
 run_alone [] is = absurd (cc)
 run_alone (word ∷ []) is =

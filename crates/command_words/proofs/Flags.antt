@@ -26,7 +26,7 @@ not_digits (x ∷ xs) flag digits =
     subst (λ (y : ℕ). all_ascii_digits (y ∷ xs) ≡ true) hyphen digits in
     true≢false (sym bad)
 
--- it writes no number
+-- a word that begins with a hyphen writes no number
 no_number : (most : ℕ) (word : List ℕ) → is_flag word ≡ true → number most word ≡ None
 no_number most word flag = go (writes_number most word) refl
   where

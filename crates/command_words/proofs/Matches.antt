@@ -1,4 +1,4 @@
--- The command that matches tell.
+-- The command of the matches that clap found.
 use Rattle.std.proofs.Common.{◌≡◌, ◌∙◌, cond, false, List, codes, sym, ap, ap₂, Option, Some, None, option_map}
 use Rattle.std.specs.Prelude.{Box}
 use Rattle.std.specs.Box.{box_value}
@@ -13,7 +13,7 @@ use Rattle.program_rules.specs.declared.command.Command.{Command}
 use Rattle.program_rules.specs.declared.command.Command.TheVariants.{Replay, Run, Check}
 use Rattle.command_words.specs.Line.{met, storm_asked}
 
--- the storm of the words that were found
+-- the storm that the matched words ask for
 abbrev asked : List Row → Option Command
 asked rows = storm_asked (first_of (codes "N") rows) (first_of (codes "SEED") rows)
 

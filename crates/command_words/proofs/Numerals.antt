@@ -1,4 +1,4 @@
--- What `parse` tells of a word that is to write a number.
+-- What `parse` returns for a word that should write a number.
 use Rattle.std.proofs.Common.{◌≡◌, ◌≢◌, ◌∙◌, ℕ, ◌<◌, ◌≤◌, ◌^◌, ◌&&◌, Bool, cond, true, false, List, length, get_or, arith, refl, ap, subst}
 use Rattle.std.proofs.Common.{Some, None, nat_le, nat_lt}
 use Rattle.std.proofs.lemmas.Bool.Decides.{nat_tests}
@@ -12,7 +12,7 @@ use Rattle.program_rules.specs.Commands.Words.{is_numeral, number, writes_number
 abbrev Numeral : List ℕ → Type 0
 Numeral digits = IsNumeral 10 digits × (digits_value 10 digits < 2 ^ 64)
 
--- a numeral that was read is the number, where it is 1 to `most`
+-- a numeral that was read is the number, if it is from 1 to `most`
 pub number_good : (most : ℕ) (word : List ℕ) (n : ℕ) → length word ≤ 20
     → get_or word 0 0 ≢ 43 → Numeral (without_leading_plus word) × (n ≡ digits_value 10 (without_leading_plus word))
     → 1 ≤ n → n ≤ most
@@ -28,7 +28,7 @@ number_good most word n short unsigned read least within =
     let to_most : nat_le (digits_value 10 word) most ≡ true = grind (arith, nat_tests, is.1, within) in
     ap Some is.1 ∙ rw (some, few, digits, from_1, to_most) refl
 
--- what is not read as a numeral of 64 bits is no number
+-- a word that is not read as a numeral of 64 bits is no number
 pub number_bad : (most : ℕ) (word : List ℕ) → get_or word 0 0 ≢ 43
     → (Numeral (without_leading_plus word) → ⊥) → most < 2 ^ 64 → None ≡ number most word
 number_bad most word unsigned read fits = go (writes_number most word) refl

@@ -1,5 +1,5 @@
--- What clap makes of the words of a command line: one of `replay`, `run`, `check` and `storm`, of whose words the
--- shape alone is known.
+-- What clap makes of the words of a command line: one of `replay`, `run`, `check` and `storm`, with words of
+-- which only the shape is known.
 use Rattle.std.proofs.Common.{◌≡◌, ◌∙◌, ℕ, ◌==◌, Bool, cond, true, false, List, [], ◌∷◌, refl, sym, ap, ap₂, codes, option_map}
 use Rattle.std.proofs.Common.{◌||◌, Option, Some, None, fold, is_some, subst, true≢false, inl, inr}
 use Rattle.std.proofs.lemmas.Bool.Decides.{same_from_decides, Decides-like}
@@ -64,7 +64,7 @@ no_flag_fault s (x ∷ xs) h plain =
     ∙ ap (λ o. option_map_or (λ flags. bundle_fault s.rules s.args_override_self flags h) o [])
     (not_short x xs plain)
 
--- where a walk stands that waits for nothing
+-- the place of a walk that waits for nothing
 abbrev at : Held → ℕ → Walk
 at h position =
     record { held = h; waiting = idle; position = position; is_trailing = false; stopped = None }
@@ -115,7 +115,7 @@ abbrev from_walk : Walk → Kinds → Kinds
 from_walk w faults =
     level app.top w (is_some (entered app w.stopped)) (entered_fault app w.stopped) faults
 
--- where the walk stands after the name of a command
+-- the place of the walk after the name of a command
 abbrev stopped_at : Text → List Text → Walk
 stopped_at name rest = record begin { stopped = Some (name, rest) }
 
@@ -155,7 +155,7 @@ unfolding clap_on_literals
 storm_fault rest = ap₂ from_walk (storm_stops rest) (storm_unfaulted rest)
 
 module _ (n : Text) (plain_n : is_flag n ≡ false) where
-  -- where the walk stands after N
+  -- the place of the walk after N
   abbrev after_n : Walk
   after_n = to_positional storm_shape.rules (arg_by_index storm_shape.rules 1) n (at nothing_held 1) nothing_held
 
@@ -176,7 +176,7 @@ module _ (n : Text) (plain_n : is_flag n ≡ false) where
       walk_n (fault_n [])
 
   module _ (seed : Text) (plain_seed : is_flag seed ≡ false) where
-    -- where the walk stands after SEED
+    -- the place of the walk after SEED
     abbrev after_seed : Walk
     after_seed = to_positional storm_shape.rules (arg_by_index storm_shape.rules 2) seed after_n after_n.held
 
@@ -414,7 +414,7 @@ fits (word ∷ rest) plain =
         (replay_fits rest p.1)
     by_replay p false is = by_run p is (bytes_eq (codes "run") word) refl
 
--- ---- what a parse tells
+-- ---- what a parse returns
 
 -- a parse that succeeds has met the command
 pub read_is : (a : App) (words : List Text) (m : ArgMatches) → a ≡ line → list_any is_flag words ≡ false
@@ -426,7 +426,7 @@ read_is a words m is plain well found =
     ap met ((found simple).1 ∙ ap (λ x. subcommand_of x words) is)
     ∙ (fits words plain).0 (sym (ap (λ x. fault_of x words) is) ∙ well free)
 
--- where one fails, and not because memory ran out, the words ask for nothing
+-- if a parse fails for another reason than memory, the words ask for nothing
 pub unread_is : (a : App) (words : List Text) (e : Error) → a ≡ line → list_any is_flag words ≡ false
     → (is_simple_and_free a ≡ true → HasKind (fault_of a words) e)
     → (kind_of e ≡ kind.OutOfMemory → ⊥) → command words ≡ None

@@ -1,4 +1,4 @@
--- The command line, as clap sees it.
+-- The command line as clap sees it.
 use Rattle.std.specs.Prelude.{◌==◌, Bool, List, Option, Some, None, codes, slice_index, true, if◌then◌else◌}
 use Rattle.std.specs.Str.{bytes_eq}
 use Rattle.clap.specs.Words.{App, Row, Rule, Text, first_of, new_app, new_rule, with_rule, with_subcommand}
@@ -10,16 +10,16 @@ use Rattle.program_rules.specs.Commands.Words.{storm_command}
 abbrev pub is_flag : Text → Bool
 is_flag word = slice_index word 0 == 45
 
--- an argument that has to be given
+-- the rule of an argument that must be given
 abbrev pub required_argument : Text → Rule
 required_argument id = record (new_rule id) { required = true }
 
--- `storm N SEED`
+-- the subcommand `storm N SEED`
 abbrev pub storm_arguments : App
 storm_arguments =
     with_rule (with_rule (new_app (codes "storm")) (required_argument (codes "N"))) (required_argument (codes "SEED"))
 
--- the program, without its commands
+-- the program without its commands
 abbrev pub program : App
 program = record (new_app (codes "busdma_run")) {
   top = record (new_app (codes "busdma_run")).top {
@@ -38,13 +38,13 @@ line = with_subcommand
     (new_app (codes "check")).top)
     storm_arguments.top
 
--- the storm of two words that may have been given
+-- the storm that two words ask for, if both were given
 abbrev pub storm_asked : Option Text → Option Text → Option Command
 storm_asked (Some n) (Some seed) = storm_command n seed
 storm_asked (Some n) None = None
 storm_asked None seed = None
 
--- the command whose subcommand was met with these matches
+-- the command that clap found, given its subcommand and the matches of that
 abbrev pub met : Option (Text × List Row) → Option Command
 met None = None
 met (Some found) =

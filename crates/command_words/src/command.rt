@@ -1,4 +1,4 @@
-//! The command that the words of the program ask for.
+//! Finds the command that the words of the program ask for.
 
 ghost use Rattle.std.specs.Prelude.{◌≡◌, ◌↔◌, IfOk, IsTrue, map, option_map, string_bytes};
 ghost use Rattle.std.specs.List.{list_any};
@@ -14,7 +14,7 @@ use clap::error::ErrorKind;
 use program_rules::Command;
 use std::alloc::{AllocError, Global};
 
-/// The storm that two words ask for.
+/// Returns the storm that two words ask for, or `None` if they ask for none.
 fn storm_of(rounds: Option<&str>, seed: Option<&str>) -> Option<Command>
     ensures { result ≡ line.storm_asked (option_map (λ s. s.now) rounds.entry) (option_map (λ s. s.now) seed.entry) }
 {
@@ -23,7 +23,7 @@ fn storm_of(rounds: Option<&str>, seed: Option<&str>) -> Option<Command>
     Some(Command::Storm { n: n as u32, seed })
 }
 
-/// The command that was met.
+/// Returns the command that clap found.
 fn met(matches: &ArgMatches) -> Option<Command>
     ensures { result ≡ line.met (subcommand_rows_of matches.now) }
 {
@@ -35,7 +35,7 @@ fn met(matches: &ArgMatches) -> Option<Command>
     }
 }
 
-/// Whether the word begins with a hyphen, so that clap might take it for a flag.
+/// Returns whether the word begins with a hyphen, so that clap might take it for a flag.
 fn is_flag(word: &str) -> bool
     ensures { result ≡ line.is_flag word.now }
 {
@@ -48,8 +48,11 @@ fn has_flag(words: &[String]) -> bool
     words.iter().any(|word| is_flag(word))
 }
 
-/// The command that the words ask for, or None where they ask for none. The only error is that memory
-/// ran out.
+/// Returns the command that the words ask for, or `None` if they ask for none.
+///
+/// # Errors
+///
+/// `AllocError` if memory runs out.
 pub fn command_of(alloc: Global, words: &[String]) -> Result<Option<Command>, AllocError>
     ensures { IfOk result (λ c. c ≡ spec.command (map string_bytes words.now)) }
 {
@@ -66,7 +69,7 @@ pub fn command_of(alloc: Global, words: &[String]) -> Result<Option<Command>, Al
     }
 }
 
-/// Whether the words ask for a run on threads.
+/// Returns whether the words ask for a run on threads.
 pub fn is_run(words: &[String]) -> bool
     ensures { IsTrue result ↔ (map string_bytes words.now ≡ run_words) }
 {

@@ -1,4 +1,4 @@
-//! Laws of commands, each the contract of a function that does nothing.
+//! Laws of commands. Each law is the contract of a function that does nothing.
 
 ghost use Rattle.std.specs.Prelude.{ℕ, ◌≡◌, ◌≤◌, List, Some};
 ghost use Rattle.program_rules.specs.Commands.Words.{command};
@@ -10,7 +10,7 @@ pub fn storms_are_small()
     ensures { (words : List (List ℕ)) (n seed : ℕ) → command words ≡ Some (Storm n seed) → (1 ≤ n) × (n ≤ 256) × (1 ≤ seed) }
 {}
 
-/// `run` alone asks for a run on threads.
+/// Only the one word `run` asks for a run on threads.
 pub fn run_is_one_word()
     ensures { (words : List (List ℕ)) → command words ≡ Some Run → words ≡ run_words }
 {}

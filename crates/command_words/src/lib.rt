@@ -1,4 +1,4 @@
-//! What the words of the program ask for.
+//! Finds the command that the words of the program ask for.
 #![tactic(auto)]
 
 mod command;

@@ -1,4 +1,4 @@
-//! The command line, as clap reads it.
+//! Describes the command line for clap.
 
 ghost use Rattle.std.specs.Prelude.{◌≡◌, IfOk};
 ghost use Rattle.clap.specs.Words.{app_of};
@@ -7,7 +7,7 @@ ghost use Rattle.command_words.specs.Line.{line, storm_arguments as storm_line};
 use clap::{Arg, Command};
 use std::alloc::{AllocError, Global};
 
-/// `storm N SEED`, whose two words may be any texts.
+/// Returns the subcommand `storm N SEED`. Its two words may be any texts.
 fn storm_line<'a>(alloc: Global) -> Result<Command<'a>, AllocError>
     ensures { IfOk result (λ c. app_of c ≡ storm_line) }
 {
@@ -16,7 +16,7 @@ fn storm_line<'a>(alloc: Global) -> Result<Command<'a>, AllocError>
     Command::new(alloc, "storm").arg(rounds)?.arg(seed)
 }
 
-/// The program's commands, each a subcommand, with nothing of their own but their words.
+/// Returns the program's command line. Each command is a subcommand, which has only its words.
 pub(crate) fn command_line<'a>(alloc: Global) -> Result<Command<'a>, AllocError>
     ensures { IfOk result (λ c. app_of c ≡ line) }
 {

@@ -1,12 +1,12 @@
-//! Numbers in words.
+//! Reads numbers in words.
 
 ghost use Rattle.std.specs.Prelude.{◌≡◌};
 ghost use Rattle.program_rules.specs.Commands.Words as spec;
 
-/// How many digits a number has at the most, leading zeros among them.
+/// The greatest number of digits of a number, with leading zeros.
 const MOST_DIGITS: usize = 20;
 
-/// The number that a word of 1 to 20 decimal digits writes, where it is 1 to `most`.
+/// Returns the number that a word of 1 to 20 decimal digits writes, or `None` if it is not from 1 to `most`.
 pub(crate) fn number(most: u64, word: &str) -> Option<u64>
     ensures { result ≡ spec.number most word.now }
 {

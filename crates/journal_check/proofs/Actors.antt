@@ -14,7 +14,8 @@ use Rattle.program_rules.specs.Reports.Did.{did_text}
 use Rattle.program_rules.specs.Reports.Report.{side_letter, actor_text, entry_line}
 use Rattle.journal_check.proofs.Words.{number-there}
 
--- what stands behind the number in the line of an entry: a space, the letter of its side, and the number of its driver
+-- what follows the number in the line of an entry: a space, the letter of its side, and the number of its
+-- driver
 pub record Behind (rest : List ℕ) (actor : Actor) : Type 0 where
   pub more : List ℕ
   pub letter : get_or rest 1 0 ∷ [] ≡ side_letter actor.side
@@ -27,7 +28,7 @@ behind-side side.Script lane more = record { more = more; letter = refl; digits 
 behind-side side.Transfer lane more = record { more = more; letter = refl; digits = refl; long = omega arith }
 behind-side side.Callback lane more = record { more = more; letter = refl; digits = refl; long = omega arith }
 
--- what an actor's line begins with: its number, a space, and the rest
+-- an actor's line begins with its number, a space, and the rest
 pub record OfEntry (line : List ℕ) (actor : Actor) : Type 0 where
   pub number : ℕ
   pub own : List ℕ
@@ -45,12 +46,12 @@ of-entry line s n e h =
       behind = behind-side e.actor.side e.actor.lane.0 more;
     }
 
--- its first space is there
+-- the first space of the line is there
 pub space-there : (line : List ℕ) (actor : Actor) (o : OfEntry line actor) →
     position (λ b. b == 32) line ≡ Some (length (decimal o.number))
 space-there line actor o = number-there line o.own 32 o.number (omega arith) o.is
 
--- behind which the actor stands
+-- after the first space comes the actor
 pub behind-space : (line rest : List ℕ) (actor : Actor) (at : ℕ) → OfEntry line actor →
     position (λ b. b == 32) line ≡ Some at → rest ≡ drop at line → Behind rest actor
 behind-space line rest actor at o found is =

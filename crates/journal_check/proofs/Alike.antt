@@ -1,4 +1,4 @@
--- With how many lines two texts begin alike.
+-- How many lines two texts have in common from their beginning on.
 use Rattle.std.proofs.Common.{◌≡◌, ℕ, suc, ◌+◌, ◌≤◌, Bool, true, false, List, [], ◌∷◌, length, take, drop, if◌then◌else◌}
 use Rattle.std.proofs.Common.{refl, sym, ap, ap₂, ◌∙◌, arith, rules}
 use Rattle.std.proofs.lemmas.List.{drop-drop, drop_all, length-take-le}
@@ -24,7 +24,7 @@ next-other x y xs ys off = by (bytes_eq x y) (λ h. search (rules, bytes_eq-Deci
     by true h = absurd (off (h refl))
     by false h = refl
 
--- so many lines were the same, behind which both texts go on at this place
+-- this many lines were the same, and both texts go on at this place
 abbrev pub AreAlike : List ℕ → List ℕ → ℕ → ℕ → Type 0
 AreAlike text other at count =
     alike (lines text) (lines other) ≡ count + alike (lines (drop at text)) (lines (drop at other))
@@ -32,7 +32,7 @@ AreAlike text other at count =
 pub begin-alike : (text other : List ℕ) → AreAlike text other 0 0
 begin-alike text other = omega arith
 
--- where one of them has ended, no more lines are the same
+-- if one of the texts has ended, no more lines are the same
 pub end-alike : (text other : List ℕ) (at count : ℕ) → AreAlike text other at count → length text ≤ at →
     count ≡ alike (lines text) (lines other)
 end-alike text other at count h over =

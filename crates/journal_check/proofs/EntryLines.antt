@@ -1,4 +1,4 @@
--- The lines of entries: none has a line feed inside, and each tells its actor.
+-- The lines of entries: none has a line feed inside, and each names its actor.
 use Rattle.std.proofs.Common.{◌≡◌, ℕ, zero, suc, ◌+◌, ◌/◌, ◌%◌, ◌==◌, ◌<◌, ◌≤◌, ◌^◌, ◌&&◌, Bool, true, false, cond, List, [], ◌∷◌, ◌++◌, length, codes}
 use Rattle.std.proofs.Common.{Option, Some, None, refl, sym, ap, ◌∙◌, arith, if◌then◌else◌, nat_lt, slice_get, subst}
 use Rattle.std.proofs.lemmas.Bool.Decides.{nat_tests}
@@ -60,7 +60,7 @@ use Rattle.journal_check.proofs.Digits.{glyph-high, digits-high, decimal-high, j
 
 -- ---- the actor of a line
 
--- texts without a space are the same that are the same up to a space
+-- texts without a space are equal if they are equal up to a space
 cut : (a b r t : List ℕ) → over 32 a ≡ true → over 32 b ≡ true → a ++ 32 ∷ r ≡ b ++ 32 ∷ t → a ≡ b
 cut [] [] r t h k e = refl
 cut [] (y ∷ b) r t h k e =

@@ -1,4 +1,4 @@
--- The verdict behind the lines of entries.
+-- The verdict after the lines of entries.
 use Rattle.std.proofs.Common.{◌≡◌, ℕ, ◌+◌, ◌≤◌, List, [], ◌∷◌, ◌++◌, length, drop, refl, sym, ap, ◌∙◌, inl, inr, subst}
 use Rattle.std.specs.List.{concat}
 use Rattle.busdma_base.specs.declared.journals.journal.Journal.{Journal}
@@ -15,7 +15,7 @@ use Rattle.program_rules.specs.Verdicts.Verdict.{CanGoOn, FollowsText as Follows
 use Rattle.program_rules.specs.Verdicts.Verdict.{StopsAtEnd, StopsWithin, journal_at}
 use Rattle.journal_check.proofs.Lines.{concat-lines}
 
--- texts with the same lines are the same
+-- texts with the same lines are equal
 lines-tell : (a b : List ℕ) → lines a ≡ lines b → a ≡ b
 lines-tell a b h = sym (concat-lines a) ∙ (ap concat h ∙ concat-lines b)
 

@@ -1,4 +1,4 @@
--- Where a byte first stands in a text, and the first line of a text.
+-- The first place of a byte in a text, and the first line of a text.
 use Rattle.std.proofs.Common.{◌≡◌, ℕ, zero, suc, ◌+◌, ◌<◌, ◌≤◌, ◌==◌, Bool, true, false, cond, not, List, [], ◌∷◌, ◌++◌, length, take, drop}
 use Rattle.std.proofs.Common.{Option, Some, None, refl, sym, ap, ◌∙◌, arith, nat_lt, if◌then◌else◌, length-append}
 use Rattle.std.proofs.lemmas.Bool.Decides.{nat_tests}
@@ -7,7 +7,7 @@ use Rattle.std.specs.List.{list_all, onto_first, position, position_or_len}
 use Rattle.program_rules.specs.Verdicts.Lines.{lines}
 use Rattle.journal_check.proofs.Lines.{over, and-both}
 
--- where a byte first stands, or the end
+-- the first place of a byte, or the end
 abbrev pub first : ℕ → List ℕ → ℕ
 first byte text = position_or_len (λ b. b == byte) text
 
@@ -51,14 +51,14 @@ missed text m h = by (nat_lt m (length text)) refl h
     by true e k = absurd (cc)
     by false e k = grind (arith, nat_tests)
 
--- a line ends behind its line feed
+-- a line ends after its line feed
 pub cut-at : (text : List ℕ) (at : ℕ) → 0 < length text → position (λ b. b == 10) text ≡ Some at →
     lines text ≡ take (at + 1) text ∷ lines (drop (at + 1) text)
 cut-at text at some h =
     let same : first 10 text ≡ at = found text at (first 10 text) h in
     first-of text some ∙ ap (λ n. take (n + 1) text ∷ lines (drop (n + 1) text)) same
 
--- without a line feed it ends with the text
+-- without a line feed, a line ends with the text
 pub cut-last : (text : List ℕ) → 0 < length text → position (λ b. b == 10) text ≡ None →
     lines text ≡ take (length text) text ∷ lines (drop (length text) text)
 cut-last text some h =
@@ -71,7 +71,7 @@ cut-last text some h =
 
 -- ---- the first word
 
--- a byte stands behind a word whose bytes are above it
+-- a byte follows a word whose bytes are above it
 pub first-behind : (byte : ℕ) (word rest : List ℕ) → over byte word ≡ true → first byte (word ++ byte ∷ rest) ≡ length word
 first-behind byte [] rest h = by (byte == byte) (grind (arith, nat_tests))
   where

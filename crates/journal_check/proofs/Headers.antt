@@ -15,7 +15,7 @@ use Rattle.journal_check.proofs.FirstLine.{first, first-behind}
 use Rattle.journal_check.proofs.Lines.{and-both}
 use Rattle.journal_check.proofs.Words.{number-high}
 
--- an input with the header of this number, and what is behind it
+-- an input with the header with this number, and what follows it
 pub record Headed (input : List ℕ) (n : ℕ) (rest : List ℕ) : Type 0 where
   pub few : n < 100000000
   pub is : input ≡ decimal n ++ 10 ∷ rest
@@ -27,7 +27,7 @@ header-joined n rest = append_assoc (decimal n) (10 ∷ []) rest
 length-header : (n : ℕ) → length (header n) ≡ length (decimal n) + 1
 length-header n = length-append (decimal n) (10 ∷ [])
 
--- ---- what the test tells
+-- ---- what the test says
 
 starts : (input : List ℕ) (n : ℕ) → (starts_with nat_eq input (header n) ≡ true → input ≡ header n ++ drop (length (header n)) input)
     × ((rest : List ℕ) → input ≡ header n ++ rest → starts_with nat_eq input (header n) ≡ true)
@@ -129,9 +129,9 @@ is-cut input cut h =
     ∙ (ap (λ t. Some (record { scenario = t; report = drop n rest })) (take_at cut.scenario cut.report n refl)
     ∙ ap (λ t. Some (record { scenario = cut.scenario; report = t })) (drop_at cut.scenario cut.report n refl))
 
--- ---- what stands behind a header
+-- ---- what follows a header
 
--- what is stripped of a front
+-- what is left after a front is stripped
 abbrev pub Stripped : List ℕ → List ℕ → Option (Bor (List ℕ)) → Type 0
 Stripped text front r = MatchOption r ((rest : List ℕ) → text ≢ front ++ rest) (λ x. text ≡ front ++ x.now)
 
@@ -140,7 +140,7 @@ pub no-number : (input digits : List ℕ) (n : ℕ) → digits ≡ decimal n →
 no-number input digits n own off = λ rest h.
     off (10 ∷ rest) (h ∙ (header-joined n rest ∙ ap (λ d. d ++ 10 ∷ rest) (sym own)))
 
--- behind the number the line feed decides
+-- after the number, the line feed decides
 pub behind-number : (input digits behind : List ℕ) (n : ℕ) (r : Option (Bor (List ℕ))) → digits ≡ decimal n →
     input ≡ digits ++ behind → Stripped behind (10 ∷ []) r → Stripped input (header n) r
 behind-number input digits behind n None own first off = λ rest h.
@@ -156,7 +156,7 @@ same-number input rest n k told is tells h =
     let few : n < 100000000 = h.few in
     same_Some k n (sym is ∙ tells n rest (omega (arith, few)) h.is)
 
--- and what is behind it is what was found there
+-- what follows a header is what was found there
 pub same-rest : (input own rest : List ℕ) (n k : ℕ) → k ≡ n → input ≡ header k ++ own → Headed input n rest → own ≡ rest
 same-rest input own rest n k same is h =
     append_cancel_left (header n) own rest

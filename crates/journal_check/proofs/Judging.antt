@@ -1,4 +1,4 @@
--- The verdict on lines, over any machine whose actors each have one step.
+-- The verdict on lines, over any machine in which each actor has one step.
 use Rattle.std.proofs.Common.{◌≡◌, ◌≢◌, ℕ, zero, suc, ◌+◌, ◌<◌, ◌≤◌, Bool, true, false, List, [], ◌∷◌, ◌++◌, length, take, Option, Some, None}
 use Rattle.std.proofs.lemmas.List.{append_assoc, append-nil, take-take}
 use Rattle.program_rules.specs.Verdicts.Lines.{alike_lines as alike}
@@ -18,7 +18,7 @@ module _ {W A E : Type 0} (actor : E → A) (step_entry : W → A → Option E) 
   abbrev pub IsAtRest : W → Type 0
   IsAtRest w = (a : A) → step_entry w a ≡ None
 
-  -- what goes on after entries, where a longer list has the same first lines
+  -- entries that lead on, if a longer list has the same first lines
   record Goes (n : ℕ) (u v : W) (es ks : List E) (m : ℕ) (xs ys : List (List ℕ)) : Type 0 where
     more : List E
     is : ks ≡ es ++ more
@@ -224,7 +224,8 @@ module _ {W A E : Type 0} (actor : E → A) (step_entry : W → A → Option E) 
           same [] is p = (is ∙ append-nil es, p)
           same (f ∷ more) is p = absurd (can-step u u refl still f p.0)
 
-  -- where an actor that can step is found if there is one, and each step leaves less to do, a world leads to one at rest
+  -- if an actor that can step is found whenever there is one, and each step leaves less to do, a world leads
+  -- to one at rest
   module _ (Well : W → Type 0) (keeps : (w : W) (a : A) → Well w → Well (after w a)) (left : W → ℕ)
       (falls : (w : W) (e : E) → Well w → step_entry w (actor e) ≡ Some e → left (after w (actor e)) < left w)
       (decide : (w : W) → Well w → IsAtRest w ⊎ ((e : E) × (step_entry w (actor e) ≡ Some e))) where

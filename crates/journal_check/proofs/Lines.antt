@@ -18,7 +18,7 @@ and-both false b h = absurd (cc)
 not-feed : (b : ℕ) → nat_lt 31 b ≡ true → (b == 10) ≡ false
 not-feed b h = grind (arith, nat_tests)
 
--- the lines of a text are the text
+-- the lines of a text, one after the other, are the text
 pub concat-lines : (text : List ℕ) → concat (lines text) ≡ text
 concat-lines [] = refl
 concat-lines (b ∷ bs) = by (b == 10) (concat-lines bs)
@@ -41,7 +41,7 @@ lines-line (b ∷ bs) rest none =
     let off : (b == 10) ≡ false = not-feed b high.0 in
     rw off (ap (onto_first b) (lines-line bs rest high.1))
 
--- ---- with how many lines two lists begin alike
+-- ---- how many lines two lists have in common from their beginning on
 
 alike-same : (x y : List ℕ) (xs ys : List (List ℕ)) (b : Bool) → (b ≡ true → x ≡ y)
     → take (alike xs ys) xs ≡ take (alike xs ys) ys
@@ -74,7 +74,7 @@ alike-next x y xs ys true decides apart next h =
     let tails : take (alike xs ys + 1) xs ≡ take (alike xs ys + 1) ys = cc in
     next (λ same. apart (ap (λ t. t ∷ xs) heads ∙ ap (λ t. y ∷ t) same)) tails
 
--- of different lists the next line is not the same, or one of them has none
+-- if two lists differ, their next lines differ, or one list has no next line
 pub alike-breaks : (xs ys : List (List ℕ)) → (xs ≡ ys → ⊥)
     → take (alike xs ys + 1) xs ≡ take (alike xs ys + 1) ys → ⊥
 alike-breaks [] [] apart h = apart refl

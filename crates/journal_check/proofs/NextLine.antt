@@ -1,4 +1,4 @@
--- What comes of a line.
+-- The judgement of a line.
 use Rattle.std.proofs.Common.{◌≡◌, ℕ, ◌<◌, ◌^◌, List, Option, Some, None, refl, sym, ap, ◌∙◌, subst, arith, length}
 use Rattle.std.proofs.lemmas.Option.{same_Some}
 use Rattle.busdma_base.specs.declared.journals.journal.Actor.{Actor}

@@ -22,7 +22,7 @@ none-push : (w : WorldState) (actors : List Actor) (a : Actor) → NoneSteps w a
 none-push w [] a h none = (none, tt)
 none-push w (b ∷ actors) a h none = (h.0, none-push w actors a h.1 none)
 
--- none of the first so many actors can step in this world, which stays
+-- none of the first actors that were tried can step, and the world is unchanged
 pub record IsQuiet (w : WorldState) (actors : List Actor) (tried : ℕ) (now : WorldState) : Type 0 where
   pub none : NoneSteps w (take tried actors)
   pub same : now ≡ w
@@ -48,7 +48,7 @@ module _ (w now after : WorldState) (actors : List Actor) (i : ℕ) (d : Actor) 
       let steps : step_entry w (get_or actors i d) ≡ Some e = entry ∙ ap entry_of is in
       (e, ap (step_entry w) (step-named s w well (get_or actors i d) e steps) ∙ steps)
 
--- where the whole round is quiet, no actor can step
+-- if the complete round is quiet, no actor can step
 pub all-quiet : (s : Scenario) (w now : WorldState) (actors : List Actor) (n i : ℕ) → IsWellFormed s w →
     IsQuiet w actors i now → length actors ≤ i → actors ≡ round_from 0 n → n ≡ length s.drivers →
     IsAtRest w × (now ≡ w)

@@ -34,7 +34,7 @@ use Rattle.journal_check.specs.Laws.{BreaksAt}
 past-rests : (w : WorldState) (a : Actor) → length w.lanes ≤ a.lane.0 → step_entry w a ≡ None
 past-rests w a h = ap (λ o. entry_of (step_of w a o).turn) (slice_get_past w.lanes a.lane.0 h)
 
--- who can step is a driver of the world
+-- an actor that can step belongs to a driver of the world
 pub steps-within : (w : WorldState) (a : Actor) (e : JournalEntry) → step_entry w a ≡ Some e → a.lane.0 < length w.lanes
 steps-within w a e is = by (nat_lt a.lane.0 (length w.lanes)) refl
   where
@@ -77,7 +77,7 @@ module _ (s : Scenario) where
       by None is (inl none) = inl (is, none)
       by None is (inr goes) = inr goes
 
-  -- where the round over the drivers makes no step, no actor can
+  -- if the round over the drivers makes no step, no actor can step
   pub at-rest : (w : WorldState) → IsWellFormed s w → NoneSteps w (round_from 0 (length s.drivers)) → IsAtRest w
   at-rest w well none a = at a (nat_lt a.lane.0 (length s.drivers)) refl
     where
@@ -102,7 +102,7 @@ module _ (s : Scenario) where
 
   -- ---- the laws
 
-  -- a legal journal is that of its entries and its last world
+  -- a legal journal is the journal of its entries and its last world
   its-own : (j : Journal) (legal : IsLegal s j) → j ≡ journal_at legal.last j.entries
   its-own j legal =
       ap (λ z. record { entries = j.entries; zones = z; end = j.end }) legal.zones

@@ -11,12 +11,12 @@ use Rattle.journal_check.proofs.Lines.{over}
 pub number-high : (end n : ℕ) → end < 48 → over end (decimal n) ≡ true
 number-high end n low = lower end 47 (decimal n) (omega (arith, low)) (digits-high 10 false n)
 
--- the byte behind a number is the first of its kind
+-- the byte after a number is the first of its kind
 pub number-there : (text rest : List ℕ) (end n : ℕ) → end < 48 → text ≡ decimal n ++ end ∷ rest →
     position (λ b. b == end) text ≡ Some (length (decimal n))
 number-there text rest end n low is = word-end end text (decimal n) rest (number-high end n low) is
 
--- what stands up to it is the number
+-- the bytes before it are the number
 pub number-word : (text front rest : List ℕ) (end n at : ℕ) → end < 48 → front ≡ take at text →
     position (λ b. b == end) text ≡ Some at → text ≡ decimal n ++ end ∷ rest → front ≡ decimal n
 number-word text front rest end n at low is found h =

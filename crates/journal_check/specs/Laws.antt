@@ -6,7 +6,8 @@ use Rattle.program_rules.specs.Reports.Report.{report}
 use Rattle.program_rules.specs.Verdicts.Lines.{lines}
 use Rattle.ideal_world.specs.Legal.{IsLegal}
 
--- the text has the first lines of a legal journal's report up to the line before this one, and with this one of none
+-- up to the line before this one, the text begins as some legal journal's report does; with this line, it begins
+-- as no legal journal's report does
 pub record BreaksAt (s : Scenario) (text : List ℕ) (number : ℕ) : Type 0 where
   pub before : ℕ
   pub place : number ≡ before + 1

@@ -1,4 +1,4 @@
-//! The verdict on a text.
+//! Judges a text as the report of a scenario.
 
 ghost use Rattle.std.specs.Prelude.{◌≡◌, ◌++◌, IfOk};
 ghost use Rattle.busdma_base.specs.Scenarios.Valid.{IsValid};
@@ -19,7 +19,7 @@ use report_text::{end_line, zone_lines};
 use std::alloc::{AllocError, Global};
 use world_core::{World, round_of};
 
-/// Whether an actor can step in a world of the scenario. One that can has made its step then.
+/// Returns whether an actor can step in a world of the scenario. If one can, it has made its step.
 fn goes_on(alloc: Global, scenario: &Scenario, world: &mut World) -> Result<bool, AllocError>
     requires { IsWellFormed scenario.now (ideal_world world.old) }
     ensures { IfOk result (λ goes. IsTried (ideal_world world.old) goes (ideal_world world.new)) }
@@ -33,7 +33,7 @@ fn goes_on(alloc: Global, scenario: &Scenario, world: &mut World) -> Result<bool
     Ok(false)
 }
 
-/// The lines of a journal behind those of its entries.
+/// Returns the lines of a journal after those of its entries.
 fn closing_text(alloc: Global, journal: &Journal) -> Result<Vec<u8>, AllocError>
     ensures { IfOk result (λ text.
         text.items ≡ zone.zone_lines journal.now.zones ++ report.journal_end_line journal.now) }
@@ -43,8 +43,8 @@ fn closing_text(alloc: Global, journal: &Journal) -> Result<Vec<u8>, AllocError>
     Ok(text)
 }
 
-/// The verdict on a text whose first lines are those of the entries that led to a world, and whose next
-/// line, at this byte, is that of no step.
+/// Judges a text whose first lines are those of the entries that led to a world, and whose next line, at byte
+/// `at`, is the line of no step.
 fn verdict_at(
     alloc: Global,
     scenario: &Scenario,
@@ -75,12 +75,15 @@ fn verdict_at(
     }
 }
 
-/// The verdict on a text that may be a printed report of the scenario: yes with the journal, which is
-/// legal, or the number, from 1, of the first line that is not that of any legal journal which goes on
-/// from the lines before it, or that is missing.
+/// Judges a text that may be a printed report of the scenario. The verdict is yes with the journal, which is
+/// legal, or no with the number, from 1, of a line. This is the first line that is missing, or that is in no
+/// legal journal which goes on from the lines before it.
 ///
-/// It steps a world of its own along the lines, in time and memory that grow with the text and the
-/// scenario. The only error is that memory ran out.
+/// The text is followed by the steps of a world, in time and memory that grow with the text and the scenario.
+///
+/// # Errors
+///
+/// `AllocError` if memory runs out.
 pub fn check_text(alloc: Global, scenario: &Scenario, text: &[u8]) -> Result<Verdict, AllocError>
     requires { IsValid scenario.now }
     ensures { IfOk result (IsVerdict scenario.now text.now) }

@@ -1,11 +1,11 @@
-//! How far two texts are the same, in lines.
+//! Compares two texts line by line.
 
 ghost use Rattle.std.specs.Prelude.{◌≡◌, ◌≤◌, length};
 ghost use Rattle.program_rules.specs.Verdicts.Lines.{alike_lines as alike, lines};
 
 use crate::cutting::line_end;
 
-/// With how many lines two texts begin alike.
+/// Returns how many lines two texts have in common from their beginning on.
 pub(crate) fn lines_alike(text: &[u8], other: &[u8]) -> usize
     ensures few { result ≤ length text.now }
     ensures alike { result ≡ alike (lines text.now) (lines other.now) }

@@ -1,4 +1,4 @@
-//! The lines of a text, followed by the steps of a world.
+//! Follows the lines of a text by the steps of a world.
 
 ghost use Rattle.std.specs.Prelude.{◌≡◌, IfOk};
 ghost use Rattle.busdma_base.specs.Scenarios.Valid.{IsValid};
@@ -15,14 +15,14 @@ use world_core::World;
 /// Where the following of a text's lines halts.
 #[derive(Drop)]
 pub(crate) enum Halt {
-    /// At the line with this number, from 1: an actor can step, and the line is that of no step.
+    /// It halts at the line with this number, from 1: an actor can step, and the line is the line of no step.
     Breaks(u64),
-    /// Behind the lines of these entries, at this byte: the next line names nobody that can step, or
+    /// It halts after the lines of these entries, at this byte: the next line names nobody that can step, or
     /// there is none.
     Ends(Vec<JournalEntry>, usize),
 }
 
-/// Follows the lines of a text from the opening world on, as far as each is that of a step.
+/// Follows the lines of a text from the opening world on, as long as each is the line of a step.
 pub(crate) fn follow(
     alloc: Global,
     scenario: &Scenario,

@@ -1,4 +1,4 @@
-//! Laws of verdicts, each the contract of a function that does nothing.
+//! Laws of verdicts. Each law is the contract of a function that does nothing.
 
 ghost use Rattle.std.specs.Prelude.{◌≡◌, ◌↔◌, ℕ, List, Some};
 ghost use Rattle.std.specs.List.{concat};
@@ -18,7 +18,7 @@ ghost use Rattle.journal_check.specs.Laws.{BreaksAt};
 ghost use Rattle.program_rules.specs.Verdicts.Lines.{lines};
 ghost use Rattle.program_rules.specs.Verdicts.Verdict.{IsVerdict};
 
-/// The verdict is yes with a journal exactly where the journal is legal and the text is its report.
+/// The verdict is yes with a journal if and only if the journal is legal and the text is its report.
 pub fn yes_is_the_report()
     ensures legal { (s : Scenario) (text : List ℕ) (j : Journal) → IsVerdict s text (Yes j) →
         IsLegal s j × (text ≡ report s j) }
@@ -26,14 +26,14 @@ pub fn yes_is_the_report()
         text ≡ report s j → IsVerdict s text (Yes j) }
 {}
 
-/// A number is that of the first line with which the text is no longer the front of the report of a
-/// legal journal.
+/// If the verdict is no, its number is that of the first line with which the text is no longer the front of
+/// the report of a legal journal.
 pub fn no_is_where_it_breaks()
     ensures { (s : Scenario) (text : List ℕ) (number : ℕ) → IsValid s → IsVerdict s text (No number) →
         BreaksAt s text number }
 {}
 
-/// A text has one verdict at most.
+/// A text has at most one verdict.
 pub fn one_verdict()
     ensures { (s : Scenario) (text : List ℕ) (u v : Verdict) → IsValid s → IsVerdict s text u →
         IsVerdict s text v → u ≡ v }
@@ -46,13 +46,13 @@ pub fn each_front_is_legal()
         (more : List JournalEntry) × (end : WorldState) × Leads w more end × IsAtRest end }
 {}
 
-/// The lines of a text are the text.
+/// The lines of a text, one after the other, are the text.
 pub fn lines_are_the_text()
     ensures { (text : List ℕ) → concat (lines text) ≡ text }
 {}
 
-/// The parts of an input are those of its header: it is the decimal number of the scenario's bytes, which
-/// are fewer than 100,000,000, a line feed, the scenario and the text.
+/// The parts of an input are those of its header. The input is the decimal number of the scenario's bytes,
+/// which are fewer than 100,000,000, a line feed, the scenario and the text.
 pub fn inputs_have_headers()
     ensures { (input : List ℕ) (cut : Cut) → (cut_of input ≡ Some cut) ↔ IsCut input cut }
 {}

@@ -1,5 +1,5 @@
-//! The verdict on a printed journal: whether it is the report of a legal journal of its scenario, and
-//! else at which line it breaks.
+//! Judges a printed journal: whether it is the report of a legal journal of its scenario, and if not, at
+//! which line it breaks.
 #![tactic(auto)]
 
 mod check;

@@ -1,4 +1,4 @@
-//! The actor that a line names, and numbers in texts.
+//! Reads the actor that a line names, and numbers in texts.
 
 ghost use Rattle.std.specs.Prelude.{◌≡◌, ◌<◌, ◌^◌, ◌++◌, ◌∷◌, ℕ, List, Some, []};
 ghost use Rattle.std.specs.Fmt.{decimal};
@@ -12,7 +12,7 @@ use busdma_base::{Actor, Side};
 use busdma_machine::LaneId;
 use std::str;
 
-/// The number that stands in a text before a byte, such as a space or a line feed.
+/// Returns the number before the first byte `end` of a text, for example before a space or a line feed.
 pub(crate) fn first_number(text: &[u8], end: u8) -> Option<u32>
     requires { end < 48 }
     ensures { (n : ℕ) (rest : List ℕ) → n < 2 ^ 32 → text.now ≡ decimal n ++ end ∷ rest → result ≡ Some n }
@@ -21,7 +21,7 @@ pub(crate) fn first_number(text: &[u8], end: u8) -> Option<u32>
     str::from_utf8(word).ok()?.parse::<u32>().ok()
 }
 
-/// The side of a letter.
+/// Returns the side with this letter.
 fn side_of(letter: u8) -> Option<Side>
     ensures { (side : SeenSide) → letter ∷ [] ≡ side_letter side → result ≡ Some side }
 {
@@ -33,8 +33,8 @@ fn side_of(letter: u8) -> Option<Side>
     }
 }
 
-/// The actor that a line names in its second word. What it gives for a line that is no entry's is left
-/// open, since such a line is found out when it is compared.
+/// Returns the actor that a line names in its second word. The contract does not say what it returns for a
+/// line that is no entry's, because such a line is found when it is compared.
 pub(crate) fn named_actor(line: &[u8]) -> Option<Actor>
     ensures { (s : SeenScenario) (n : ℕ) (e : SeenEntry) → e.actor.lane.0 < 2 ^ 32 → line.now ≡ entry_line s n e →
         result ≡ Some e.actor }

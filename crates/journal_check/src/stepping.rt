@@ -1,4 +1,4 @@
-//! One line, judged by a step.
+//! Judges one line by a step.
 
 ghost use Rattle.std.specs.Prelude.{◌≡◌, IfOk};
 ghost use Rattle.ideal_world.specs.WellFormed.{IsWellFormed};
@@ -12,19 +12,19 @@ use report_text::entry_line;
 use std::alloc::{AllocError, Global};
 use world_core::World;
 
-/// What a line is found to be.
+/// The judgement of a line.
 #[derive(Drop)]
 pub(crate) enum Line {
-    /// It is the line of this step, which was made.
+    /// The line is that of this step, which was made.
     Right(JournalEntry),
-    /// The actor that it names stepped, and it is the line of no step.
+    /// The actor that the line names stepped, but the line is the line of no step.
     Wrong,
-    /// It names nobody that can step.
+    /// The line names nobody that can step.
     Nobody,
 }
 
-/// What a line is found to be under a number: the actor that it names makes its turn, and the line is
-/// compared with that of its step.
+/// Judges a line with this number: the actor that it names makes its turn, and the line is compared with that
+/// of its step.
 pub(crate) fn judged_line(
     alloc: Global,
     scenario: &Scenario,

@@ -1,4 +1,4 @@
--- Bytes as they are read, two digits at a time.
+-- Bytes that are read from two digits each.
 use Rattle.std.proofs.Common.{◌≡◌, ℕ, suc, ◌<◌, ◌+◌, ◌*◌, List, [], ◌∷◌, ◌++◌, length, get_or, drop, Option, Some}
 use Rattle.std.proofs.Common.{None, option_map, refl, arith, append_assoc, ap, ◌∙◌}
 use Rattle.std.proofs.Math.Seq.{drop-cons}

@@ -1,4 +1,4 @@
--- What the code of a reader returns, by what reading gives.
+-- How the result of the code relates to the definition of reading.
 use Rattle.std.specs.Prelude.{◌≡◌, Result, Ok, Err}
 use Rattle.scenario_format.specs.declared.refusal.Refusal.{Refusal}
 use Rattle.json_fields.specs.declared.stop.Stop.{Stop}
@@ -10,17 +10,17 @@ abbrev pub StopsWith : Stop → Refusal → Type 0
 StopsWith stop.OutOfMemory r = Unit {0}
 StopsWith (stop.Refused q) r = q ≡ r
 
--- where the code stops, the reading ends with that refusal, unless memory ran out
+-- if the code stops, the reading ends with the same refusal, unless memory ran out
 abbrev pub Fails : {A : Type 0} → Stop → Read A → Type 0
 Fails stop.OutOfMemory read = Unit {0}
 Fails (stop.Refused r) read = read ≡ Err r
 
--- what the code returned is what reading gives, unless memory ran out
+-- the code returns what the definition of reading gives, unless memory ran out
 abbrev pub Gives : {A : Type 0} → Result A Stop → Read A → Type 0
 Gives (Ok x) read = read ≡ Ok x
 Gives (Err e) read = Fails e read
 
--- the same, where the code's value is seen by `view`
+-- the code's value, seen by `view`, is what the definition of reading gives, unless memory ran out
 abbrev pub GivesSeen : {X A : Type 0} → (X → A) → Result X Stop → Read A → Type 0
 GivesSeen view (Ok x) read = read ≡ Ok (view x)
 GivesSeen view (Err e) read = Fails e read

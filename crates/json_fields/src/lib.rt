@@ -1,4 +1,4 @@
-//! Reading JSON values field by field, where the first refusal is the answer.
+//! Reads JSON values field by field. The first refusal ends the reading.
 #![tactic(auto)]
 
 mod node;

@@ -1,4 +1,4 @@
-//! A value of a document and where it stands.
+//! A value of a document and its place.
 
 ghost use Rattle.std.specs.Prelude.{◌≡◌, true, map, option_map, string_bytes, IfOk};
 ghost use Rattle.std.specs.List.{list_any};
@@ -27,7 +27,7 @@ use serde_json::Value;
 use serde_json::value::Map;
 use std::alloc::Global;
 
-/// A value, and the way to it.
+/// A value of a document, with the path that leads to it.
 #[derive(Clone, Copy)]
 pub struct Node<'v> {
     pub alloc: Global,
@@ -36,21 +36,22 @@ pub struct Node<'v> {
 }
 
 impl<'v> Node<'v> {
-    /// This is wrong here.
+    /// Returns the refusal of this value, or `OutOfMemory` if there is no memory for its path.
     pub fn refuse(&self, kind: RefusalKind) -> Stop
         ensures { StopsWith result (refusal kind (place_of self.now.path)) }
     {
         self.path.refuse(self.alloc, kind)
     }
 
-    /// This is wrong at a key.
+    /// Returns the refusal of the value at a key of this object, or `OutOfMemory` if there is no memory for
+    /// its path.
     pub fn refuse_key<'a>(&'a self, kind: RefusalKind, name: &'a str) -> Stop
         ensures { StopsWith result (refusal kind (key (place_of self.now.path) name.now)) }
     {
         self.path.key(name).refuse(self.alloc, kind)
     }
 
-    /// The value at a key, if there is one.
+    /// Returns the value at a key, or `None` if there is none.
     pub fn field<'a>(&'a self, name: &'a str) -> Option<Node<'a>>
         ensures { option_map spot_of result ≡ field name.now (spot_of self.now) }
     {
@@ -62,7 +63,12 @@ impl<'v> Node<'v> {
         })
     }
 
-    /// The value at a key. A missing one is refused with the key's path.
+    /// Returns the value at a key.
+    ///
+    /// # Errors
+    ///
+    /// `Stop::Refused` with `BadField` and the key's path if there is no such key. `Stop::OutOfMemory` if
+    /// memory runs out.
     #[tactic(auto, unfolding(scenario_format::specs::Json::Field::required))]
     pub fn required<'a>(&'a self, name: &'a str) -> Result<Node<'a>, Stop>
         ensures { GivesSeen spot_of result (required name.now (spot_of self.now)) }
@@ -73,7 +79,7 @@ impl<'v> Node<'v> {
         }
     }
 
-    /// Another value, at this place.
+    /// Returns another value at the same place.
     pub fn at(&self, value: &'v Value) -> Node<'v>
         ensures { spot_of result ≡ placed_at (spot_of self.now) (view value.now) }
     {
@@ -84,7 +90,7 @@ impl<'v> Node<'v> {
         }
     }
 
-    /// An item of the list that stands here.
+    /// Returns an item of this list, given its place, counted from 0, and its value.
     pub fn item<'a>(&'a self, place: usize, value: &'a Value) -> Node<'a>
         ensures { spot_of result ≡ item_of (spot_of self.now) place (view value.now) }
     {
@@ -95,7 +101,11 @@ impl<'v> Node<'v> {
         }
     }
 
-    /// The members of an object.
+    /// Returns the members of this object.
+    ///
+    /// # Errors
+    ///
+    /// `Stop::Refused` with `BadField` if the value is no object. `Stop::OutOfMemory` if memory runs out.
     pub fn members(&self) -> Result<&'v Map<String, Value>, Stop>
         ensures { GivesSeen (λ m. members_view m.now.entries) result
             (members_of (spot_of self.now)) }
@@ -106,8 +116,12 @@ impl<'v> Node<'v> {
         }
     }
 
-    /// The value is an object, and has no key outside the table. The first other key, in byte
-    /// order, is refused with its path.
+    /// Checks that the value is an object and has only keys of the table.
+    ///
+    /// # Errors
+    ///
+    /// `Stop::Refused` with `BadField` if the value is no object, or with the path of its first other key, in
+    /// byte order. `Stop::OutOfMemory` if memory runs out.
     #[tactic(auto, unfolding(scenario_format::specs::Json::Field::only_keys))]
     pub fn only_keys(&self, table: &[&str]) -> Result<(), Stop>
         ensures { Gives result
@@ -119,8 +133,13 @@ impl<'v> Node<'v> {
         }
     }
 
-    /// A number: a JSON number below 2^64 without sign, fraction or exponent, or a text of `0x` and 1
-    /// to 16 hexadecimal digits.
+    /// Returns the number that this value is: a JSON number below 2^64 without sign, fraction or exponent, or
+    /// a text of `0x` and 1 to 16 hexadecimal digits.
+    ///
+    /// # Errors
+    ///
+    /// `Stop::Refused` with `BadField` if the value is no such number. `Stop::OutOfMemory` if memory runs
+    /// out.
     #[tactic(auto, unfolding(scenario_format::specs::Json::Number::read_number))]
     pub fn number(&self) -> Result<u64, Stop>
         ensures { Gives result (number_at (spot_of self.now)) }
@@ -131,7 +150,12 @@ impl<'v> Node<'v> {
         }
     }
 
-    /// The number at a key.
+    /// Returns the number at a key.
+    ///
+    /// # Errors
+    ///
+    /// `Stop::Refused` with `BadField` and the key's path if there is no such key or its value is no number.
+    /// `Stop::OutOfMemory` if memory runs out.
     #[tactic(auto, unfolding(scenario_format::specs::Json::Number::number_field))]
     pub fn number_field(&self, name: &str) -> Result<u64, Stop>
         ensures { Gives result (number_field name.now (spot_of self.now)) }
@@ -139,7 +163,12 @@ impl<'v> Node<'v> {
         self.required(name)?.number()
     }
 
-    /// The number at a key, or a default where there is none.
+    /// Returns the number at a key, or the default if there is no such key.
+    ///
+    /// # Errors
+    ///
+    /// `Stop::Refused` with `BadField` and the key's path if the value at the key is no number.
+    /// `Stop::OutOfMemory` if memory runs out.
     #[tactic(auto, unfolding(scenario_format::specs::Json::Number::number_or))]
     pub fn number_or(&self, name: &str, default: u64) -> Result<u64, Stop>
         ensures { Gives result (number_or name.now default (spot_of self.now)) }
@@ -150,7 +179,11 @@ impl<'v> Node<'v> {
         }
     }
 
-    /// A text.
+    /// Returns the text that this value is.
+    ///
+    /// # Errors
+    ///
+    /// `Stop::Refused` with `BadField` if the value is no text. `Stop::OutOfMemory` if memory runs out.
     #[tactic(auto, unfolding(scenario_format::specs::Json::Text::read_text))]
     pub fn text(&self) -> Result<&'v str, Stop>
         ensures { GivesSeen (λ s. s.now) result (text_at (spot_of self.now)) }
@@ -161,7 +194,12 @@ impl<'v> Node<'v> {
         }
     }
 
-    /// The text of a name: 1 to 32 of `a` to `z`, `0` to `9` and `_`, beginning with a letter.
+    /// Returns the text of a name: 1 to 32 of the characters `a` to `z`, `0` to `9` and `_`, beginning with a
+    /// letter.
+    ///
+    /// # Errors
+    ///
+    /// `Stop::Refused` with `BadField` if the value is no such text. `Stop::OutOfMemory` if memory runs out.
     #[tactic(auto, unfolding(scenario_format::specs::Json::Text::read_name))]
     pub fn name_text(&self) -> Result<&'v str, Stop>
         ensures value { GivesSeen (λ s. s.now) result (name_at (spot_of self.now)) }
@@ -173,7 +211,11 @@ impl<'v> Node<'v> {
         }
     }
 
-    /// A name.
+    /// Returns the name that this value is, in memory of its own.
+    ///
+    /// # Errors
+    ///
+    /// `Stop::Refused` with `BadField` if the value is no name. `Stop::OutOfMemory` if memory runs out.
     pub fn name(&self) -> Result<Name, Stop>
         ensures value { Gives result (name_at (spot_of self.now)) }
         ensures well_formed { IfOk result (λ n. names.is_name n ≡ true) }
@@ -181,7 +223,11 @@ impl<'v> Node<'v> {
         Ok(Name::new(String::from_str(self.alloc, self.name_text()?)?))
     }
 
-    /// Bytes, by two hexadecimal digits each.
+    /// Returns the bytes that this value is: a text of two hexadecimal digits for each byte.
+    ///
+    /// # Errors
+    ///
+    /// `Stop::Refused` with `BadField` if the value is no such text. `Stop::OutOfMemory` if memory runs out.
     #[tactic(auto, unfolding(scenario_format::specs::Json::Text::read_bytes))]
     pub fn bytes(&self) -> Result<ByteList, Stop>
         ensures { Gives result (bytes_at (spot_of self.now)) }
@@ -195,7 +241,11 @@ impl<'v> Node<'v> {
         }
     }
 
-    /// A list.
+    /// Returns the items of this list, in order.
+    ///
+    /// # Errors
+    ///
+    /// `Stop::Refused` with `BadField` if the value is no list. `Stop::OutOfMemory` if memory runs out.
     #[tactic(auto, unfolding(scenario_format::specs::Json::Items::read_items), using(crate::proofs::Lists::list_of_items))]
     pub fn items(&self) -> Result<&'v [Value], Stop>
         ensures { GivesSeen (λ v. map view v.now) result (items_at (spot_of self.now)) }
@@ -236,8 +286,8 @@ fn is_listed(table: &[&str], key: &str) -> bool
     table.iter().any(|known| is_same(known, key))
 }
 
-/// Texts are equal by their bytes. Most keys differ in their length or in their first bytes, and slices of bytes that
-/// do are told apart without a call.
+/// Returns whether two texts are equal. Most keys differ in their length or in their first bytes, and slices
+/// of bytes that differ so are compared without a call.
 fn is_same(one: &str, other: &str) -> bool
     ensures { result ≡ bytes_eq one.now other.now }
 {

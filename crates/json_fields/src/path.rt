@@ -1,4 +1,4 @@
-//! Where in a document a value stands.
+//! The place of a value in a document.
 
 ghost use Rattle.std.specs.Prelude.{◌≡◌, ◌++◌, OnOk, IfOk, string_bytes};
 ghost use Rattle.scenario_format.specs.Json.Place.{top, key, item, path_text};
@@ -10,10 +10,10 @@ use crate::stop::Stop;
 use scenario_format::{PathText, Refusal, RefusalKind};
 use std::alloc::{AllocError, Global};
 
-/// The way from the document's top to a value. It takes no memory until it is wanted as a text.
+/// The path from the top of a document to a value. It takes no memory until its text is needed.
 #[derive(Clone, Copy)]
 pub enum Path<'a> {
-    /// The whole document.
+    /// The top of the document.
     Top,
     /// The value at a key of an object.
     Key(&'a Path<'a>, &'a str),
@@ -22,7 +22,7 @@ pub enum Path<'a> {
 }
 
 impl<'a> Path<'a> {
-    /// The whole document.
+    /// Returns the path of the top of the document.
     #[tactic(auto, unfolding(crate::specs::Place::place_of))]
     pub fn top() -> Path<'a>
         ensures { place_of result ≡ top }
@@ -30,7 +30,7 @@ impl<'a> Path<'a> {
         Path::Top
     }
 
-    /// The value at a key of the object that stands here.
+    /// Returns the path of the value at a key of the object at this path.
     #[tactic(auto, unfolding(crate::specs::Place::place_of))]
     pub fn key(&'a self, name: &'a str) -> Path<'a>
         ensures { place_of result ≡ key (place_of self.now) name.now }
@@ -38,7 +38,7 @@ impl<'a> Path<'a> {
         Path::Key(self, name)
     }
 
-    /// An item of the list that stands here.
+    /// Returns the path of an item of the list at this path, counted from 0.
     #[tactic(auto, unfolding(crate::specs::Place::place_of))]
     pub fn item(&'a self, place: usize) -> Path<'a>
         ensures { place_of result ≡ item (place_of self.now) place }
@@ -46,7 +46,8 @@ impl<'a> Path<'a> {
         Path::Item(self, place)
     }
 
-    /// This is wrong here.
+    /// Returns the refusal of the value at this path, or `OutOfMemory` if there is no memory for the path's
+    /// text.
     pub fn refuse(&self, alloc: Global, kind: RefusalKind) -> Stop
         ensures { StopsWith result (refusal kind (place_of self.now)) }
     {
@@ -59,7 +60,7 @@ impl<'a> Path<'a> {
         }
     }
 
-    /// The path as a text, as in `drivers[0].script[3].len`.
+    /// Returns the path as a text, for example `drivers[0].script[3].len`.
     fn to_text(&self, alloc: Global) -> Result<String, AllocError>
         ensures { IfOk result (λ s. string_bytes s ≡ path_text (place_of self.now)) }
     {

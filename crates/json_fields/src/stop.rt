@@ -1,4 +1,4 @@
-//! Why reading ends early.
+//! The reason why reading ends early.
 
 ghost use Rattle.std.specs.Prelude.{◌≡◌};
 ghost use Rattle.json_fields.specs.declared.stop.Stop.TheVariants.{OutOfMemory};
@@ -6,12 +6,12 @@ ghost use Rattle.json_fields.specs.declared.stop.Stop.TheVariants.{OutOfMemory};
 use scenario_format::Refusal;
 use std::alloc::{AllocError, AllocFailed};
 
-/// Why reading ends early.
+/// The reason why reading ends early.
 #[derive(Debug, Drop)]
 pub enum Stop {
     /// Memory ran out.
     OutOfMemory,
-    /// What is read is refused.
+    /// The value that was read is refused.
     Refused(Refusal),
 }
 

@@ -1,4 +1,4 @@
-//! What a text stands for.
+//! Numbers, bytes and names in texts.
 
 ghost use Rattle.std.specs.Prelude.{◌≡◌, ◌<◌, ◌≤◌, length, IfSome, IfOk, option_map};
 ghost use Rattle.std.specs.List.{list_all};
@@ -20,7 +20,7 @@ fn hex_digit(b: u8) -> Option<u8>
     }
 }
 
-/// `0x` and 1 to 16 hexadecimal digits.
+/// Returns the number of a text that is `0x` and 1 to 16 hexadecimal digits, or `None` if the text is not.
 pub(crate) fn hex_number(text: &str) -> Option<u64>
     ensures { result ≡ numbers.hex_number text.now }
 {
@@ -42,7 +42,7 @@ fn digits(bytes: &[u8]) -> Option<u64>
     Some(number)
 }
 
-/// Two digits for each byte.
+/// Returns the bytes of a text that has two hexadecimal digits for each byte, or `None` if the text does not.
 pub(crate) fn hex_bytes(alloc: Global, text: &str) -> Result<Option<Vec<u8>>, AllocError>
     ensures { IfOk result (λ o. option_map (λ v. v.items) o ≡ texts.hex_bytes text.now) }
 {
@@ -73,7 +73,7 @@ fn in_name(b: u8) -> bool
     b.is_ascii_lowercase() || b.is_ascii_digit() || b == b'_'
 }
 
-/// 1 to 32 characters of a name, the first of them a letter.
+/// Returns whether a text is a name: 1 to 32 characters of a name, the first of them a letter.
 pub(crate) fn is_name(text: &str) -> bool
     ensures { result ≡ names.is_name text.now }
 {

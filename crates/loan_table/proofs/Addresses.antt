@@ -1,4 +1,4 @@
--- Many bytes at once.
+-- Many bytes of a table at once.
 use Rattle.std.proofs.Common.{◌≡◌, ℕ, zero, suc, length, slice_index, ◌+◌, ◌-◌, ◌<◌, ◌≤◌, ◌^◌, Bool, true, false, cond}
 use Rattle.std.proofs.Common.{List, [], ◌∷◌, ◌++◌, ◌==◌, Option, Some, IsSome, refl, sym, ap, ◌∙◌, subst}
 use Rattle.std.proofs.Common.{arith}
@@ -14,7 +14,7 @@ use Rattle.loan_table.specs.Ends.{Ends}
 use Rattle.loan_table.specs.Kept.{AreLow}
 use Rattle.loan_table.specs.Table.{AreIn, set_all}
 
--- what stands for an extent that a list does not have
+-- the value that is read beyond the end of a list of extents
 abbrev pub no_extent : Extent
 no_extent = record { pa = record { 0 = 0 }; len = 0 }
 
@@ -70,7 +70,7 @@ writes_step m n w v keys front rest e is h =
 pub write_end : (m w : FinMap nat_cmp Bool) (v : Bool) (keys : List ℕ) → keys ≡ [] → set_all m keys v ≡ w → m ≡ w
 write_end m w v keys e h = rw e at h
 
--- a byte that is added or marked is memory where its address says so
+-- after a byte below 2^42 is added or marked, all bytes are still below 2^42
 pub AreLow-insert : (m : FinMap nat_cmp Bool) (k : ℕ) (v : Bool) → k < 2 ^ 42 → AreLow m → AreLow (insert m k v)
 AreLow-insert m k v below low a there =
     at_test (a == k) refl (rw (get-insert nat_cmp_total m k v a, unsigned_tied a k) at there)
@@ -91,7 +91,7 @@ AreLow-add m at zero v h low = low
 AreLow-add m at (suc n) v h low =
     AreLow-add (insert m at v) (at + 1) n v (omega arith) (AreLow-insert m at v (omega arith) low)
 
--- a run of bytes of a table ends with memory
+-- a run of bytes of a table ends at 2^42 or below
 run_ends : (m : FinMap nat_cmp Bool) → AreLow m → (at n : ℕ) → AreIn m (run_of at n) → 0 < n → at + n ≤ 2 ^ 42
 run_ends m low at zero h some = omega arith
 run_ends m low at (suc zero) h some = let here : at < 2 ^ 42 = low at h.0 in omega arith

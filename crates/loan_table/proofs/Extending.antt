@@ -21,14 +21,14 @@ addresses-push [] e = append-nil _
 addresses-push (x ∷ es) e = ap (λ xs. run_of x.pa.0 x.len ++ xs) (addresses-push es e)
     ∙ sym (append_assoc (run_of x.pa.0 x.len) (addresses es) (run_of e.pa.0 e.len))
 
--- the last run ends the list
+-- after the last run, the list of extents has all bytes
 pub ends : (es new : List Extent) (run : Extent) (rest all : List ℕ) → new ≡ es ++ run ∷ [] → rest ≡ [] →
     addresses es ++ (run_of run.pa.0 run.len ++ rest) ≡ all → addresses new ≡ all
 ends es new run rest all pushed none h =
     ap addresses pushed ∙ addresses-push es run ∙ ap (λ xs. addresses es ++ xs) (sym (append-nil _))
     ∙ sym (ap (λ xs. addresses es ++ (run_of run.pa.0 run.len ++ xs)) none) ∙ h
 
--- the positions of a table's bytes are memory
+-- the positions of a table's bytes are below 2^42
 low_positions : (m : FinMap nat_cmp Bool) → AreLow m → (ps : List Position) → AreIn m (addresses_of ps) →
     AllByRecursion (λ (p : Position). p.pa < 2 ^ 42) ps
 low_positions m low [] h = tt
@@ -51,7 +51,7 @@ length-range off len ps h = rw length-map (length-take len (drop off ps) ∙ (om
 next_place : (before a : ℕ) → is_next before a ≡ true → (a ≡ before + 1) × (0 < a % 4096)
 next_place before a h = grind arith
 
--- a byte comes right behind a run, in the same frame
+-- a byte directly follows a run, in the same frame
 module _ (at n a : ℕ) (some : 0 < n) (next : is_next (at + n - 1) a ≡ true) where
   pub next_is : a ≡ at + n
   next_is = omega (arith, some, (next_place _ a next).0)

@@ -5,14 +5,14 @@ use Rattle.std.proofs.lemmas.Bool.Decides.{nat_tests}
 use Rattle.busdma_machine.specs.Runs.{run_of}
 use Rattle.loan_table.specs.Table.{extent_count, is_next, more_extents}
 
--- a byte and the one behind it
+-- a byte and the next one
 frame_ends : (a : ℕ) → is_next a (a + 1) ≡ true → (a + 1) / 4096 ≡ a / 4096
 frame_ends a h = let some : 0 < (a + 1) % 4096 = grind arith in omega arith
 
 frame_begins : (a : ℕ) → is_next a (a + 1) ≡ false → (a + 1) / 4096 ≡ a / 4096 + 1
 frame_begins a h = let none : (a + 1) % 4096 ≡ 0 = grind (arith, nat_tests) in omega arith
 
--- how many extents begin in a run behind its first byte: as many as frames
+-- how many extents begin in a run after its first byte: as many as frames
 pub more_in_run : (a n : ℕ) → more_extents a (run_of (a + 1) n) ≡ (a + n) / 4096 - a / 4096
 more_in_run a zero = omega arith
 more_in_run a (suc n) =
@@ -34,7 +34,7 @@ more_of_run before a (suc n) some =
     ap (λ k. cond (is_next before a) 0 1 + k) (more_in_run a n)
     ∙ ap (λ k. cond (is_next before a) 0 1 + (k / 4096 - a / 4096)) (sym last)
 
--- extents that begin in a run, and behind it
+-- extents that begin in a run, and after it
 pub more_behind : (before a n : ℕ) (rest : List ℕ) → 0 < n →
     more_extents before (run_of a n ++ rest) ≡ more_extents before (run_of a n) + more_extents (a + n - 1) rest
 more_behind before a zero rest some = absurd (omega arith)
@@ -48,7 +48,7 @@ more_behind before a (suc (suc n)) rest some =
     let same = ap (λ k. more_extents k rest) last in
     omega (arith, later, same)
 
--- the first byte begins an extent
+-- the first byte of a run begins an extent
 pub count_from : (a n : ℕ) (rest : List ℕ) → 0 < n →
     more_extents a (run_of a n ++ rest) ≡ extent_count (run_of a n ++ rest)
 count_from a zero rest some = absurd (omega arith)
@@ -56,7 +56,7 @@ count_from a (suc n) rest some =
     ap (λ b. cond b 0 1 + more_extents a (run_of (a + 1) n ++ rest))
     (let e : is_next a a ≡ false = grind (arith, nat_tests) in e)
 
--- a run of one frame, first or behind other bytes
+-- a run of one frame, first or after other bytes
 module _ (a n : ℕ) (rest : List ℕ) (some : 0 < n) (one : a % 4096 + n ≤ 4096) where
   pub extents_more : (before : ℕ) →
       more_extents before (run_of a n ++ rest) ≡ cond (is_next before a) 0 1 + more_extents (a + n - 1) rest

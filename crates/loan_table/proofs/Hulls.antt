@@ -21,7 +21,7 @@ use Rattle.loan_table.proofs.Marking.{no_position}
 pub loosened : (f e f' e' : ℕ) (x : Extent) → f' ≤ f → e ≤ e' → LiesFromTo f e x → LiesFromTo f' e' x
 loosened f e f' e' x p q h = record { from = λ s. omega (arith, h.from s); to = λ s. omega (arith, h.to s) }
 
--- the bytes of a run
+-- the bytes of a run lie between two addresses if the run does
 run_within : (first end a n : ℕ) → first ≤ a → a + n ≤ end → All (λ b. (first ≤ b) × (b < end)) (run_of a n)
 run_within first end a zero p q k d lt = absurd (omega (arith, lt))
 run_within first end a (suc n) p q zero d lt = (p, omega arith)
@@ -46,12 +46,12 @@ all_within run (x ∷ xs) h =
     (extent_within run.pa.0 (run.pa.0 + run.len) x (h 0 no_extent (omega arith)))
     (all_within run xs (λ k d lt. h (suc k) d (omega (arith, lt))))
 
--- what holds of what there is holds where there is nothing else
+-- a fact that follows for each value follows for an optional value
 pub each_some : {X : Type 0} (P Q : X → Type 0) (o : Option X) → ((x : X) → P x → Q x) → IfSome o P → IfSome o Q
 each_some P Q None f h = h
 each_some P Q (Some x) f h = f x h
 
--- positions at which nothing is met
+-- a list is Fine if no position of it is refused
 fine_all : (f : Position → Option ReportName) (at : ℕ) (qs : List Position) →
     ((i : ℕ) → i < length qs → f (get_or qs i no_position) ≡ None) → judged f at qs ≡ Fine
 fine_all f at [] h = refl
@@ -59,7 +59,7 @@ fine_all f at (q ∷ qs) h =
     ap (λ o. refused_or o at (judged f (at + 1) qs)) (h 0 (omega arith))
     ∙ fine_all f (at + 1) qs (λ i lt. h (suc i) (omega (arith, lt)))
 
--- a range of positions at which nothing is met
+-- a range is Fine if no position is refused
 pub fine_range : (f : Position → Option ReportName) (off len : ℕ) (ps : List Position) → off + len ≤ length ps →
     All (λ p. f p ≡ None) ps → judged f off (stretch off len ps) ≡ Fine
 fine_range f off len ps range all =
@@ -69,7 +69,7 @@ fine_range f off len ps range all =
     get_or-take len (drop off ps) i no_position (omega (arith, long, lt)) ∙ get_or-drop off ps i no_position in
     ap f here ∙ all (off + i) no_position (omega (arith, long, lt, range)))
 
--- what meets nothing in a run meets nothing where all bytes lie in it
+-- if nothing is refused in a run, then nothing is refused at positions whose bytes all lie in it
 pub met_nowhere : (f : Position → Option ReportName) (run : Extent) (ps : List Position) →
     AreWithin run (addresses_of ps) →
     All (λ p. run.pa.0 ≤ p.pa → p.pa < run.pa.0 + run.len → f p ≡ None) ps → All (λ p. f p ≡ None) ps

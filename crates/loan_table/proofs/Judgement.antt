@@ -1,4 +1,4 @@
--- What is judged in parts.
+-- Judgements of lists in parts.
 use Rattle.std.proofs.Common.{◌≡◌, ℕ, zero, suc, ◌+◌, List, [], ◌∷◌, ◌++◌, length, Option, Some, None, refl, sym, ap}
 use Rattle.std.proofs.Common.{◌∙◌, add-zero, arith}
 use Rattle.busdma_machine.specs.declared.report.Report.{Report}
@@ -14,7 +14,7 @@ module _ {X : Type 0} (f : X → Option ReportName) where
   fine_or None at rest all tail next h = next h
   fine_or (Some name) at rest all tail next h = absurd (cc)
 
-  -- the first part is Fine: what is left is judged
+  -- if the first part is Fine, the rest is judged
   pub judged-fine : (at : ℕ) (xs ys : List X) → judged f at xs ≡ Fine →
       judged f at (xs ++ ys) ≡ judged f (at + length xs) ys
   judged-fine at [] ys h = ap (λ n. judged f n ys) (sym (add-zero at))
@@ -28,7 +28,7 @@ module _ {X : Type 0} (f : X → Option ReportName) where
   refused_first None at rest all r next h = next h
   refused_first (Some name) at rest all r next h = h
 
-  -- the first part is refused: so is the whole
+  -- if the first part is refused, so is the list
   pub judged-refused : (at : ℕ) (xs ys : List X) (r : Report) →
       judged f at xs ≡ Refused r → judged f at (xs ++ ys) ≡ Refused r
   judged-refused at [] ys r h = absurd (cc)
@@ -38,21 +38,21 @@ pub length-run_of : (at n : ℕ) → length (run_of at n) ≡ n
 length-run_of at zero = refl
 length-run_of at (suc n) = ap suc (length-run_of (at + 1) n)
 
--- one that is refused
+-- the first item that is refused decides
 pub judged-some : {X : Type 0} (f : X → Option ReportName) (at : ℕ) (xs rest : List X) (x : X) (name : ReportName)
     (answer : Judged) → xs ≡ x ∷ rest → f x ≡ Some name → judged f at xs ≡ answer →
     Refused (record { name = name; at = at }) ≡ answer
 judged-some f at xs rest x name answer e some h =
     sym (ap (λ o. refused_or o at (judged f (at + 1) rest)) some) ∙ sym (ap (judged f at) e) ∙ h
 
--- where nothing is refused
+-- if no item is refused, the judgement is Fine
 pub judged-none : {X : Type 0} (f : X → Option ReportName) (at : ℕ) (xs : List X) → ((x : X) → f x ≡ None) →
     judged f at xs ≡ Fine
 judged-none f at [] h = refl
 judged-none f at (x ∷ xs) h =
     ap (λ o. refused_or o at (judged f (at + 1) xs)) (h x) ∙ judged-none f (at + 1) xs h
 
--- refusals that are the same judge the same
+-- equal refusals give equal judgements
 pub judged-same : {X : Type 0} (f g : X → Option ReportName) (at : ℕ) (xs : List X) → ((x : X) → f x ≡ g x) →
     judged f at xs ≡ judged g at xs
 judged-same f g at [] h = refl

@@ -14,7 +14,7 @@ use Rattle.busdma_rules.specs.Lending.Syncing.{loses, lost}
 use Rattle.loan_table.specs.Trees.{with_value}
 use Rattle.busdma_rules.proofs.Lending.Marking.{loan_of-insert}
 
--- what stands for a position that a buffer does not have
+-- the value that is read beyond the end of a list of positions
 abbrev pub no_position : Position
 no_position = record { pa = 0; to_read = false; to_write = false }
 
@@ -38,7 +38,7 @@ pub addresses_of-unlent : (keys : List ℕ) → addresses_of (unlent keys) ≡ k
 addresses_of-unlent [] = refl
 addresses_of-unlent (a ∷ keys) = ap (λ xs. a ∷ xs) (addresses_of-unlent keys)
 
--- what holds of the loan that is put and of each other one holds of all
+-- what holds of the new loan and of each other one holds of all loans
 pub put_loan : (P : List Position → Type 0) (loans : Loans) (m : ℕ) (new : Loan) → P new.positions →
     ((q : ℕ) → P (loan_of loans q).positions) → (q : ℕ) → P (loan_of (insert loans m new) q).positions
 put_loan P loans m new here others q =

@@ -50,7 +50,7 @@ module _ {X : Type 0} where
       ap (λ k. stretch at k xs) on ∙ take_sum n (end - (at + n)) (drop at xs)
       ∙ ap (λ ys. stretch at n xs ++ take (end - (at + n)) ys) (drop-drop n at xs)
 
-  -- where a loop over a range begins, and where it ends
+  -- the first and the last step of a loop over a range
   pub whole : (off len end : ℕ) (xs : List X) → end ≡ off + len → stretch off (end - off) xs ≡ stretch off len xs
   whole off len end xs e = let on : end - off ≡ len = omega arith in ap (λ k. stretch off k xs) on
 
@@ -72,7 +72,7 @@ take-alike p m n h =
     ∙ ap (take m) (map-append (lent_as p) (run_of p.pa m) (run_of (p.pa + m) (n - m)))
     ∙ take-append-le m (alike p m) _ (omega (arith, long)) ∙ take_all m (alike p m) (omega (arith, long))
 
--- a piece may be taken shorter
+-- a shorter piece is a piece too
 pub shorter : (at end n m : ℕ) (p : Position) (ps : List Position) →
     stretch at (end - at) ps ≡ alike p n ++ stretch (at + n) (end - (at + n)) ps → m ≤ n → at + n ≤ end →
     stretch at (end - at) ps ≡ alike p m ++ stretch (at + m) (end - (at + m)) ps
@@ -107,13 +107,13 @@ in_piece P d at end n p ps e within range all a from to =
 pub addresses_of-append : (ps qs : List Position) → addresses_of (ps ++ qs) ≡ addresses_of ps ++ addresses_of qs
 addresses_of-append ps qs = map-append _ ps qs
 
--- positions that are lent alike, as a call marks them
+-- positions that are lent alike are still alike after a sync call marks them
 pub marked-like : (ops : ℕ) (p : Position) (xs : List ℕ) → map (marked ops) (lent_like p xs) ≡ lent_like (marked ops p)
     xs
 marked-like ops p [] = refl
 marked-like ops p (x ∷ xs) = ap (λ l. lent_as (marked ops p) x ∷ l) (marked-like ops p xs)
 
--- those of positions that are lent alike that pass a test: all, or none
+-- of positions that are lent alike, a test passes all or none
 pub filter-like : (test : Position → Bool) (p : Position) (xs : List ℕ) → ((a : ℕ) → test (lent_as p a) ≡ test p) →
     filter test (lent_like p xs) ≡ cond (test p) (lent_like p xs) []
 filter-like test p [] same = none (test p)
@@ -131,7 +131,7 @@ filter-like test p (x ∷ xs) same = one (test (lent_as p x)) (test p) (same x) 
     one b true e h = ap (λ t. cond t (lent_as p x ∷ rest) rest) e ∙ ap (λ l. lent_as p x ∷ l) h
     one b false e h = ap (λ t. cond t (lent_as p x ∷ rest) rest) e ∙ h
 
--- at how many positions that are lent alike a byte is lent
+-- at how many of the positions that are lent alike a byte is lent
 both : (b w : Bool) → ◌≡◌ {A = ℕ} (cond (b && w) 1 0) (cond w (cond b 1 0) 0)
 both true true = refl
 both true false = refl
@@ -163,7 +163,7 @@ places-alike way p n a same =
     places-like way p a (run_of p.pa n) same ∙ ap (λ k. cond (way p) k 0) (places-run a p.pa n)
     ∙ sym (both (in_run p.pa (p.pa + n) a) (way p))
 
--- things of which none is refused are passed, and the first of a piece is refused
+-- the judgement passes over items of which none is refused
 pub none_refused : {X : Type 0} (f : X → Option ReportName) (g : ℕ → X) (at s m : ℕ) (ys : List X) →
     ((a : ℕ) → s ≤ a → a < s + m → f (g a) ≡ None) → judged f at (map g (run_of s m) ++ ys) ≡ judged f (at + m) ys
 none_refused f g at s zero ys h = let on : at ≡ at + zero = omega arith in ap (λ k. judged f k ys) on
@@ -180,12 +180,12 @@ first_refused f g at s zero ys name some h = absurd (omega arith)
 first_refused f g at s (suc n) ys name some h =
     ap (λ o. refused_or o at (judged f (at + 1) (map g (run_of (s + 1) n) ++ ys))) h
 
--- what a way of lending, and what is lost, does not ask of a position
+-- a way of lending, and what is lost, does not depend on the address of a position
 pub same_way : (way : Way) (p : Position) (a : ℕ) → test_of way (lent_as p a) ≡ test_of way p
 same_way ToWrite p a = refl
 same_way ToRead p a = refl
 
--- at how many positions a byte is lent from a piece on
+-- at how many positions a byte is lent: those of a piece, and those after it
 pub places_ahead : (way : Way) (a at end n : ℕ) (p : Position) (ps : List Position) →
     stretch at (end - at) ps ≡ alike p n ++ stretch (at + n) (end - (at + n)) ps →
     places (test_of way) a (stretch at (end - at) ps)
@@ -195,7 +195,7 @@ places_ahead way a at end n p ps e =
     ap (places (test_of way) a) e ∙ places-append (test_of way) a (alike p n) rest
     ∙ ap (λ k. k + places (test_of way) a rest) (places-alike (test_of way) p n a (same_way way p))
 
--- at how many positions a byte is lent from a span on, before a call and after it
+-- at how many positions a byte is lent, before and after a sync call: those of a span, and those after it
 module _ (way : Way) (a at end n : ℕ) (ps : List Position) (within : at + n ≤ end) where
   pub span_places : places (test_of way) a (stretch at (end - at) ps)
       ≡ places (test_of way) a (stretch at n ps) + places (test_of way) a (stretch (at + n) (end - (at + n)) ps)
@@ -212,7 +212,7 @@ module _ (way : Way) (a at end n : ℕ) (ps : List Position) (within : at + n �
       ∙ places-append (test_of way) a (map (marked ops) (stretch at n ps))
       (map (marked ops) (stretch (at + n) (end - (at + n)) ps))
 
--- the bytes of a span, and those behind it
+-- the bytes of a span, and those after it
 pub span_bytes : (at end n : ℕ) (ps : List Position) → at + n ≤ end → addresses_of (stretch at (end - at) ps)
     ≡ addresses_of (stretch at n ps) ++ addresses_of (stretch (at + n) (end - (at + n)) ps)
 span_bytes at end n ps within =
@@ -232,7 +232,7 @@ module _ (way : Way) (a : ℕ) (p : Position) (ps : List Position) (alike_all : 
       ∙ ap (places (test_of way) a) (marked-like ops p (addresses_of ps))
       ∙ places-like (test_of way) (marked ops p) a (addresses_of ps) (same_way way (marked ops p))
 
--- bytes of a piece are marked, and then those behind it
+-- bytes of a piece are marked, and then those after it
 module _ (m new w : FinMap nat_cmp Bool) (v : Bool) (all front back : List ℕ) (e : all ≡ front ++ back) where
   pub marked_front : new ≡ set_all m front v → set_all m all v ≡ w → set_all new back v ≡ w
   marked_front is h = ap (λ x. set_all x back v) is ∙ sym (set_all-append m front back v)
@@ -251,7 +251,7 @@ filter_ahead test ps front rest e =
     ap (λ xs. addresses_of (filter test xs)) e ∙ ap addresses_of (filter-append test front rest)
     ∙ addresses_of-append (filter test front) (filter test rest)
 
--- bytes from a position on that follow one another may be taken shorter, as an extent
+-- the first bytes of consecutive bytes are those of an extent
 pub begins_with : (at end n pa : ℕ) (ps : List Position) (e : Extent) → addresses_of (stretch at (end - at) ps)
     ≡ run_of pa n ++ addresses_of (stretch (at + n) (end - (at + n)) ps) → at + n ≤ end → e.len ≤ n → e.pa.0 ≡ pa →
     addresses_of (stretch at e.len ps) ≡ run_of e.pa.0 e.len
@@ -268,7 +268,7 @@ byte_there [] at d h = absurd (omega arith)
 byte_there (p ∷ ps) zero d h = refl
 byte_there (p ∷ ps) (suc at) d h = byte_there ps at d (omega arith)
 
--- where all bytes are memory, the byte of a position is
+-- if all bytes are memory, so is the byte of a position
 pub low_at : (ps : List Position) (at pa : ℕ) → pa ≡ slice_index (addresses_of ps) at → at < length ps →
     All (λ p. p.pa < 2 ^ 42) ps → pa < 2 ^ 42
 low_at ps at pa is range low =

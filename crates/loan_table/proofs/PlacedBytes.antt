@@ -56,7 +56,7 @@ pub stretch-placed : (r w : ℕ → Bool) (at n : ℕ) (bytes : List ℕ) →
     stretch at n (placed r w 0 bytes) ≡ placed r w at (stretch at n bytes)
 stretch-placed r w at n bytes = ap (take n) (drop_from r w at bytes) ∙ take-placed r w n at (drop at bytes)
 
--- sets that agree on the places
+-- two sets agree on a range of places
 abbrev Agree : (ℕ → Bool) → (ℕ → Bool) → ℕ → ℕ → Type 0
 Agree r s at n = (i : ℕ) → at ≤ i → i < at + n → r i ≡ s i
 
@@ -70,7 +70,7 @@ same_places r w s v at (a ∷ bytes) p q =
     ∙ ap (λ xs. position a (s at) (v at) ∷ xs) (same_places r w s v (at + 1) bytes
     (λ i from to. p i (omega arith) (omega arith)) (λ i from to. q i (omega arith) (omega arith)))
 
--- bytes at places that are alike
+-- consecutive places that agree give positions that are lent alike
 alike_places : (r w : ℕ → Bool) (p : Position) (at : ℕ) (bytes : List ℕ) →
     ((i : ℕ) → at ≤ i → i < at + length bytes → r i ≡ p.to_read) →
     ((i : ℕ) → at ≤ i → i < at + length bytes → w i ≡ p.to_write) → placed r w at bytes ≡ lent_like p bytes
@@ -98,7 +98,7 @@ span_alike r w bytes at n p f g =
     (λ i from to. g i from (omega (arith, long)))
     ∙ ap (lent_like p) (sym (bytes_between r w at n bytes))
 
--- the empty sets
+-- positions under the empty sets are lent in no way
 pub none_placed : (at : ℕ) (bytes : List ℕ) → placed (member []) (member []) at bytes ≡ unlent bytes
 none_placed at [] = refl
 none_placed at (a ∷ bytes) = ap (λ xs. position a false false ∷ xs) (none_placed (at + 1) bytes)
@@ -112,7 +112,7 @@ pub none_to_write : (bytes : List ℕ) → filter to_write (unlent bytes) ≡ []
 none_to_write [] = refl
 none_to_write (a ∷ bytes) = none_to_write bytes
 
--- positions as a call marks them
+-- the places that are lent to read after a sync call
 abbrev read_after : ℕ → (ℕ → Bool) → ℕ → Bool
 read_after ops r n = not (postwrite ops) && (prewrite ops || r n)
 
@@ -175,13 +175,13 @@ module _ (ops off len : ℕ) (r w s v : ℕ → Bool) (bytes : List ℕ)
       ∙ ap (λ xs. take off (placed r w 0 bytes) ++ map (marked ops) (stretch off len (placed r w 0 bytes)) ++ xs)
       (sym back)
 
--- numbers that rise to a bound are no more than it
+-- a list that rises from one number to another is no longer than their difference
 pub few_edges : (lo hi : ℕ) (es : List ℕ) → Rises lo hi es → lo + length es ≤ hi
 few_edges lo hi [] h = omega (arith, h)
 few_edges lo hi (e ∷ es) h = let rest : e + 1 + length es ≤ hi = few_edges (e + 1) hi es h.1 in omega
     (arith, rest, h.0)
 
--- whether a byte stands twice in a row
+-- whether a byte is in a row twice
 pub twice_by : (a : ℕ) (coherent : Bool) (r w : ℕ → Bool) (bytes : List ℕ) →
     nat_lt 1 (stands a bytes) ≡ stands_twice a (record { coherent = coherent; positions = placed r w 0 bytes })
 twice_by a coherent r w bytes =
@@ -208,7 +208,7 @@ pub new_row : (coherent : Bool) (r w bytes buffer : List ℕ) → r ≡ [] → w
 new_row coherent r w bytes buffer e f g =
     rw (e, f, g) (ap (λ ps. record { coherent = coherent; positions = ps }) (none_placed 0 bytes))
 
--- the positions from one on, of which those of a run of bytes are lent alike
+-- the positions from a place on begin with a piece, if they are lent alike and their bytes are a run
 pub piece_ahead : (r w : ℕ → Bool) (bytes : List ℕ) (at end n len pa : ℕ) (p : Position) → n ≤ len → at + n ≤ end →
     p.pa ≡ pa → stretch at len bytes ≡ run_of pa len → AreAlike p (stretch at n (placed r w 0 bytes)) →
     stretch at (end - at) (placed r w 0 bytes)
@@ -219,7 +219,7 @@ piece_ahead r w bytes at end n len pa p short within same run all =
     (all ∙ ap (lent_like p) (bytes_between r w at n bytes ∙ sym (take-take n len (drop at bytes) short)
     ∙ ap (take n) run ∙ take_run pa len n short ∙ ap (λ a. run_of a n) (sym same)))
 
--- the bytes of positions from one on, of which some follow one another
+-- the bytes of the positions from a place on begin with a run
 pub bytes_ahead : (r w : ℕ → Bool) (bytes : List ℕ) (at end n pa : ℕ) → at + n ≤ end →
     stretch at n bytes ≡ run_of pa n → addresses_of (stretch at (end - at) (placed r w 0 bytes))
     ≡ run_of pa n ++ addresses_of (stretch (at + n) (end - (at + n)) (placed r w 0 bytes))
@@ -228,7 +228,7 @@ bytes_ahead r w bytes at end n pa within run =
     ∙ ap (λ xs. xs ++ stretch (at + n) (end - (at + n)) bytes) run
     ∙ ap (λ xs. run_of pa n ++ xs) (sym (bytes_between r w (at + n) (end - (at + n)) bytes))
 
--- positions that are all lent to write are passed, and the first that is not is refused
+-- positions that are all lent to write are Fine, and the first that is not is refused
 none_unlent : (name : ReportName) (r w : ℕ → Bool) (place at : ℕ) (bytes : List ℕ) →
     NoneIn w false at (at + length bytes) → judged (unlent_refusal name) place (placed r w at bytes) ≡ Fine
 none_unlent name r w place at [] none = refl
@@ -256,7 +256,7 @@ some_unlent name r w place at (b ∷ bytes) (suc k) short is none =
     (λ n p q. none n (omega arith) (omega arith))
     ∙ ap (λ n. Refused (record { name = name; at = n })) later
 
--- a range of positions, of which the first that is not lent to write is known
+-- a range of positions, if the first that is not lent to write is known
 module _ (name : ReportName) (r w : ℕ → Bool) (bytes : List ℕ) (place off len end : ℕ) (is_end : end ≡ off + len)
     (range : off + len ≤ length bytes) where
   long : length (stretch off len bytes) ≡ len

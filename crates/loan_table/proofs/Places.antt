@@ -1,4 +1,4 @@
--- At how many places of a list a byte stands.
+-- At how many places of a list a byte is.
 use Rattle.std.proofs.Common.{◌≡◌, ℕ, zero, suc, ◌+◌, ◌-◌, ◌≤◌, ◌<◌, ◌^◌, ◌==◌, Bool, true, false, cond, List, [], ◌∷◌, ◌++◌, refl}
 use Rattle.std.proofs.Common.{length, sym, ap, ◌∙◌, arith, Option, Some, None, nat_lt}
 use Rattle.std.proofs.lemmas.Bool.{le-ltb, ltb-true, ltb-false}
@@ -16,7 +16,7 @@ use Rattle.busdma_rules.specs.Lending.Loans.{addresses_of, is_at}
 use Rattle.loan_table.specs.Ends.{Ends}
 use Rattle.loan_table.specs.Rows.{stands, AreCounted, CountsPlaces}
 
--- how often a byte stands in a list that begins with another byte
+-- how often a byte is in a list that begins with another byte
 places-cons : (a b : ℕ) (bs : List ℕ) → count_by (λ x. x == a) (b ∷ bs) ≡ cond (b == a) 1 0 + count_by (λ x. x == a) bs
 places-cons a b bs = sum_by-cons (λ x. cond (x == a) 1 0) b bs
 
@@ -63,7 +63,7 @@ places_of a [] = refl
 places_of a (p ∷ ps) = places-cons a p.pa (addresses_of ps) ∙ ap (λ k. cond (p.pa == a) 1 0 + k) (places_of a ps)
     ∙ sym (sum_by-cons (λ (x : Position). cond (x.pa == a) 1 0) p ps)
 
--- what places that are counted, or are none, say of a byte
+-- what the counts of a buffer say of a byte
 pub counted_at : (kept : Option Counts) (places : Counts) (bytes : List ℕ) (a : ℕ) → kept ≡ Some places →
     AreCounted kept bytes → count places a ≡ stands a bytes
 counted_at None places bytes a e counted = absurd (cc)
@@ -74,14 +74,14 @@ pub uncounted_at : (kept : Option Counts) (bytes : List ℕ) (a : ℕ) → kept 
 uncounted_at None bytes a e counted = le-ltb 1 (stands a bytes) (counted a)
 uncounted_at (Some p) bytes a e counted = absurd (cc)
 
--- how often a byte stands in a list that begins with a run
+-- how often a byte is in a list that begins with a run
 pub stands_ahead : (a s n : ℕ) (bytes rest : List ℕ) → bytes ≡ run_of s n ++ rest →
     count_by (λ x. x == a) bytes ≡ cond (in_run s (s + n) a) 1 0 + count_by (λ x. x == a) rest
 stands_ahead a s n bytes rest e =
     ap (λ xs. count_by (λ x. x == a) xs) e ∙ sum_by-append (λ x. cond (x == a) 1 0) (run_of s n) rest
     ∙ ap (λ k. k + count_by (λ x. x == a) rest) (places-run a s n)
 
--- a byte stands at most once in one stretch
+-- a byte is at most once in one stretch
 pub stands_once : (stretches : List Extent) (a : ℕ) → length stretches ≤ 1 → stands a (addresses stretches) ≤ 1
 stands_once [] a few = omega arith
 stands_once (e ∷ []) a few = omega (arith, stands_ahead a e.pa.0 e.len _ [] refl, one (in_run e.pa.0 (e.pa.0 + e.len) a))
@@ -91,7 +91,7 @@ stands_once (e ∷ []) a few = omega (arith, stands_ahead a e.pa.0 e.len _ [] re
     one false = omega arith
 stands_once (e ∷ f ∷ es) a few = absurd (omega (arith, few))
 
--- no byte stands where no stretch can lie
+-- a byte is not in stretches if it lies past the end of each possible stretch
 pub stands_past : (stretches : List Extent) (a : ℕ) → All Ends stretches → 2 ^ 64 ≤ a + 1 →
     stands a (addresses stretches) ≡ 0
 stands_past [] a ends p = refl
@@ -110,7 +110,7 @@ stands_past (e ∷ es) a ends p =
         let to : a < e.pa.0 + e.len = grind (arith, nat_tests) in
         absurd (omega (arith, from, to, p, All-head Ends e es ends (omega (arith, from, to))))
 
--- no byte stands twice, where none is counted twice
+-- if no byte is counted twice, no byte is there twice
 pub stand_once : (stretches : List Extent) (places : Counts) → All Ends stretches →
     CountsPlaces places (addresses stretches) → NoneIn (λ a. nat_lt 1 (count places a)) true 0 (2 ^ 64 - 1) →
     (a : ℕ) → stands a (addresses stretches) ≤ 1
@@ -125,7 +125,7 @@ stand_once stretches places ends counts none a = by (nat_lt a (2 ^ 64 - 1)) refl
 pub stands_here : (a s n : ℕ) → s ≤ a → a < s + n → ◌≡◌ {A = ℕ} (cond (in_run s (s + n) a) 1 0) 1
 stands_here a s n p q = let x : in_run s (s + n) a ≡ true = grind (arith, nat_tests) in ap {B = ℕ} (λ b. cond b 1 0) x
 
--- a loop that counts the bytes of a list once more or once less, at a run of them
+-- a loop that adds 1 to the count of each byte of a list, or subtracts 1, at a run of them
 pub counted_on : (up here : Bool) (old new all bytes rest start : ℕ) → new ≡ changed up here old →
     (up ≡ false → here ≡ true → 0 < old) → bytes ≡ cond here 1 0 + rest →
     old + cond up 0 all + cond up bytes 0 ≡ start + cond up all 0 + cond up 0 bytes →

@@ -1,4 +1,4 @@
--- Counts of positions that are lent, as marks are set and positions go.
+-- Counts of positions that are lent, when marks are set and positions removed.
 use Rattle.std.proofs.Common.{◌≡◌, ℕ, zero, suc, ◌+◌, ◌-◌, ◌≤◌, ◌<◌, ◌&&◌, ◌==◌, Bool, true, false, cond, length}
 use Rattle.std.proofs.Common.{List, [], ◌∷◌, ◌++◌, map, take, drop, get_or, nat_lt, refl, sym, ap, ◌∙◌, arith, Some}
 use Rattle.std.proofs.Common.{None, Option, unwrap_or}
@@ -75,7 +75,7 @@ none_lent way a (b ∷ bytes) =
         by true = refl
         by false = refl
 
--- a range of positions is counted among all
+-- the positions are those before a range, those of the range, and those after it
 pub range_places : (way : Position → Bool) (a off len : ℕ) (ps : List Position) →
     places way a (take off ps) + places way a (stretch off len ps) + places way a (drop (off + len) ps) ≡ places way a
     ps
@@ -126,7 +126,7 @@ counted_synced old new loans m off len ops closed counted re way a = rw closed (
     (places-append (test_of way) a (take off ps) (map (marked ops) (stretch off len ps))) in
     omega (arith, counted way a, re way a, put, parts, range_places (test_of way) a off len ps))
 
--- a map that lends nothing comes, or one that is not there goes
+-- counts stay right if a map that lends nothing is added, or if a map that is not there is removed
 pub counted_with : (lent : LentCounts) (loans : Loans) (m : ℕ) (o : Option Loan) → IsCounted lent loans →
     get loans m ≡ None → LendsNothing (unwrap_or o no_loan).positions → IsCounted lent (with_value loans m o)
 counted_with lent loans m None counted gone none way a =
@@ -143,7 +143,7 @@ counted_with lent loans m (Some new) counted gone none way a =
     ap (λ x. places (test_of way) a (unwrap_or x no_loan).positions) gone in
     omega (arith, counted way a, put, zero_here, none way a)
 
--- each position of a loan is placed
+-- the positions of a loan are placed
 less : (b w : Bool) → cond (b && w) 1 0 ≤ cond b 1 0
 less true true = omega arith
 less true false = omega arith
@@ -210,7 +210,7 @@ pub all_placed : (loan : Loan) → All (IsPlaced loan) loan.positions
 all_placed loan = All-from_get_or (IsPlaced loan) loan.positions no_position
     (λ i lt once way. placed_at (test_of way) loan.positions i lt (once_at _ once))
 
--- no map
+-- empty counts are right for no map
 pub none_counted : (lent : LentCounts) (way : Way) (a : ℕ) → lent.to_write.starts ≡ [] → lent.to_read.starts ≡ [] →
     count (counts_of lent way) a ≡ lent_places (test_of way) a empty
 none_counted lent way a e f = none lent way a e f ∙ sym

@@ -31,7 +31,7 @@ kept_of : (m : FinMap nat_cmp Bool) (ks : List ℕ) (q : ℕ) → is_among q ks 
     IsSome (get m q) → IsSome (get (without m ks) q)
 kept_of m ks q apart there = rw (get-without m ks q, apart) there
 
--- bytes that are none of the removed ones are left
+-- bytes that are not removed are still there
 AreIn-without : (m : FinMap nat_cmp Bool) (ks : List ℕ) (ps : List Position) →
     AllByRecursion (λ (p : Position). is_among p.pa ks ≡ false) ps →
     AreIn m (addresses_of ps) → AreIn (without m ks) (addresses_of ps)

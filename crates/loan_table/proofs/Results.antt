@@ -1,4 +1,4 @@
--- What a result says, by its variant.
+-- Facts about a result, by its variant.
 use Rattle.std.proofs.Common.{◌≡◌, Option, Some, None, IsSome, Result, Ok, Err, OnOk, OnErr, Bor}
 use Rattle.std.proofs.Common.{refl, IsNone}
 use Rattle.std.specs.Option.{option_copied}

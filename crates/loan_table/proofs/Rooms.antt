@@ -27,7 +27,7 @@ use Rattle.busdma_rules.proofs.Lending.Marking.{addresses_of-marked_range}
 abbrev size : Slot → ℕ
 size slot = length slot.row.positions
 
--- a map that goes, one that stays with as many positions, and one that comes
+-- the number of positions after a map is removed, replaced by one with as many positions, or added
 pub count_removed : (es : List (ℕ × Slot)) (test : ℕ → Bool) (slot : Slot) → lookup test es ≡ Some slot →
     position_count (remove_entry test es) + length slot.row.positions ≡ position_count es
 count_removed es test slot h = ap (λ o. position_count (remove_entry test es) + unwrap_or (option_map size o) 0)
@@ -54,7 +54,7 @@ pub count_put : (es : List (ℕ × Slot)) (k : ℕ) (slot : Slot) → IsStrictly
     ≡ position_count es + length slot.row.positions
 count_put es k slot sorted = sum_by-insert_entry size nat_cmp_total es k slot sorted
 
--- no map has more positions than all have
+-- no map has more positions than all maps together
 count_open : (es : List (ℕ × Slot)) (m : ℕ) (slot : Slot) (b : Bool) → lookup (is_at (nat_cmp m)) es ≡ Some slot →
     slot.is_open ≡ b → length (loan_of (loans_in true es) m).positions ≤ position_count es
 count_open es m slot true e o =
@@ -81,7 +81,7 @@ pub length-marked_range : (ops off len : ℕ) (ps : List Position) → length (m
 length-marked_range ops off len ps = sym (length-addresses_of (marked_range ops off len ps))
     ∙ ap length (addresses_of-marked_range ops off len ps) ∙ length-addresses_of ps
 
--- bytes need room for an extent
+-- bytes are in at least one extent
 extent_some : (bytes : List ℕ) → 0 < length bytes → 0 < extent_count bytes
 extent_some [] h = absurd (omega arith)
 extent_some (a ∷ rest) h = omega arith
@@ -94,7 +94,7 @@ needs_spare off len spare ps range room some =
     extent_some (addresses_of (stretch off len ps)) (omega arith) in
     omega arith
 
--- the room after a change of n extents, of n bytes, and after a map of n positions goes
+-- the room after a change of n extents, after a change of n bytes, and after a map of n positions is removed
 pub used_extents : (b c : Marks) (p s n : ℕ) → HasRoom b p s → n ≤ s → b.room ≤ c.room + (n + n) → c.there_room ≡
     b.there_room → HasRoom c p (s - n)
 used_extents b c p zero n h l r t =
@@ -132,7 +132,7 @@ left_by_map b c p q s n h e r t = record {
 pub room_made : (b : Marks) (p s : ℕ) → p + p + (p + p) + (s + s) ≤ b.room → 2 ≤ b.there_room → HasRoom b p s
 room_made b p s h t = record { forgets = omega arith; changes = λ q. h; drops = λ q. t }
 
--- room for one run, and what is left of it
+-- there is room for one run, and some room is left after it
 pub one_run : (b : Marks) (p s : ℕ) → HasRoom b p s → 1 ≤ s → 2 ≤ b.room
 one_run b p s h some = let all : p + p + (p + p) + (s + s) ≤ b.room = h.changes some in omega arith
 
@@ -144,7 +144,8 @@ room_left b c p s h some r =
     let all : p + p + (p + p) + (s + s) ≤ b.room = h.changes some in
     record { forgets = omega arith; changes = λ q. absurd (omega arith); drops = λ q. absurd (omega arith) }
 
--- the room of the counts: as it was made, where less may change, after a map goes, and after n bytes are changed
+-- the room of the counts: as it was made, if less may change, after a map is removed, and after n bytes are
+-- changed
 pub count_room_made : (l : LentCounts) (p s : ℕ) → HasChanges l (p + p) → HasCountRoom l p s
 count_room_made l p s h =
     record { forgets = λ way. let all : p + p ≤ (counts_of l way).room = h way in omega arith; changes = λ some. h }

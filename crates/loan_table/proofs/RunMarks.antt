@@ -81,7 +81,7 @@ get-set_run m s (suc n) v a =
     ∙ cond_or (in_run (s + 1) (s + 1 + n) a) (eqb a s) (Some v) (get m a)
     ∙ ap (λ b. cond b (Some v) (get m a)) (sym (in_run_step s n a))
 
--- a run of bytes is there and marked: as finite maps have it
+-- a run of bytes is there and marked, as finite maps say
 module _ (there there' known known' : List ℕ) (s n : ℕ) (v : Bool) (kept : IsKept there) (kept' : IsKept there')
     (added : (a : ℕ) → member there' a ≡ (if in_run s (s + n) a then true else member there a))
     (set : (a : ℕ) → member known' a ≡ (if in_run s (s + n) a then v else member known a)) where
@@ -96,7 +96,7 @@ module _ (there there' known known' : List ℕ) (s n : ℕ) (v : Bool) (kept : I
       ∙ sym (get-set_run (marks there known) s n v a
       ∙ ap (cond (in_run s (s + n) a) (Some v)) (get-marks there known kept a)))
 
--- a run of bytes is gone: as finite maps have it
+-- a run of bytes is gone, as finite maps say
 get_removed : (m : FinMap nat_cmp Bool) (k a : ℕ) → get (remove m k) a ≡ cond (eqb a k) None (get m a)
 get_removed m k a = get-remove nat_cmp_total m k a ∙ ap (λ b. cond b None (get m a)) (unsigned_tied a k)
 
@@ -121,7 +121,7 @@ module _ (there there' known : List ℕ) (s n : ℕ) (kept : IsKept there) (kept
       ∙ sym (get-without_run (marks there known) s n a
       ∙ ap (cond (in_run s (s + n) a) None) (get-marks there known kept a)))
 
--- a byte is in the table where the set of those that are there has it
+-- a byte is in the table exactly if the set of those that are there has it
 pub there_by_marks : (there known : List ℕ) → IsKept there → (a : ℕ) →
     is_some (get (marks there known) a) ≡ member there a
 there_by_marks there known kept a = ap is_some (get-marks there known kept a) ∙ some (member there a)

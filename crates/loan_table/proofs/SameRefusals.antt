@@ -1,4 +1,4 @@
--- Positions of a piece that meet the same.
+-- Positions of a piece that are refused alike.
 use Rattle.std.proofs.Common.{◌≡◌, ℕ, ◌+◌, ◌-◌, ◌<◌, ◌≤◌, ◌||◌, Bool, true, false, cond, if◌then◌else◌, nat_lt, None}
 use Rattle.std.proofs.Common.{Some, Option}
 use Rattle.std.proofs.Common.{◌++◌, refl, sym, ap, ◌∙◌, arith}
@@ -26,7 +26,7 @@ use Rattle.loan_table.proofs.Pieces.{lent_as, none_refused, same_way}
 use Rattle.loan_table.proofs.Stretches.{run_of_sum}
 use Rattle.loan_table.proofs.Totals.{elsewhere_any, elsewhere_counted, lent_any, lent_counted}
 
--- what a sync meets at two bytes that are lent alike
+-- a sync call is refused alike at two bytes that are lent alike
 module _ (counts : LentCounts) (loan : Loan) (lender : Lender) (of : IsOf counts loan lender) (p : Position) (a : ℕ)
     (here : IsPlaced loan (lent_as p p.pa)) (there : IsPlaced loan (lent_as p a))
     (alone : stands_twice p.pa loan ≡ true → IsUnlent counts p.pa)
@@ -86,7 +86,7 @@ module _ (counts : LentCounts) (loan : Loan) (lender : Lender) (of : IsOf counts
       ap (stands_twice a) (sym of.1) ∙ twice ∙ ap (stands_twice p.pa) of.1 in
       rw (write, any, stands) refl
 
--- what the device meets at two bytes that are Known alike
+-- the device's access is refused alike at two bytes that are Known alike
 pub same_for_device : (access : Access) (known : ℕ → Bool) (coherent : Bool) (p : Position) (a b : ℕ) →
     known a ≡ known b →
     dev_refusal access known coherent (lent_as p a) ≡ dev_refusal access known coherent (lent_as p b)
@@ -95,7 +95,7 @@ same_for_device Read known coherent p a b e =
     else Some DeviceReadUnlent) e
 same_for_device Write known coherent p a b e = refl
 
--- what the driver meets at two bytes that are lent, and Known, alike
+-- the driver's access is refused alike at two bytes that are lent, and Known, alike
 pub same_for_driver : (counts : LentCounts) (loans : Loans) → IsCounted counts loans → (access : Access)
     (known : ℕ → Bool) (a b : ℕ) → known a ≡ known b →
     ((way : Way) → count (counts_of counts way) a ≡ count (counts_of counts way) b) →
@@ -117,7 +117,7 @@ same_for_driver counts loans counted access known a b e same = by access
         ∙ ap (λ t. lent to_read b loans || t) (alike ToWrite) ∙ sym (lent_any b loans) in
         rw any refl
 
--- the bytes of a run up to one: none of them is refused
+-- the judgement passes over the bytes of a run up to an address, if none of them is refused
 pub run_passed : (f : ℕ → Option ReportName) (at pa t end : ℕ) → pa ≤ t → t ≤ end →
     ((a : ℕ) → pa ≤ a → a < t → f a ≡ None) →
     judged f at (run_of pa (end - pa)) ≡ judged f (at + (t - pa)) (run_of t (end - t))
@@ -134,7 +134,7 @@ alone : (o : Option ReportName) → option_or o None ≡ o
 alone None = refl
 alone (Some name) = refl
 
--- what a call meets that begins no lending
+-- the report of a sync call that begins no lending
 pub met_by_ends : (loans : Loans) (m ops : ℕ) (b : Bool) (p : Position) → postread ops ≡ b → prewrite ops ≡ false →
     preread ops ≡ false → sync_refusal loans m ops p ≡ (if b then postread_refusal p else None)
 met_by_ends loans m ops b p e f g =

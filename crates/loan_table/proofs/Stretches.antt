@@ -1,4 +1,4 @@
--- Stretches of bytes that follow one another.
+-- Stretches of consecutive bytes.
 use Rattle.std.proofs.Common.{◌≡◌, ℕ, zero, suc, ◌+◌, ◌-◌, ◌<◌, ◌≤◌, ◌^◌, length, List, [], ◌∷◌, ◌++◌}
 use Rattle.std.proofs.Common.{take, drop, get_or, Bool, true, false, ltb, Option}
 use Rattle.std.proofs.Common.{refl, sym, ap, ◌∙◌, arith}
@@ -30,7 +30,7 @@ part a zero (suc k) m h = absurd (omega arith)
 part a (suc n) (suc k) m h =
     let on : a + 1 + k ≡ a + suc k = omega arith in part (a + 1) n k m (omega arith) ∙ ap (λ b. run_of b m) on
 
--- some bytes of a run, where others follow it
+-- some bytes of a run that other bytes follow
 pub part_of_run : (a n k m : ℕ) (rest : List ℕ) → k + m ≤ n → take m (drop k (run_of a n ++ rest)) ≡ run_of (a + k) m
 part_of_run a n k m rest h =
     let long = length-run_of a n in
@@ -43,7 +43,7 @@ pub behind_run : (a n : ℕ) (rest : List ℕ) → drop n (run_of a n ++ rest) �
 behind_run a zero rest = refl
 behind_run a (suc n) rest = behind_run (a + 1) n rest
 
--- bytes that are found by their stretch
+-- the bytes at a position, found by its stretch
 pub in_stretch : (at before a n m : ℕ) (all rest : List ℕ) → before ≤ at → drop before all ≡ run_of a n ++ rest →
     at - before + m ≤ n → stretch at m all ≡ run_of (a + (at - before)) m
 in_stretch at before a n m all rest le e h =
@@ -80,7 +80,7 @@ module _ (es : List Extent) (run e : Extent) (ahead tail all : List ℕ) (first 
       ∙ ap (λ xs. addresses es ++ xs) (append_assoc (run_of run.pa.0 run.len) (run_of e.pa.0 e.len) tail)
       ∙ ap (λ xs. addresses es ++ (run_of run.pa.0 run.len ++ xs)) (sym first) ∙ h
 
--- stretches of the same bytes are as many bytes
+-- stretches with the same bytes have equally many bytes
 pub as_many : (stretches extents : List Extent) → addresses stretches ≡ addresses extents →
     byte_count stretches ≡ byte_count extents
 as_many stretches extents same =
@@ -100,7 +100,7 @@ stretches_kept stretches extents starts len places ends begun same long small co
       counted = counted;
     }
 
--- the starts of stretches: they do not fall, and before each are the bytes of the stretches before it
+-- the starts of stretches do not fall, and each is the number of the bytes before it
 pub starts_climb : (lo at : ℕ) (es : List Extent) → lo ≤ at → Climbs lo (starts_from at es)
 starts_climb lo at [] h = tt
 starts_climb lo at (e ∷ es) h = (h, starts_climb at (at + e.len) es (omega arith))
@@ -117,7 +117,7 @@ start_at at (e ∷ es) (suc k) d h =
     let more = sum_by-cons (λ (x : Extent). x.len) e (take k es) in
     omega (arith, more, start_at (at + e.len) es k d (omega arith))
 
--- the bytes behind some stretches
+-- the bytes after some stretches
 pub bytes_behind : (es : List Extent) (k : ℕ) → drop (byte_count (take k es)) (addresses es) ≡ addresses (drop k es)
 bytes_behind es zero = refl
 bytes_behind [] (suc k) = refl
@@ -141,7 +141,7 @@ some_stretch : (es : List Extent) (at : ℕ) → at < byte_count es → 0 < leng
 some_stretch [] at h = absurd (omega arith)
 some_stretch (e ∷ es) at h = omega arith
 
--- the last stretch that begins at a position or before it has it
+-- a position is in the last stretch that begins at it or before it
 module _ (es : List Extent) (at k : ℕ) (range : at < byte_count es) (small : k ≤ length es)
     (below : (j d : ℕ) → j < k → get_or (starts_from 0 es) j d ≤ at)
     (above : (j d : ℕ) → k ≤ j → j < length (starts_from 0 es) → at < get_or (starts_from 0 es) j d) where
@@ -193,7 +193,7 @@ module _ (es : List Extent) (at k : ℕ) (range : at < byte_count es) (small : k
       (bytes_behind es (k - 1) ∙ at_drop_more addresses es (k - 1) no_extent (omega (arith, some_start)))
       h
 
--- the same of a list of starts
+-- the stretch at a position, found in a list of starts
 module _ (es : List Extent) (starts : List ℕ) (at k end : ℕ) (begun : starts ≡ starts_from 0 es) (some : at < end)
     (range : end ≤ byte_count es) (small : k ≤ length starts)
     (below : (j d : ℕ) → j < k → get_or starts j d ≤ at)

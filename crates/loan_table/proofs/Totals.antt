@@ -18,7 +18,7 @@ use Rattle.busdma_rules.specs.Lending.Loans.{lent_elsewhere, to_read, to_write}
 use Rattle.loan_table.specs.Counted.{places, lent_places}
 use Rattle.busdma_rules.proofs.Lending.Marking.{loan_of-insert}
 
--- a test of a list by a sum
+-- a test of a list holds if and only if a sum over the list is not 0
 either : (a b : ℕ) → (nat_lt 0 a || nat_lt 0 b) ≡ nat_lt 0 (a + b)
 either a b = grind (arith, nat_tests)
 
@@ -37,7 +37,7 @@ pub lends_places : (way : Position → Bool) (a : ℕ) (loan : Loan) → lends w
 lends_places way a loan = any_sum (λ p. is_at a p && way p) (λ p. cond (is_at a p && way p) 1 0)
     (λ p. one (is_at a p && way p)) loan.positions
 
--- entries without a key
+-- the keys other than a given one
 abbrev others : ℕ → ℕ → Bool
 others m x = not (eq_by_cmp nat_cmp m x)
 
@@ -153,7 +153,7 @@ places-insert way a loans m new =
     ∙ places-remove way a (insert loans m new) m in
     omega (arith, put, places-remove way a loans m)
 
--- a byte is lent where it is counted, and elsewhere where it is counted more often than here
+-- a byte is lent exactly if it is counted, and lent elsewhere exactly if it is counted more often than here
 pub lent_counted : (way : Position → Bool) (a : ℕ) (loans : Loans) → lent way a loans ≡ nat_lt 0
     (lent_places way a loans)
 lent_counted way a loans = any_sum (λ e. lends way a e.1) (λ e. places way a e.1.positions)
@@ -196,7 +196,7 @@ elsewhere_counted way a loans m =
     ∙ lent_counted way a (remove loans m)
     ∙ less _ _ _ (places-remove way a loans m)
 
--- a test of a list by two tests
+-- one of a list passes a test if and only if one passes one of its two parts
 any_or : {X : Type 0} (q r s : X → Bool) → ((x : X) → q x ≡ (r x || s x)) → (xs : List X) →
     list_any q xs ≡ (list_any r xs || list_any s xs)
 any_or q r s same [] = refl
@@ -214,7 +214,7 @@ and_or : (a b c : Bool) → (a && (b || c)) ≡ ((a && b) || (a && c))
 and_or true b c = refl
 and_or false b c = refl
 
--- a byte is lent in any way where it is lent to read or to write
+-- a byte is lent in any way exactly if it is lent to read or to write
 lends_any : (a : ℕ) (loan : Loan) → lends in_any_way a loan ≡ (lends to_read a loan || lends to_write a loan)
 lends_any a loan =
     any_or (λ p. is_at a p && in_any_way p) (λ p. is_at a p && to_read p) (λ p. is_at a p && to_write p)

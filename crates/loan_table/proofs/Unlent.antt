@@ -56,7 +56,7 @@ writes_pass counts loans counted known at pa n unlent =
     passed : (a : ℕ) → pa ≤ a → a < pa + n → refusal a ≡ None
     passed a from to = ap (λ b. if b then Some CpuWriteLent else None) (any a from to)
 
--- a position that is lent is counted
+-- the count of a byte is at least 1 if one of its positions is lent
 same_byte : (n : ℕ) → (n == n) ≡ true
 same_byte n = grind (arith, nat_tests)
 
@@ -88,7 +88,8 @@ pub clash : {X : Type 0} (b : Bool) → not b ≡ true → b ≡ true → X
 clash true p q = absurd (cc)
 clash false p q = absurd (cc)
 
--- a call meets nothing at bytes that no map lends, and that stand once where that is asked
+-- a sync call is refused nowhere at bytes that no map lends, and that are only once in the buffer if that is
+-- asked
 module _ (counts : LentCounts) (loan : Loan) (lender : Lender) (of : IsOf counts loan lender) (ops start len : ℕ)
     (no_post : postread ops ≡ false) (unlent : AreUnlent counts start (start + len))
     (once : preread ops ≡ true → (a : ℕ) → start ≤ a → a < start + len → stands_twice a loan ≡ false) where
@@ -148,7 +149,7 @@ module _ (counts : LentCounts) (loan : Loan) (lender : Lender) (of : IsOf counts
       All-from_get_or (λ p. start ≤ p.pa → p.pa < start + len → sync_refusal lender.loans lender.map ops p ≡ None)
       loan.positions no_position (λ i lt from to. met i lt from to)
 
--- positions that are passed, whose bytes follow one another
+-- the judgement passes over consecutive bytes of which none is refused
 all_passed : (f : Position → Option ReportName) (at pa n : ℕ) (qs ys : List Position) → addresses_of qs ≡ run_of pa n →
     ((i : ℕ) → i < length qs → pa ≤ (get_or qs i no_position).pa → (get_or qs i no_position).pa < pa + n →
     f (get_or qs i no_position) ≡ None) → judged f at (qs ++ ys) ≡ judged f (at + n) ys

@@ -19,7 +19,7 @@ use Rattle.loan_table.specs.Trees.{opened, closed}
 abbrev pub HasItsBytes : FinMap nat_cmp Bool → Loans → Type 0
 HasItsBytes bytes loans = (m : ℕ) → AreIn bytes (addresses_of (loan_of loans m).positions)
 
--- the bytes of a table lie in frames of numbers below 2^30
+-- each byte of a table is below 2^42, so that the number of its frame is below 2^30
 abbrev pub AreLow : FinMap nat_cmp Bool → Type 0
 AreLow bytes = (a : ℕ) → IsSome (get bytes a) → a < 2 ^ 42
 
@@ -27,18 +27,18 @@ AreLow bytes = (a : ℕ) → IsSome (get bytes a) → a < 2 ^ 42
 abbrev pub position_count : List (ℕ × Slot) → ℕ
 position_count entries = sum_by (λ s. length s.row.positions) (values_of entries)
 
--- there is room to forget every map; and, where extents may change, to change each position once and so
+-- the marks have room to forget every map; and, if extents may change, to change each position once and so
 -- many extents before that, and for bytes to come or go
 pub record HasRoom (bytes : Marks) (positions spare : ℕ) : Type 0 where
   pub forgets : positions + positions ≤ bytes.room
   pub changes : 0 < spare → positions + positions + (positions + positions) + (spare + spare) ≤ bytes.room
   pub drops : 0 < spare → 2 ≤ bytes.there_room
 
--- maps that are prepared alone lend nothing
+-- the maps of these loans lend nothing; this holds of maps that are only prepared
 abbrev pub AreIdle : Loans → Type 0
 AreIdle loans = (m : ℕ) → LendsNothing (loan_of loans m).positions
 
--- what is true of the fields of each table
+-- the invariant of each table over its fields
 pub record IsKept (bytes : Marks) (loans : BTreeMap ℕ Slot) (lent : LentCounts) (positions spare : ℕ) : Type 0 where
   pub ordered : IsOrdered nat_cmp loans
   pub inside : HasItsBytes bytes.bytes (opened loans)
@@ -50,6 +50,7 @@ pub record IsKept (bytes : Marks) (loans : BTreeMap ℕ Slot) (lent : LentCounts
   pub idle : AreIdle (closed loans)
   pub count_room : HasCountRoom lent positions spare
 
+-- the value of a table as a code
 abbrev pub table_code : Coded Table
 table_code =
     code_by (FinMap nat_cmp Bool × (Loans × (Loans × ℕ)))

@@ -1,4 +1,4 @@
-//! The judgement of accesses by the driver and by a device.
+//! Judges accesses by the driver and by its device.
 
 ghost use Rattle.std.specs.Prelude.{◌≡◌, ◌+◌, ◌≤◌, ◌<◌, ◌^◌, length};
 ghost use Rattle.std.specs.List.{All};
@@ -19,21 +19,21 @@ use crate::row::{LoanRow, Way};
 use busdma_machine::{Extent, Judged, Report, ReportName};
 use busdma_rules::Position;
 
-/// What is done to bytes.
+/// What an access does to bytes.
 #[derive(Clone, Copy)]
 pub enum Access {
     Read,
     Write,
 }
 
-/// Where the judgement of the driver's access looks first.
+/// Where the judgement of a driver's access looks first.
 #[derive(Clone, Copy)]
 struct Looks {
     near: NearCounts,
     unlent: Unlent,
 }
 
-/// What the driver meets where it reads a byte.
+/// Returns the report of a read of the byte by the driver, or `None` if the driver may read it.
 fn cpu_read_refusal(
     bytes: &ByteMarks,
     lent: &LentCounts,
@@ -51,7 +51,7 @@ fn cpu_read_refusal(
     }
 }
 
-/// Whether a byte is lent, to read or to write.
+/// Returns whether some map lends the byte, to read or to write.
 fn is_lent(counts: &LentCounts, pa: u64, near: &mut NearCounts) -> bool
     ensures { (loans : Loans) → IsCounted counts.now loans → result ≡ lent in_any_way pa loans }
 {
@@ -61,7 +61,7 @@ fn is_lent(counts: &LentCounts, pa: u64, near: &mut NearCounts) -> bool
     counts.count_near(Way::ToWrite, pa, near) > 0
 }
 
-/// What the driver meets where it writes a byte.
+/// Returns the report of a write of the byte by the driver, or `None` if the driver may write it.
 fn cpu_write_refusal(lent: &LentCounts, pa: u64, near: &mut NearCounts) -> Option<ReportName>
     ensures { (loans : Loans) → IsCounted lent.now loans → result ≡ cpu_write_refusal loans pa }
 {
@@ -72,7 +72,7 @@ fn cpu_write_refusal(lent: &LentCounts, pa: u64, near: &mut NearCounts) -> Optio
     }
 }
 
-/// What the driver meets at a byte.
+/// Returns the report of an access of the byte by the driver, or `None` if the access is allowed.
 fn cpu_refusal(
     bytes: &ByteMarks,
     lent: &LentCounts,
@@ -88,7 +88,7 @@ fn cpu_refusal(
     }
 }
 
-/// The judgement of the driver's access of a run, whose first byte stands at a place.
+/// Judges the driver's access of a run. A report names a byte by its offset in the access.
 fn judge_run(
     bytes: &ByteMarks,
     lent: &LentCounts,
@@ -117,7 +117,7 @@ fn judge_run(
     Judged::Fine
 }
 
-/// The judgement of the driver's access of an extent, whose first byte stands at a place.
+/// Judges the driver's access of one extent. A report names a byte by its offset in the access.
 fn judge_extent(
     bytes: &ByteMarks,
     lent: &LentCounts,
@@ -142,7 +142,7 @@ fn judge_extent(
     judge_run(bytes, lent, access, extent, place, &mut looks.near)
 }
 
-/// The judgement of the driver's access of extents.
+/// Judges the driver's access of extents, byte by byte in order.
 pub fn judge_extents(
     bytes: &ByteMarks,
     lent: &LentCounts,
@@ -168,7 +168,7 @@ pub fn judge_extents(
     Judged::Fine
 }
 
-/// What the device meets where it reads a position.
+/// Returns the report of the device's read of a position, or `None` if the device may read it.
 fn dev_read_refusal(bytes: &ByteMarks, coherent: bool, position: Position) -> Option<ReportName>
     ensures { result ≡ dev_read_refusal (is_marked bytes.now.bytes) coherent position }
 {
@@ -181,7 +181,8 @@ fn dev_read_refusal(bytes: &ByteMarks, coherent: bool, position: Position) -> Op
     }
 }
 
-/// The judgement of the device's access of a range of a map's buffer, which need not be lent where it is coherent.
+/// Judges the device's access of `len` bytes from `off` on in a map's buffer. The bytes of a coherent map
+/// need not be lent.
 pub fn judge_range(
     bytes: &ByteMarks,
     row: &LoanRow,
@@ -200,7 +201,7 @@ pub fn judge_range(
     }
 }
 
-/// The judgement of the device's write of a range of a map's buffer.
+/// Judges the device's write of a range of a map's buffer.
 fn judge_write(row: &LoanRow, coherent: bool, off: u64, len: u64) -> Judged
     requires range { off + len ≤ length row.now.positions }
     ensures { result ≡ judged (dev_write_refusal coherent) 0 (stretch off len row.now.positions) }
@@ -211,7 +212,7 @@ fn judge_write(row: &LoanRow, coherent: bool, off: u64, len: u64) -> Judged
     row.judge_to_write(off, len, ReportName::DeviceWriteUnlent, 0)
 }
 
-/// The judgement of the device's read of a range of a map's buffer.
+/// Judges the device's read of a range of a map's buffer.
 fn judge_read(bytes: &ByteMarks, row: &LoanRow, coherent: bool, off: u64, len: u64) -> Judged
     requires range { off + len ≤ length row.now.positions }
     ensures { let refusal = dev_read_refusal (is_marked bytes.now.bytes) coherent in

@@ -15,12 +15,12 @@ use run_set::{Near, RunCounts};
 use std::alloc::{AllocError, Global};
 use std::marker::Model;
 
-/// So many stretches are looked at one by one, and no run around them.
+/// Up to this many stretches, the run around all bytes is not looked at: the stretches are looked at one by
+/// one.
 const FEW: usize = 4;
 
-/// The bytes of a buffer, in order, and at how many of its positions each stands. The bytes of a
-/// stretch follow one another. Where no byte stands twice, as where there is one stretch alone, none
-/// is counted.
+/// The bytes of a map's buffer, in order, with how often each of them occurs. The addresses in a stretch are
+/// consecutive. If no byte occurs twice, for example in a buffer of one stretch, no occurrences are counted.
 #[derive(Drop)]
 pub struct Buffer {
     stretches: Vec<Extent>,
@@ -45,7 +45,11 @@ impl Model for Buffer {
 }
 
 impl Buffer {
-    /// The bytes of extents, in order, in the lists of a buffer that is gone, where one is given.
+    /// Makes a buffer of the bytes of extents, in order. It reuses the lists of `gone`, if there is one.
+    ///
+    /// # Errors
+    ///
+    /// `AllocError` if memory runs out. The lists of `gone` are then freed.
     pub fn over(alloc: Global, extents: &[Extent], gone: Option<Buffer>) -> Result<Self, AllocError>
         requires ends { All Ends extents.now }
         requires total { byte_count extents.now < 2 ^ 64 }
@@ -64,15 +68,15 @@ impl Buffer {
         })
     }
 
-    /// The number of positions.
+    /// Returns the number of positions, in bytes.
     pub fn len(&self) -> u64
         ensures { result ≡ length self.now }
     {
         self.len
     }
 
-    /// Bytes that follow one another: those from a position on, up to `end` or to the end of their stretch.
-    /// They are found soon where `near` is left by a look at this stretch, or at the one before it.
+    /// Returns the bytes with consecutive addresses from position `at` on, up to `end` or to the end of their
+    /// stretch. They are found fast if `near` was left by a look at this stretch or at the one before it.
     #[inline(always)]
     pub fn stretch(&self, at: u64, end: u64, near: &mut usize) -> Extent
         requires some { at < end }
@@ -85,7 +89,8 @@ impl Buffer {
         stretch_at(&self.stretches, &self.starts, at, end, near)
     }
 
-    /// The stretches, where `len` positions are all there are, and the stretches are no more than these.
+    /// Returns all stretches, if `len` is the number of all positions and there are no more stretches than
+    /// positions; otherwise `None`.
     pub fn whole(&self, len: u64) -> Option<&[Extent]>
         ensures bytes { IfSome result (λ stretches. addresses stretches.now ≡ self.now) }
         ensures ends { IfSome result (λ stretches. All Ends stretches.now) }
@@ -102,8 +107,8 @@ impl Buffer {
         }
     }
 
-    /// A run in which all bytes of the buffer lie, where there are so many stretches that one look at that run
-    /// may save many.
+    /// Returns a run in which all bytes of the buffer lie. It does so only if there are so many stretches
+    /// that one look at that run may save many looks; otherwise it returns `None`.
     pub fn hull(&self) -> Option<Extent>
         ensures some { IfSome result (λ run. 0 < run.len) }
         ensures fits { IfSome result (λ run. run.pa.0 + run.len < 2 ^ 64) }
@@ -116,7 +121,7 @@ impl Buffer {
         }
     }
 
-    /// Whether a byte stands at more than one position.
+    /// Returns whether a byte is at more than one position.
     pub fn stands_twice(&self, pa: u64, near: &mut Near) -> bool
         ensures { result ≡ nat_lt 1 (stands pa self.now) }
     {
@@ -126,8 +131,8 @@ impl Buffer {
         }
     }
 
-    /// A byte, `end` at the most, up to which all bytes from `start` on stand at more than one position, or
-    /// all do not.
+    /// Returns an address after `start`, at most `end`. Either all bytes from `start` up to it are at more
+    /// than one position, or none of them is.
     pub fn turn(&self, start: u64, end: u64, near: &mut Near) -> u64
         requires { start < end }
         ensures from { start < result }
@@ -142,7 +147,7 @@ impl Buffer {
     }
 }
 
-/// Two addresses, moved apart so far that the bytes of an extent lie between them.
+/// Returns two addresses, moved apart so far that the bytes of an extent lie between them.
 fn widened(first: u64, end: u64, extent: &Extent) -> (u64, u64)
     requires { Ends extent.now }
     ensures first { result.0 ≤ first }
@@ -156,7 +161,7 @@ fn widened(first: u64, end: u64, extent: &Extent) -> (u64, u64)
     (first.min(extent.pa.0), end.max(behind))
 }
 
-/// A run in which all bytes of extents lie, where they have one.
+/// Returns a run in which all bytes of extents lie, or `None` if no such run is found.
 fn hull_of(extents: &[Extent]) -> Option<Extent>
     requires { All Ends extents.now }
     ensures some { IfSome result (λ run. 0 < run.len) }
@@ -178,7 +183,7 @@ fn hull_of(extents: &[Extent]) -> Option<Extent>
     }
 }
 
-/// The bytes from a position on, up to `end` or to the end of their stretch.
+/// Returns the bytes from a position on, up to `end` or to the end of their stretch.
 #[inline(always)]
 fn stretch_at(stretches: &[Extent], starts: &[u64], at: u64, end: u64, near: &mut usize) -> Extent
     requires ends { All Ends stretches.now }
@@ -196,7 +201,7 @@ fn stretch_at(stretches: &[Extent], starts: &[u64], at: u64, end: u64, near: &mu
     part_of(&stretches[last], at - starts[last], end - at)
 }
 
-/// The bytes of a stretch behind the first `skipped` of them, `most` of them at the most.
+/// Returns at most `most` bytes of a stretch, after its first `skipped` bytes.
 fn part_of(run: &Extent, skipped: u64, most: u64) -> Extent
     requires ends { Ends run.now }
     requires skipped { skipped < run.now.len }
@@ -214,7 +219,7 @@ fn part_of(run: &Extent, skipped: u64, most: u64) -> Extent
     }
 }
 
-/// The lists of a buffer that is gone, or new ones where there is none.
+/// Returns the lists of a buffer that is gone, or new ones if there is none.
 fn lists_of(alloc: Global, gone: Option<Buffer>) -> (Vec<Extent>, Vec<u64>) {
     match gone {
         Some(buffer) => (buffer.stretches, buffer.starts),
@@ -222,7 +227,7 @@ fn lists_of(alloc: Global, gone: Option<Buffer>) -> (Vec<Extent>, Vec<u64>) {
     }
 }
 
-/// How many bytes extents have.
+/// Returns the number of bytes of extents.
 pub fn len_of(extents: &[Extent]) -> u64
     requires { byte_count extents.now < 2 ^ 64 }
     ensures { result ≡ byte_count extents.now }
@@ -234,8 +239,8 @@ pub fn len_of(extents: &[Extent]) -> u64
     len
 }
 
-/// Extents as stretches, in a used list: where one begins at the end of the one before it, and both have a
-/// byte, they are one.
+/// Makes stretches of extents, in a list that is reused. Two extents become one stretch if the second begins
+/// where the first ends and both have bytes.
 fn stretches_of(used: Vec<Extent>, extents: &[Extent]) -> Result<Vec<Extent>, AllocError>
     requires { All Ends extents.now }
     ensures bytes { IfOk result (λ stretches. addresses stretches.items ≡ addresses extents.now) }
@@ -257,8 +262,8 @@ fn stretches_of(used: Vec<Extent>, extents: &[Extent]) -> Result<Vec<Extent>, Al
     Ok(stretches)
 }
 
-/// Adds the bytes of an extent to a run that ends right before them, where both have a byte. Whether it
-/// could is told.
+/// Adds the bytes of an extent to a run that ends right before them, if both have bytes. Returns whether they
+/// were added.
 fn join(run: &mut Extent, next: &Extent) -> bool
     requires run { Ends run.old }
     requires next { Ends next.now }
@@ -274,7 +279,7 @@ fn join(run: &mut Extent, next: &Extent) -> bool
     true
 }
 
-/// At which positions stretches begin, in a used list.
+/// Returns the positions at which stretches begin, in a list that is reused.
 fn starts_of(used: Vec<u64>, stretches: &[Extent]) -> Result<Vec<u64>, AllocError>
     requires { byte_count stretches.now < 2 ^ 64 }
     ensures { IfOk result (λ starts. starts.items ≡ starts_from 0 stretches.now) }
@@ -289,7 +294,7 @@ fn starts_of(used: Vec<u64>, stretches: &[Extent]) -> Result<Vec<u64>, AllocErro
     Ok(starts)
 }
 
-/// At how many positions of a buffer each byte stands, where one stands at more than one position.
+/// Counts at how many positions each byte is. Returns `None` if no byte is at more than one position.
 fn counted_places(alloc: Global, stretches: &[Extent]) -> Result<Option<RunCounts>, AllocError>
     requires { All Ends stretches.now }
     ensures { IfOk result (λ places. AreCounted places (addresses stretches.now)) }
@@ -304,7 +309,7 @@ fn counted_places(alloc: Global, stretches: &[Extent]) -> Result<Option<RunCount
     }
 }
 
-/// At how many positions of a buffer each byte stands.
+/// Counts at how many positions of a buffer each byte is.
 fn places_over(alloc: Global, extents: &[Extent]) -> Result<RunCounts, AllocError>
     requires { All Ends extents.now }
     ensures { IfOk result (λ places. CountsPlaces places (addresses extents.now)) }
@@ -317,7 +322,7 @@ fn places_over(alloc: Global, extents: &[Extent]) -> Result<RunCounts, AllocErro
     Ok(places)
 }
 
-/// Counts each byte of a run once more.
+/// Adds 1 to the count of each byte of a run.
 fn count_run(places: &mut RunCounts, run: &Extent)
     requires ends { Ends run.now }
     requires room { 1 ≤ places.old.room }

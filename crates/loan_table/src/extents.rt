@@ -1,4 +1,4 @@
-//! How many extents hold a range of a map's buffer.
+//! Counts the extents that hold a range of a map's buffer.
 
 ghost use Rattle.std.specs.Prelude.{◌≡◌, ◌+◌, ◌%◌, ◌<◌, ◌≤◌, ◌^◌, length};
 ghost use Rattle.busdma_machine.specs.Machine.Wire.{stretch};
@@ -8,14 +8,14 @@ ghost use Rattle.loan_table.specs.Table.{extent_count, is_next, more_extents};
 use crate::buffer::Buffer;
 use busdma_machine::Extent;
 
-/// Whether a byte comes right behind another, in the same frame.
+/// Returns whether a byte directly follows another, in the same frame.
 fn is_next(before: u64, pa: u64) -> bool
     ensures { result ≡ is_next before pa }
 {
     pa > before && pa - before == 1 && pa % 4096 != 0
 }
 
-/// How many extents hold the bytes of a range of a buffer, in order.
+/// Returns how many extents hold the bytes of a range of a buffer, in order. Each extent lies in one frame.
 pub fn extent_count(buffer: &Buffer, off: u64, len: u64) -> u64
     requires { off + len ≤ length buffer.now }
     ensures { result ≡ extent_count (stretch off len buffer.now) }
@@ -37,7 +37,7 @@ pub fn extent_count(buffer: &Buffer, off: u64, len: u64) -> u64
     count
 }
 
-/// How many extents begin at bytes that follow one another, behind a byte.
+/// Returns how many extents begin in consecutive bytes, if they come after the byte `before`.
 fn more_extents(before: u64, bytes: &Extent) -> u64
     requires some { 0 < bytes.now.len }
     requires fits { bytes.now.pa.0 + bytes.now.len < 2 ^ 64 }
@@ -54,7 +54,7 @@ fn more_extents(before: u64, bytes: &Extent) -> u64
     }
 }
 
-/// The first bytes of an extent, up to the end of their frame.
+/// Returns the first bytes of an extent, up to the end of their frame.
 pub fn in_one_frame(run: Extent) -> Extent
     requires some { 0 < run.len }
     ensures some { 0 < result.len }

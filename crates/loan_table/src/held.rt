@@ -13,7 +13,7 @@ use dma_tag::SyncOps;
 use std::alloc::{AllocError, Global};
 use std::marker::Model;
 
-/// A row on the heap: it stays where it is while a table moves its maps.
+/// A row on the heap, so that a table moves its maps without moving their rows.
 #[derive(Drop)]
 pub struct HeldRow {
     row: Box<LoanRow>,
@@ -31,7 +31,11 @@ impl Model for HeldRow {
 }
 
 impl HeldRow {
-    /// A map over bytes that lends nothing. It takes the memory of a row that is gone, where that fits.
+    /// Makes a map over bytes, in order, that lends nothing. It reuses the memory of `gone`, if that fits.
+    ///
+    /// # Errors
+    ///
+    /// `AllocError` if memory runs out. The row in `gone` may then have been freed.
     pub fn over(
         alloc: Global,
         coherent: bool,
@@ -48,14 +52,14 @@ impl HeldRow {
         })
     }
 
-    /// The row.
+    /// Returns the row.
     pub fn as_row(&self) -> &LoanRow
         ensures { result.now ≡ self.now }
     {
         &*self.row
     }
 
-    /// Sets whether the positions of a range are lent, to read and to write, as a call leaves them.
+    /// Updates for a sync call which positions of a range are lent, to read and to write.
     pub fn mark(&mut self, off: u64, len: u64, ops: SyncOps)
         requires { off + len ≤ length self.old.positions }
         ensures coherent { self.new.coherent ≡ self.old.coherent }
@@ -64,7 +68,7 @@ impl HeldRow {
         self.row.mark(off, len, ops);
     }
 
-    /// The row, taken from the heap.
+    /// Takes the row from the heap.
     pub fn into_row(self) -> LoanRow
         ensures { result ≡ self }
     {

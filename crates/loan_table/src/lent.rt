@@ -1,4 +1,4 @@
-//! How often the bytes of a driver are lent.
+//! Counts how often the bytes of a driver are lent.
 
 ghost use Rattle.std.specs.Prelude.{◌≡◌, ℕ, ◌+◌, ◌≤◌, ◌<◌, ◌^◌, length, map, if◌then◌else◌, OnOk, false, true, []};
 ghost use Rattle.std.specs.List.{All};
@@ -21,14 +21,14 @@ use dma_tag::SyncOps;
 use run_set::{Near, RunCounts};
 use std::alloc::{AllocError, Global};
 
-/// At how many positions of all open maps each byte is lent, to write and to read.
+/// The number of positions, over all open maps, at which each byte is lent, to write and to read.
 #[derive(Drop)]
 pub struct LentCounts {
     pub to_write: RunCounts,
     pub to_read: RunCounts,
 }
 
-/// Where counts are looked at first: any value of it gives the same answers.
+/// Where a search in the counts begins. Any value of it gives the same answers.
 #[derive(Clone, Copy)]
 pub struct NearCounts {
     to_write: Near,
@@ -36,7 +36,7 @@ pub struct NearCounts {
 }
 
 impl NearCounts {
-    /// Before the first byte.
+    /// Returns the place before the first byte.
     pub fn new() -> NearCounts {
         NearCounts {
             to_write: Near::new(),
@@ -45,7 +45,7 @@ impl NearCounts {
     }
 }
 
-/// Bytes that are not lent: those from one address up to another.
+/// Bytes that are not lent: the addresses from `from` up to, but not including, `to`.
 #[derive(Clone, Copy)]
 pub struct Unlent {
     from: u64,
@@ -53,15 +53,15 @@ pub struct Unlent {
 }
 
 impl Unlent {
-    /// No byte.
+    /// Returns the empty range.
     pub fn nothing() -> Unlent
         ensures { result.to ≡ 0 }
     {
         Unlent { from: 0, to: 0 }
     }
 
-    /// Whether each byte of a run is seen not to be lent, by what an earlier look found or by a new one
-    /// at its first byte.
+    /// Returns whether every byte of a run is known not to be lent, by an earlier search or by a new one from
+    /// its first byte on. The answer may be `false` for a run that is not lent.
     pub fn has(&mut self, lent: &LentCounts, run: &Extent, near: &mut NearCounts) -> bool
         requires some { 0 < run.now.len }
         requires fits { run.now.pa.0 + run.now.len < 2 ^ 64 }
@@ -78,7 +78,7 @@ impl Unlent {
 }
 
 impl LentCounts {
-    /// No byte is lent, and there is room for no change.
+    /// Makes counts in which no byte is lent. They have no room for changes.
     pub fn new(alloc: Global) -> LentCounts
         ensures to_write { result.to_write.starts ≡ [] }
         ensures to_read { result.to_read.starts ≡ [] }
@@ -90,6 +90,10 @@ impl LentCounts {
     }
 
     /// Makes room for `changes` changes. The counts stay as they were.
+    ///
+    /// # Errors
+    ///
+    /// `AllocError` if memory runs out. The counts are then unchanged, and their room is not smaller.
     pub fn reserve(&mut self, changes: usize) -> Result<(), AllocError>
         ensures ok { OnOk result (HasChanges self.new changes) }
         ensures same { IsAlike self.old self.new }
@@ -99,7 +103,7 @@ impl LentCounts {
         self.to_read.reserve(changes)
     }
 
-    /// At how many positions a byte is lent.
+    /// Returns at how many positions a byte is lent.
     pub fn count(&self, way: Way, pa: u64) -> u64
         ensures { result ≡ count (counts_of self.now way) pa }
     {
@@ -109,7 +113,7 @@ impl LentCounts {
         }
     }
 
-    /// At how many positions a byte is lent, looked for near an earlier look.
+    /// Returns at how many positions a byte is lent. The search begins near an earlier one.
     pub fn count_near(&self, way: Way, pa: u64, near: &mut NearCounts) -> u64
         ensures { result ≡ count (counts_of self.now way) pa }
     {
@@ -119,15 +123,16 @@ impl LentCounts {
         }
     }
 
-    /// Whether a byte is lent. That it is, where the answer is true, holds by the code alone.
+    /// Returns whether a byte is lent. The contract covers only the answer `false`: the byte is then not
+    /// lent.
     pub fn is_lent(&self, pa: u64, near: &mut NearCounts) -> bool
         ensures { result ≡ false → IsUnlent self.now pa }
     {
         self.count_near(Way::ToWrite, pa, near) > 0 || self.count_near(Way::ToRead, pa, near) > 0
     }
 
-    /// The byte up to which all bytes from `start` on are lent at as many positions as it is; `end`
-    /// where none comes before it.
+    /// Returns an address after `start`, at most `end`, up to which all bytes are lent at as many positions
+    /// as the byte at `start`.
     pub fn turn(&self, start: u64, end: u64) -> u64
         requires { start < end }
         ensures from { start < result }
@@ -139,7 +144,7 @@ impl LentCounts {
         self.to_read.turn(start, turn)
     }
 
-    /// What `turn` gives, looked for near an earlier look.
+    /// Returns an address as `turn` does. The search begins near an earlier one.
     pub fn turn_near(&self, start: u64, end: u64, near: &mut NearCounts) -> u64
         requires { start < end }
         ensures from { start < result }
@@ -151,8 +156,8 @@ impl LentCounts {
         self.to_read.turn_near(start, turn, &mut near.to_read)
     }
 
-    /// Bytes from one on that are not lent: by the code alone all up to the next that is lent, and none
-    /// where the first is.
+    /// Returns bytes from `start` on that are not lent. The range is empty if the byte at `start` is lent,
+    /// and otherwise ends at the next byte that may be lent; the contract does not say how long it is.
     pub fn unlent_from(&self, start: u64, near: &mut NearCounts) -> Unlent
         requires { start + 1 < 2 ^ 64 }
         ensures { AreUnlent self.now result.from result.to }
@@ -165,7 +170,7 @@ impl LentCounts {
         Unlent { from: start, to }
     }
 
-    /// Counts the positions of a range as a call marks them.
+    /// Counts the positions of a range of a map as a sync call leaves them.
     pub fn mark(&mut self, row: &LoanRow, off: u64, len: u64, ops: SyncOps)
         requires range { off + len ≤ length row.now.positions }
         requires held { Holds self.old (stretch off len row.now.positions) }
@@ -184,7 +189,7 @@ impl LentCounts {
         }
     }
 
-    /// Counts the positions of a span, from a position on, as a call marks them.
+    /// Counts the positions of a span, from a position on, as a sync call leaves them.
     fn recount(&mut self, row: &LoanRow, at: u64, span: &Span, ops: SyncOps)
         requires range { at + span.now.len ≤ length row.now.positions }
         requires alike { AreAlike span.now.first (stretch at span.now.len row.now.positions) }
@@ -198,7 +203,7 @@ impl LentCounts {
         recount_way(&mut self.to_read, Way::ToRead, row, at, span, ops);
     }
 
-    /// Counts the positions of a map no more.
+    /// Removes the positions of a map from the counts.
     pub fn forget(&mut self, row: &LoanRow)
         requires held { Holds self.old row.now.positions }
         requires room { HasChanges self.old (length row.now.positions) }
@@ -210,8 +215,8 @@ impl LentCounts {
     }
 }
 
-/// Counts the bytes of a span, from a position on, in one way, once more or once less, where a call begins to lend
-/// them or ends that.
+/// Updates the counts of one way for a span from a position on, if the sync call begins or ends lending it in
+/// that way.
 fn recount_way(counts: &mut RunCounts, way: Way, row: &LoanRow, at: u64, span: &Span, ops: SyncOps)
     requires range { at + span.now.len ≤ length row.now.positions }
     requires alike { AreAlike span.now.first (stretch at span.now.len row.now.positions) }
@@ -229,7 +234,7 @@ fn recount_way(counts: &mut RunCounts, way: Way, row: &LoanRow, at: u64, span: &
     }
 }
 
-/// Counts the bytes of a range, each once more or once less.
+/// Adds 1 to the count of each byte of a range, or subtracts 1.
 fn count_range(counts: &mut RunCounts, row: &LoanRow, off: u64, len: u64, up: bool)
     requires range { off + len ≤ length row.now.positions }
     requires held { up ≡ false → (a : ℕ) → stands a (addresses_of (stretch off len row.now.positions)) ≤ count counts.old a }
@@ -252,7 +257,7 @@ fn count_range(counts: &mut RunCounts, row: &LoanRow, off: u64, len: u64, up: bo
     }
 }
 
-/// Counts the bytes of extents, each once more or once less.
+/// Adds 1 to the count of each byte of extents, or subtracts 1.
 fn count_extents(counts: &mut RunCounts, extents: &[Extent], up: bool)
     requires ends { All Ends extents.now }
     requires held { up ≡ false → (a : ℕ) → stands a (addresses extents.now) ≤ count counts.old a }
@@ -266,7 +271,7 @@ fn count_extents(counts: &mut RunCounts, extents: &[Extent], up: bool)
     }
 }
 
-/// Counts the bytes of an extent once more or once less.
+/// Adds 1 to the count of each byte of an extent, or subtracts 1.
 fn count_extent(counts: &mut RunCounts, extent: &Extent, up: bool)
     requires ends { Ends extent.now }
     requires held { up ≡ false → (a : ℕ) → extent.now.pa.0 ≤ a → a < extent.now.pa.0 + extent.now.len → 0 < count counts.old a }

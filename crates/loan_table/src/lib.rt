@@ -1,4 +1,4 @@
-//! What the maps of a driver lend, and which of its bytes are Known.
+//! Keeps what the maps of a driver lend, and which of its bytes are Known.
 #![tactic(auto)]
 
 mod access;

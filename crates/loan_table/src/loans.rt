@@ -12,7 +12,7 @@ use crate::row::LoanRow;
 use crate::slot::Slot;
 use std::collections::BTreeMap;
 
-/// The positions of an open map.
+/// Returns the row of an open map.
 pub fn row_of(loans: &BTreeMap<u32, Slot>, map: u32) -> &LoanRow
     requires { IsSome (finmap.get (opened loans.now) map) }
     ensures { result.now ≡ loan_of (opened loans.now) map }
@@ -34,7 +34,7 @@ pub fn open(loans: &mut BTreeMap<u32, Slot>, map: u32)
     }
 }
 
-/// How many positions a map had that stands no longer in a table.
+/// Returns how many positions a removed map had, or 0 if there was none.
 pub fn positions_of(slot: Option<Slot>) -> u64
     ensures { result ≡ unwrap_or (option_map (λ s. length s.row.positions) slot) 0 }
 {

@@ -1,4 +1,4 @@
-//! Bytes that become Unknown.
+//! Makes bytes Unknown.
 
 ghost use Rattle.std.specs.Prelude.{◌≡◌, ◌+◌, ◌≤◌, length, false};
 ghost use Rattle.std.specs.List.{filter};
@@ -16,7 +16,7 @@ use bitflags::Flags;
 use busdma_rules::Position;
 use dma_tag::SyncOps;
 
-/// What makes bytes Unknown: a call on them, or that their map is forgotten.
+/// The cause for which bytes become Unknown: a sync call on them, or that their map is forgotten.
 #[derive(Clone, Copy)]
 pub enum Losing {
     Call(SyncOps),
@@ -24,7 +24,7 @@ pub enum Losing {
 }
 
 impl Losing {
-    /// Whether the byte of a position becomes Unknown.
+    /// Returns whether the byte of a position becomes Unknown.
     fn takes(self, position: &Position) -> bool
         ensures { result ≡ losing_test self position.now }
     {
@@ -35,7 +35,7 @@ impl Losing {
     }
 }
 
-/// Whether the byte of a position becomes Unknown by a call.
+/// Returns whether the byte of a position becomes Unknown by a sync call.
 fn loses(position: &Position, ops: SyncOps) -> bool
     ensures { result ≡ loses ops.0 position.now }
 {
@@ -44,7 +44,7 @@ fn loses(position: &Position, ops: SyncOps) -> bool
         && !(ops.contains(SyncOps::PREWRITE) || position.to_read)
 }
 
-/// Makes Unknown those bytes of a range that a call loses.
+/// Makes those bytes of a range Unknown that a sync call loses.
 pub fn lose_by_call(bytes: &mut ByteMarks, row: &LoanRow, off: u64, len: u64, ops: SyncOps)
     requires range { off + len ≤ length row.now.positions }
     requires there { AreIn bytes.old.bytes (addresses_of (stretch off len row.now.positions)) }
@@ -59,7 +59,7 @@ pub fn lose_by_call(bytes: &mut ByteMarks, row: &LoanRow, off: u64, len: u64, op
     }
 }
 
-/// Makes Unknown those bytes of a range that are lost.
+/// Makes those bytes of a range Unknown that are lost for the given cause.
 pub fn lose(bytes: &mut ByteMarks, row: &LoanRow, off: u64, len: u64, losing: Losing)
     requires range { off + len ≤ length row.now.positions }
     requires there { AreIn bytes.old.bytes (addresses_of (stretch off len row.now.positions)) }
@@ -79,7 +79,7 @@ pub fn lose(bytes: &mut ByteMarks, row: &LoanRow, off: u64, len: u64, losing: Lo
     }
 }
 
-/// Makes Unknown the bytes of a span from a position on, where they are lost.
+/// Makes the bytes of a span Unknown, from a position on, if they are lost.
 fn lose_span(bytes: &mut ByteMarks, row: &LoanRow, at: u64, span: &Span, losing: Losing)
     requires range { at + span.now.len ≤ length row.now.positions }
     requires alike { AreAlike span.now.first (stretch at span.now.len row.now.positions) }

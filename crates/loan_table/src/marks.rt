@@ -1,4 +1,4 @@
-//! Known marks by the physical addresses of bytes.
+//! Keeps the Known marks by the physical addresses of bytes.
 
 ghost use Rattle.std.specs.Prelude.{◌≡◌, ℕ, ◌+◌, ◌≤◌, ◌<◌, ◌^◌, OnOk, length};
 ghost use Rattle.std.specs.List.{All};
@@ -15,11 +15,11 @@ use run_set::RunSet;
 use std::alloc::{AllocError, Global};
 use std::marker::Model;
 
-/// Which bytes a driver has, and which of them are Known: two sets of addresses, as runs.
+/// The bytes that a driver has, and which of them are Known: two sets of physical addresses, kept as runs.
 ///
-/// Contracts see two numbers beside the bytes: `room`, for how many edges there is room where bytes
-/// become Known or Unknown, and `there_room`, for how many where bytes come or go. A change of one
-/// run needs two.
+/// Contracts see two more numbers. `room` is the number of edges for which there is room when bytes become
+/// Known or Unknown, and `there_room` the number when bytes come or go. A change of one run needs room for
+/// two edges.
 #[derive(Drop)]
 pub struct ByteMarks {
     there: RunSet,
@@ -40,7 +40,7 @@ impl Model for ByteMarks {
 }
 
 impl ByteMarks {
-    /// No byte, with room for no change.
+    /// Makes marks with no byte and no room for changes.
     pub fn new(alloc: Global) -> ByteMarks
         ensures bytes { result.bytes ≡ map.empty }
         ensures room { result.room ≡ 0 }
@@ -51,8 +51,12 @@ impl ByteMarks {
         }
     }
 
-    /// Makes room for `edges` edges where bytes become Known or Unknown, and for four where bytes come
-    /// or go. Where memory lacks the marks stay as they were.
+    /// Makes room for `edges` edges when bytes become Known or Unknown, and for four edges when bytes come or
+    /// go. The marks stay as they were.
+    ///
+    /// # Errors
+    ///
+    /// `AllocError` if memory runs out. The marks are then unchanged, and their room is not smaller.
     pub fn reserve(&mut self, edges: usize) -> Result<(), AllocError>
         ensures ok { OnOk result (edges ≤ self.new.room) }
         ensures there_ok { OnOk result (4 ≤ self.new.there_room) }
@@ -64,14 +68,15 @@ impl ByteMarks {
         self.known.reserve(edges)
     }
 
-    /// Whether a byte has the mark of a Known one.
+    /// Returns whether a byte is marked Known.
     pub fn is_known(&self, pa: u64) -> bool
         ensures { result ≡ is_marked self.now.bytes pa }
     {
         self.there.contains(pa) && self.known.contains(pa)
     }
 
-    /// A byte, `end` at the most, up to which all bytes from `start` on are Known, or all are not.
+    /// Returns an address after `start`, at most `end`. Either all bytes from `start` up to it are Known, or
+    /// none of them is.
     pub fn turn(&self, start: u64, end: u64) -> u64
         requires { start < end }
         ensures from { start < result }
@@ -83,7 +88,7 @@ impl ByteMarks {
         self.known.turn(start, turn)
     }
 
-    /// Marks `len` bytes from `pa` on that are there.
+    /// Marks `len` bytes from `pa` on Known or Unknown. The driver has these bytes already.
     pub fn set_run(&mut self, pa: u64, len: u64, known: bool)
         requires there { AreIn self.old.bytes (run_of pa len) }
         requires fits { pa + len < 2 ^ 64 }
@@ -95,7 +100,7 @@ impl ByteMarks {
         self.known.set(pa, pa + len, known);
     }
 
-    /// Adds `len` bytes from `pa` on, each Known or each Unknown.
+    /// Adds `len` bytes from `pa` on, all Known or all Unknown.
     pub fn add_run(&mut self, pa: u64, len: u64, known: bool)
         requires fits { pa + len < 2 ^ 64 }
         requires room { 2 ≤ self.old.room }
@@ -119,7 +124,7 @@ impl ByteMarks {
     }
 }
 
-/// Marks the bytes of an extent.
+/// Marks the bytes of an extent Known or Unknown.
 fn set_extent(bytes: &mut ByteMarks, extent: &Extent, known: bool)
     requires there { AreIn bytes.old.bytes (run_of extent.now.pa.0 extent.now.len) }
     requires ends { Ends extent.now }
@@ -131,7 +136,7 @@ fn set_extent(bytes: &mut ByteMarks, extent: &Extent, known: bool)
     bytes.set_run(extent.pa.0, extent.len, known);
 }
 
-/// Marks the bytes of extents.
+/// Marks the bytes of extents Known or Unknown.
 pub fn set_extents(bytes: &mut ByteMarks, extents: &[Extent], known: bool)
     requires there { AreIn bytes.old.bytes (addresses extents.now) }
     requires ends { All Ends extents.now }
@@ -145,7 +150,7 @@ pub fn set_extents(bytes: &mut ByteMarks, extents: &[Extent], known: bool)
     }
 }
 
-/// Marks the bytes of a range of a map's buffer.
+/// Marks the bytes of a range of a map's buffer Known or Unknown.
 pub fn set_range(bytes: &mut ByteMarks, row: &LoanRow, off: u64, len: u64, known: bool)
     requires range { off + len ≤ length row.now.positions }
     requires there { AreIn bytes.old.bytes (addresses_of (stretch off len row.now.positions)) }

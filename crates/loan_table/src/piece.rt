@@ -1,16 +1,16 @@
-//! Pieces and spans of a map's buffer.
+//! Pieces and spans of positions in a map's buffer.
 
 use busdma_rules::Position;
 
-/// Positions that follow one another, of bytes that follow one another, all lent alike: the first of
-/// them, and how many they are.
+/// Consecutive positions whose bytes have consecutive addresses and are all lent alike: the first position,
+/// and how many there are.
 #[derive(Clone, Copy)]
 pub struct Piece {
     pub first: Position,
     pub len: u64,
 }
 
-/// Positions that follow one another, all lent alike: the first of them, and how many they are.
+/// Consecutive positions that are all lent alike: the first position, and how many there are.
 #[derive(Clone, Copy)]
 pub struct Span {
     pub first: Position,

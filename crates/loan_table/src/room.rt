@@ -1,11 +1,15 @@
-//! How much room the marks of a table need.
+//! Computes how much room the marks of a table need.
 
 ghost use Rattle.std.specs.Prelude.{◌≡◌, ◌+◌, ◌≤◌, ◌<◌, IfOk};
 
 use std::alloc::AllocError;
 
-/// The edges to forget and to change each of so many positions once, to change so many extents
-/// before that, and to add one run. Numbers that no memory can hold are refused.
+/// Returns the number of edges for which the marks need room: to forget and to change each of `positions`
+/// positions once, to change `parts` extents before that, and to add one run.
+///
+/// # Errors
+///
+/// `AllocError` if the number is larger than any memory can hold.
 pub fn edges_for(positions: u64, parts: u64) -> Result<usize, AllocError>
     ensures { IfOk result (λ edges. edges
         ≡ positions + positions + (positions + positions) + (parts + parts) + 2) }
@@ -17,8 +21,12 @@ pub fn edges_for(positions: u64, parts: u64) -> Result<usize, AllocError>
     Ok((positions * 4 + parts * 2 + 2) as usize)
 }
 
-/// The changes of counts to forget and to change each of so many positions once. Numbers that no
-/// memory can hold are refused.
+/// Returns the number of changes for which the counts need room: to forget and to change each of `positions`
+/// positions once.
+///
+/// # Errors
+///
+/// `AllocError` if the number is larger than any memory can hold.
 pub fn changes_for(positions: u64) -> Result<usize, AllocError>
     ensures { IfOk result (λ changes. changes ≡ positions + positions) }
 {
@@ -29,7 +37,11 @@ pub fn changes_for(positions: u64) -> Result<usize, AllocError>
     Ok((positions * 2) as usize)
 }
 
-/// A sum, which is refused from 2^64 on.
+/// Returns the sum of two numbers.
+///
+/// # Errors
+///
+/// `AllocError` if the sum does not fit in 64 bits.
 pub fn sum_of(a: u64, b: u64) -> Result<u64, AllocError>
     ensures { IfOk result (λ sum. sum ≡ a + b) }
 {
@@ -39,7 +51,7 @@ pub fn sum_of(a: u64, b: u64) -> Result<u64, AllocError>
     }
 }
 
-/// For how many extents there is room after a change of so many bytes.
+/// Returns for how many extents there is room after a change of `len` bytes: for none, unless `len` is 0.
 pub fn spare_after(spare: u64, len: u64) -> u64
     ensures small { result ≤ spare }
     ensures some { 0 < result → len ≡ 0 }

@@ -1,4 +1,4 @@
-//! What one map lends.
+//! Keeps what one map lends.
 
 ghost use Rattle.std.specs.Prelude.{◌≡◌, ℕ, ◌+◌, ◌-◌, ◌≤◌, ◌<◌, ◌^◌, ◌++◌, ◌&&◌, ◌||◌, not, length};
 ghost use Rattle.std.specs.Prelude.{if◌then◌else◌, slice_index, IfOk, IfSome, [], false, true};
@@ -29,7 +29,7 @@ use run_set::{Near, RunSet};
 use std::alloc::{AllocError, Global};
 use std::marker::Model;
 
-/// A way in which a byte may be lent.
+/// A way in which a byte is lent: to write or to read.
 #[derive(Clone, Copy)]
 pub enum Way {
     ToWrite,
@@ -37,7 +37,7 @@ pub enum Way {
 }
 
 impl Way {
-    /// Whether a position is lent in this way.
+    /// Returns whether a position is lent in this way.
     pub fn passes(self, position: &Position) -> bool
         ensures { result ≡ test_of self position.now }
     {
@@ -48,7 +48,7 @@ impl Way {
     }
 }
 
-/// One map's positions: the bytes of its buffer, how many extents hold them, and the sets of those
+/// The positions of one map: the bytes of its buffer, how many extents hold them, and the sets of the
 /// positions that it lends to read and to write.
 #[derive(Drop)]
 pub struct LoanRow {
@@ -77,7 +77,11 @@ impl Model for LoanRow {
 }
 
 impl LoanRow {
-    /// A map over bytes that lends nothing. It takes the memory of a row that is gone, where that fits.
+    /// Makes a map over bytes, in order, that lends nothing. It reuses the memory of `gone`, if that fits.
+    ///
+    /// # Errors
+    ///
+    /// `AllocError` if memory runs out. The row in `gone` may then have been freed.
     pub fn over(
         alloc: Global,
         coherent: bool,
@@ -103,21 +107,21 @@ impl LoanRow {
         })
     }
 
-    /// Whether the map is coherent.
+    /// Returns whether the map is coherent.
     pub fn is_coherent(&self) -> bool
         ensures { result ≡ self.now.coherent }
     {
         self.coherent
     }
 
-    /// The number of positions.
+    /// Returns the number of positions, in bytes.
     pub fn len(&self) -> u64
         ensures { result ≡ length self.now.positions }
     {
         self.buffer.len()
     }
 
-    /// How many extents hold the bytes of a range, in order.
+    /// Returns how many extents hold the bytes of a range, in order. Each extent lies in one frame.
     pub fn extents(&self, off: u64, len: u64) -> u64
         requires { off + len ≤ length self.now.positions }
         ensures { result ≡ extent_count (addresses_of (stretch off len self.now.positions)) }
@@ -128,7 +132,7 @@ impl LoanRow {
         extent_count(&self.buffer, off, len)
     }
 
-    /// The position behind a range.
+    /// Returns the first position after a range.
     pub fn end_of(&self, off: u64, len: u64) -> u64
         requires { off + len ≤ length self.now.positions }
         ensures { result ≡ off + len }
@@ -136,8 +140,8 @@ impl LoanRow {
         self.buffer.len().min(off + len)
     }
 
-    /// The positions from one on, of bytes that follow one another, that are lent alike: by the code alone
-    /// as many as there are before `end` in one stretch.
+    /// Returns positions from `at` on whose bytes have consecutive addresses and are lent alike. The code
+    /// takes as many as there are before `end` in one stretch; the contract does not say how many.
     pub fn piece(&self, at: u64, end: u64, near: &mut usize) -> Piece
         requires some { at < end }
         requires range { end ≤ length self.now.positions }
@@ -155,7 +159,8 @@ impl LoanRow {
         }
     }
 
-    /// The positions from one on that are lent alike: by the code alone as many as there are before `end`.
+    /// Returns positions from `at` on that are lent alike. The code takes as many as there are before `end`;
+    /// the contract does not say how many.
     pub fn span(&self, at: u64, end: u64, near: &mut usize) -> Span
         requires some { at < end }
         requires range { end ≤ length self.now.positions }
@@ -167,7 +172,8 @@ impl LoanRow {
         self.span_from(run.pa.0, at, end)
     }
 
-    /// The same, where the byte of the first position is at `pa`.
+    /// Returns positions from `at` on that are lent alike, given that the byte of the first is at address
+    /// `pa`.
     fn span_from(&self, pa: u64, at: u64, end: u64) -> Span
         requires some { at < end }
         requires range { end ≤ length self.now.positions }
@@ -188,8 +194,8 @@ impl LoanRow {
         }
     }
 
-    /// Bytes that follow one another: those from a position on, up to `end` or to the end of their stretch.
-    /// They are found soon where `near` is left by a look at this stretch, or at the one before it.
+    /// Returns the bytes with consecutive addresses from position `at` on, up to `end` or to the end of their
+    /// stretch. They are found fast if `near` was left by a look at this stretch or at the one before it.
     #[inline(always)]
     pub fn stretch(&self, at: u64, end: u64, near: &mut usize) -> Extent
         requires some { at < end }
@@ -204,8 +210,8 @@ impl LoanRow {
         self.buffer.stretch(at, end, near)
     }
 
-    /// The stretches of the map's bytes, where `len` positions are all there are, and the stretches are no more than
-    /// these.
+    /// Returns all stretches of the map's bytes, if `len` is the number of all positions and there are no
+    /// more stretches than positions; otherwise `None`.
     pub fn whole(&self, len: u64) -> Option<&[Extent]>
         ensures bytes { IfSome result (λ stretches. addresses stretches.now ≡ addresses_of self.now.positions) }
         ensures ends { IfSome result (λ stretches. All Ends stretches.now) }
@@ -215,8 +221,8 @@ impl LoanRow {
         self.buffer.whole(len)
     }
 
-    /// A run in which all bytes of the map lie, where there are so many stretches that one look at that run may
-    /// save many.
+    /// Returns a run in which all bytes of the map lie. It does so only if there are so many stretches that
+    /// one look at that run may save many looks; otherwise it returns `None`.
     pub fn hull(&self) -> Option<Extent>
         ensures some { IfSome result (λ run. 0 < run.len) }
         ensures fits { IfSome result (λ run. run.pa.0 + run.len < 2 ^ 64) }
@@ -225,8 +231,8 @@ impl LoanRow {
         self.buffer.hull()
     }
 
-    /// The judgement of a range, whose first position is at a place: a position that is not lent to
-    /// write is refused by a name.
+    /// Judges a range, whose first position is byte `place` of the access: the first position that is not
+    /// lent to write is refused with the report `name`.
     pub fn judge_to_write(&self, off: u64, len: u64, name: ReportName, place: u64) -> Judged
         requires range { off + len ≤ length self.now.positions }
         requires place { place ≤ off }
@@ -242,7 +248,7 @@ impl LoanRow {
         }
     }
 
-    /// The byte at a position.
+    /// Returns the physical address of the byte at a position.
     pub fn byte_at(&self, at: u64) -> u64
         requires { at < length self.now.positions }
         ensures { result ≡ slice_index (addresses_of self.now.positions) at }
@@ -250,15 +256,15 @@ impl LoanRow {
         self.buffer.stretch(at, self.buffer.len(), &mut 0).pa.0
     }
 
-    /// Whether the byte stands at more than one position.
+    /// Returns whether a byte is at more than one position.
     pub fn stands_twice(&self, pa: u64, near: &mut Near) -> bool
         ensures { result ≡ stands_twice pa self.now }
     {
         self.buffer.stands_twice(pa, near)
     }
 
-    /// A byte, `end` at the most, up to which all bytes from `start` on stand at more than one position, or
-    /// all do not.
+    /// Returns an address after `start`, at most `end`. Either all bytes from `start` up to it are at more
+    /// than one position, or none of them is.
     pub fn turn(&self, start: u64, end: u64, near: &mut Near) -> u64
         requires { start < end }
         ensures from { start < result }
@@ -268,7 +274,7 @@ impl LoanRow {
         self.buffer.turn(start, end, near)
     }
 
-    /// At how many positions the map lends the byte of a position.
+    /// Returns at how many of its positions the map lends the byte of a position.
     pub fn lent_places(&self, way: Way, position: Position, near: &mut Near) -> u64
         requires { IsPlaced self.now position }
         ensures { result ≡ places (test_of way) position.pa self.now.positions }
@@ -282,14 +288,14 @@ impl LoanRow {
         }
     }
 
-    /// Whether no set has a place: the map lends nothing.
+    /// Returns whether both sets are empty, so that the map lends nothing.
     fn is_unlent(&self) -> bool
         ensures { result ≡ true → self.now.positions ≡ unlent_positions (addresses_of self.now.positions) }
     {
         is_empty(&self.to_read) && is_empty(&self.to_write)
     }
 
-    /// The positions are counted no more among those that are lent.
+    /// Removes the map's positions from the counts of lent bytes.
     pub fn uncount(&self, lent: &mut LentCounts)
         requires held { Holds lent.old self.now.positions }
         requires room { HasChanges lent.old (length self.now.positions) }
@@ -302,7 +308,7 @@ impl LoanRow {
         lent.forget(self);
     }
 
-    /// Makes Unknown the bytes that the map lends to write.
+    /// Makes the bytes Unknown that the map lends to write.
     pub fn lose_lent(&self, bytes: &mut ByteMarks)
         requires there { AreIn bytes.old.bytes (addresses_of self.now.positions) }
         requires room { length self.now.positions + length self.now.positions ≤ bytes.old.room }
@@ -318,7 +324,7 @@ impl LoanRow {
         losing::lose(bytes, self, 0, self.len(), Losing::Forgetting);
     }
 
-    /// Sets whether the positions of a range are lent, to read and to write, as a call leaves them.
+    /// Updates for a sync call which positions of a range are lent, to read and to write.
     pub fn mark(&mut self, off: u64, len: u64, ops: SyncOps)
         requires { off + len ≤ length self.old.positions }
         ensures coherent { self.new.coherent ≡ self.old.coherent }
@@ -335,7 +341,7 @@ impl LoanRow {
     }
 }
 
-/// At how many of a map's positions it lends a byte.
+/// Counts at how many of its positions a map lends a byte.
 fn count_lent(row: &LoanRow, way: Way, pa: u64) -> u64
     ensures { result ≡ places (test_of way) pa row.now.positions }
 {
@@ -351,7 +357,7 @@ fn count_lent(row: &LoanRow, way: Way, pa: u64) -> u64
     count
 }
 
-/// At how many positions of a piece a byte is lent: at one, or at none.
+/// Returns at how many positions of a piece a byte is lent: one or none.
 fn lent_in(piece: &Piece, way: Way, pa: u64) -> u64
     requires { piece.now.first.pa + piece.now.len < 2 ^ 64 }
     ensures is { result ≡ places_in piece.now.first.pa piece.now.len (test_of way piece.now.first) pa }
@@ -365,14 +371,14 @@ fn lent_in(piece: &Piece, way: Way, pa: u64) -> u64
     }
 }
 
-/// Whether a set has no place.
+/// Returns whether a set is empty.
 fn is_empty(set: &RunSet) -> bool
     ensures { result ≡ true → set.now.edges ≡ [] }
 {
     set.edge_count() == 0
 }
 
-/// For how many edges a row that is gone has room in each of its sets, and 0 where they are not empty.
+/// Returns for how many edges the sets of a row that is gone have room, or 0 if they are not empty.
 fn used_room(row: &LoanRow) -> usize {
     if row.is_unlent() {
         row.to_read.room().min(row.to_write.room())
@@ -381,14 +387,14 @@ fn used_room(row: &LoanRow) -> usize {
     }
 }
 
-/// Whether so much room is enough for `len` places, and not so much more that it would be wasted.
+/// Returns whether the room is enough for `len` places without wasting much.
 fn fits(room: usize, len: u64) -> bool {
     const LITTLE: u64 = 0x100;
     let room = room as u64;
     room > len && room - len > 2 && room / 8 <= len.max(LITTLE)
 }
 
-/// Takes a row that is gone, where its sets fit for `len` places.
+/// Takes a row that is gone, if its sets fit for `len` places.
 fn take_fitting(gone: &mut Option<LoanRow>, len: u64) -> Option<LoanRow> {
     let room = match gone {
         Some(row) => used_room(row),
@@ -397,7 +403,7 @@ fn take_fitting(gone: &mut Option<LoanRow>, len: u64) -> Option<LoanRow> {
     if fits(room, len) { gone.take() } else { None }
 }
 
-/// Keeps a row that is gone in place of the one that is kept, where its sets are empty and have more room.
+/// Keeps a row that is gone instead of the one kept so far, if its sets are empty and have more room.
 pub fn keep_gone(gone: &mut Option<LoanRow>, row: LoanRow) {
     let room = match gone {
         Some(before) => used_room(before),
@@ -408,7 +414,8 @@ pub fn keep_gone(gone: &mut Option<LoanRow>, row: LoanRow) {
     }
 }
 
-/// What a row that is gone leaves: its buffer and its sets. Where there is none, no buffer and new sets.
+/// Takes a row that is gone apart into its buffer and its sets, or returns no buffer and new sets if there is
+/// none.
 fn parts_of(alloc: Global, gone: Option<LoanRow>) -> (Option<Buffer>, RunSet, RunSet) {
     match gone {
         Some(row) => (Some(row.buffer), row.to_read, row.to_write),
@@ -416,7 +423,8 @@ fn parts_of(alloc: Global, gone: Option<LoanRow>) -> (Option<Buffer>, RunSet, Ru
     }
 }
 
-/// The empty set of places among `len`, with room for each change: a used set, where it is empty.
+/// Returns an empty set of places below `len`, with room for each change. It reuses the set `used`, if that
+/// is empty.
 fn places_among(alloc: Global, len: u64, used: RunSet) -> Result<RunSet, AllocError>
     ensures none { IfOk result (λ set. set.edges ≡ []) }
     ensures room { IfOk result (λ set. IsRoomy set len) }
@@ -434,8 +442,8 @@ fn places_among(alloc: Global, len: u64, used: RunSet) -> Result<RunSet, AllocEr
     Ok(places)
 }
 
-/// Puts the places of a range into a set where a call begins to lend them, or takes them out of it
-/// where a call ends that.
+/// Adds the places of a range to a set if a sync call begins to lend them, or removes them if the call ends
+/// that.
 fn mark_places(places: &mut RunSet, len: u64, start: u64, end: u64, begins: bool, ends: bool)
     requires within { end ≤ len }
     requires room { IsRoomy places.old len }
@@ -448,7 +456,7 @@ fn mark_places(places: &mut RunSet, len: u64, start: u64, end: u64, begins: bool
     }
 }
 
-/// The marks of a position after a call.
+/// Returns how a position is lent after a sync call.
 pub fn marked(position: Position, ops: SyncOps) -> Position
     ensures { result ≡ marked ops.0 position }
 {

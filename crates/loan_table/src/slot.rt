@@ -2,7 +2,7 @@
 
 use crate::held::HeldRow;
 
-/// A map of a table: whether it is open, or prepared alone; and its positions.
+/// A map in a table: whether it is open or only prepared, and its positions.
 #[derive(Drop)]
 pub struct Slot {
     pub is_open: bool,

@@ -1,4 +1,4 @@
-//! The judgement of a sync of a range of a map's buffer, and what it does.
+//! Judges a sync of a range of a map's buffer, and applies it.
 
 ghost use Rattle.std.specs.Prelude.{◌≡◌, ℕ, ◌+◌, ◌-◌, ◌<◌, ◌≤◌, ◌^◌, length, IfErr, IfOk, IsSome, None, true, false};
 ghost use Rattle.std.specs.List.{All};
@@ -36,8 +36,7 @@ use dma_tag::SyncOps;
 use run_set::Near;
 use std::collections::BTreeMap;
 
-/// Where a judgement looks first, for positions that follow one another: any value of it gives the
-/// same answers.
+/// Where a judgement begins its searches for consecutive positions. Any value of it gives the same answers.
 #[derive(Clone, Copy)]
 struct Looks {
     piece: usize,
@@ -46,7 +45,7 @@ struct Looks {
 }
 
 impl Looks {
-    /// Before the first position.
+    /// Returns the places before the first position.
     fn new() -> Looks {
         Looks {
             piece: 0,
@@ -56,7 +55,7 @@ impl Looks {
     }
 }
 
-/// Whether some map other than this one lends the byte of one of its positions.
+/// Returns whether some other map lends the byte of a position in the given way.
 fn lent_elsewhere(
     lent: &LentCounts,
     row: &LoanRow,
@@ -75,7 +74,7 @@ fn lent_elsewhere(
     count > row.lent_places(way, position, &mut looks.places)
 }
 
-/// Whether some map other than this one lends the byte of one of its positions, to read or to write.
+/// Returns whether some other map lends the byte of a position, to read or to write.
 fn lent_in_any_way_elsewhere(
     lent: &LentCounts,
     row: &LoanRow,
@@ -92,7 +91,7 @@ fn lent_in_any_way_elsewhere(
     lent_elsewhere(lent, row, Way::ToWrite, position, looks)
 }
 
-/// What PREWRITE meets at a position.
+/// Returns the report of a PREWRITE of a position, or `None` if it is allowed.
 fn prewrite_refusal(
     lent: &LentCounts,
     row: &LoanRow,
@@ -112,7 +111,7 @@ fn prewrite_refusal(
     }
 }
 
-/// What PREREAD meets at a position.
+/// Returns the report of a PREREAD of a position, or `None` if it is allowed.
 fn preread_refusal(
     lent: &LentCounts,
     row: &LoanRow,
@@ -134,14 +133,15 @@ fn preread_refusal(
     }
 }
 
-/// What POSTREAD meets at a position.
+/// Returns the report of a POSTREAD of a position, or `None` if it is allowed.
 fn postread_refusal(position: Position) -> Option<ReportName>
     ensures { result ≡ postread_refusal position }
 {
     (!position.to_write).then_some(ReportName::SyncOrder)
 }
 
-/// What a call meets at a position: SyncOrder before Overlap, whatever the operations.
+/// Returns the report of a sync call on a position, or `None` if it is allowed. SyncOrder comes before
+/// Overlap, whatever the operations.
 fn sync_refusal(
     lent: &LentCounts,
     row: &LoanRow,
@@ -170,9 +170,9 @@ fn sync_refusal(
     }
 }
 
-/// A number of bytes of a piece, from the first on, that meet what the first meets: they are lent at as
-/// many positions, and stand more than once exactly if it does. It is 1 where the first stands more than
-/// once and is lent.
+/// Returns for how many bytes of a piece, from the first on, the answer is the same as for the first: they
+/// are lent at as many positions, and each of them is at more than one position exactly if the first is. The
+/// number is 1 if the first is at more than one position and is lent.
 fn same_len(lent: &LentCounts, row: &LoanRow, piece: &Piece, looks: &mut Looks) -> u64
     requires some { 0 < piece.now.len }
     requires fits { piece.now.first.pa + piece.now.len < 2 ^ 64 }
@@ -196,7 +196,7 @@ fn same_len(lent: &LentCounts, row: &LoanRow, piece: &Piece, looks: &mut Looks) 
     lent.turn_near(start, turn, &mut looks.lent) - start
 }
 
-/// The judgement of a range of a map's positions, by a call that begins no lending.
+/// Judges a range of a map's positions for a sync call that begins no lending.
 fn judge_ends(row: &LoanRow, ops: SyncOps, off: u64, len: u64) -> Judged
     requires range { off + len ≤ length row.now.positions }
     requires no_preread { preread ops.0 ≡ false }
@@ -211,7 +211,7 @@ fn judge_ends(row: &LoanRow, ops: SyncOps, off: u64, len: u64) -> Judged
     }
 }
 
-/// The judgement of a range of a map's positions.
+/// Judges a range of a map's positions for any sync call.
 fn judge(lent: &LentCounts, row: &LoanRow, ops: SyncOps, off: u64, len: u64) -> Judged
     requires range { off + len ≤ length row.now.positions }
     ensures { (lender : Lender) → IsOf lent.now row.now lender → let range = stretch off len row.now.positions in
@@ -225,7 +225,7 @@ fn judge(lent: &LentCounts, row: &LoanRow, ops: SyncOps, off: u64, len: u64) -> 
     }
 }
 
-/// Whether no byte of a run is seen to stand at more than one position.
+/// Returns whether it is easily seen that no byte of a run is at more than one position.
 fn stand_once(row: &LoanRow, run: &Extent, near: &mut Near) -> bool
     requires some { 0 < run.now.len }
     requires fits { run.now.pa.0 + run.now.len < 2 ^ 64 }
@@ -239,7 +239,8 @@ fn stand_once(row: &LoanRow, run: &Extent, near: &mut Near) -> bool
     run.len == 1 || row.turn(start, start + run.len, near) == start + run.len
 }
 
-/// Whether a call is seen to meet nothing at the bytes of a run, wherever they stand: no map lends them.
+/// Returns whether it is easily seen that a sync call is allowed for all bytes of a run, at any position,
+/// because no map lends them.
 fn passes(
     lent: &LentCounts,
     row: &LoanRow,
@@ -261,7 +262,7 @@ fn passes(
     !ops.contains(SyncOps::PREREAD) || stand_once(row, run, &mut looks.places)
 }
 
-/// A number of positions, from one on, at which a call meets nothing; or what it meets at the first.
+/// Returns how many positions from one on a sync call is allowed for, or the report of the first.
 fn judge_next(
     lent: &LentCounts,
     row: &LoanRow,
@@ -296,7 +297,8 @@ fn judge_next(
     }
 }
 
-/// Whether a call is seen to meet nothing at the bytes of a map, by one look at a run in which all of them lie.
+/// Returns whether it is easily seen that a sync call is allowed for all bytes of a map, by one look at a run
+/// in which they lie.
 fn passes_whole(lent: &LentCounts, row: &LoanRow, ops: SyncOps) -> bool
     ensures { result ≡ true → (lender : Lender) → IsOf lent.now row.now lender →
         All (λ p. sync_refusal lender.loans lender.map ops.0 p ≡ None) row.now.positions }
@@ -314,7 +316,7 @@ fn passes_whole(lent: &LentCounts, row: &LoanRow, ops: SyncOps) -> bool
     )
 }
 
-/// The judgement of a range of a map's positions, in order.
+/// Judges a range of a map's positions, in order.
 fn judge_each(lent: &LentCounts, row: &LoanRow, ops: SyncOps, off: u64, len: u64) -> Judged
     requires range { off + len ≤ length row.now.positions }
     ensures { (lender : Lender) → IsOf lent.now row.now lender → let range = stretch off len row.now.positions in
@@ -336,7 +338,7 @@ fn judge_each(lent: &LentCounts, row: &LoanRow, ops: SyncOps, off: u64, len: u64
     Judged::Fine
 }
 
-/// The answer of a call on a range.
+/// Judges a sync call on a range of a map's buffer.
 pub fn answer(
     lent: &LentCounts,
     loans: &BTreeMap<u32, Slot>,
@@ -358,7 +360,7 @@ pub fn answer(
     }
 }
 
-/// Makes Unknown the bytes that a call on a range loses.
+/// Makes the bytes Unknown that a sync call on a range loses.
 pub fn lose(
     bytes: &mut ByteMarks,
     loans: &BTreeMap<u32, Slot>,
@@ -383,7 +385,7 @@ pub fn lose(
     }
 }
 
-/// Counts what the positions of a range lend after a call.
+/// Counts what the positions of a range lend after a sync call.
 pub fn count(
     lent: &mut LentCounts,
     loans: &BTreeMap<u32, Slot>,
@@ -405,7 +407,8 @@ pub fn count(
     }
 }
 
-/// Sets whether the positions of a range are lent, as a call leaves them; those of a coherent map stay.
+/// Updates for a sync call which positions of a range are lent. The positions of a coherent map do not
+/// change.
 pub fn mark(loans: &mut BTreeMap<u32, Slot>, map: u32, off: u64, len: u64, ops: SyncOps)
     requires there { IsSome (finmap.get (opened loans.old) map) }
     requires range { off + len ≤ length (loan_of (opened loans.old) map).positions }

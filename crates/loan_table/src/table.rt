@@ -1,4 +1,4 @@
-//! Known marks and loans of one driver.
+//! Keeps the Known marks and the loans of one driver.
 
 ghost use Rattle.std.specs.Prelude.{◌≡◌, ℕ, ◌+◌, ◌≤◌, ◌<◌, ◌^◌, OnOk, OnErr, IsNone, IsSome, length, slice_index};
 ghost use Rattle.std.specs.Prelude.{false, true, Some, None, if◌then◌else◌};
@@ -32,10 +32,10 @@ use std::alloc::{AllocError, Global};
 use std::collections::BTreeMap;
 use std::marker::Model;
 
-/// Which of a driver's bytes are Known, and what its loaded maps lend. Maps are told apart by the
-/// places in the driver's script that made them. Bytes are named by their physical addresses.
+/// Which of a driver's bytes are Known, and what its loaded maps lend. A map is named by the place in the
+/// driver's script that made it, and a byte by its physical address. This project's own rule.
 ///
-/// Contracts see a number beside the table: `spare`, for how many extents there is room to change.
+/// Contracts see one more number: `spare`, for how many extents there is room to change.
 #[derive(Drop)]
 pub struct LoanTable {
     bytes: ByteMarks,
@@ -43,7 +43,7 @@ pub struct LoanTable {
     lent: LentCounts,
     positions: u64,
     spare: u64,
-    /// The row of a map that is gone, where one is kept: a new map takes its memory where that fits.
+    /// The row of a map that is gone, if one is kept: a new map reuses its memory if it fits.
     gone: Option<LoanRow>,
 }
 
@@ -67,7 +67,7 @@ impl Model for LoanTable {
 }
 
 impl LoanTable {
-    /// A table with no byte and no map.
+    /// Makes a table with no byte and no map.
     pub fn new(alloc: Global) -> LoanTable
         ensures bytes { result.bytes ≡ finmap.empty }
         ensures loans { result.loans ≡ finmap.empty }
@@ -84,7 +84,11 @@ impl LoanTable {
         }
     }
 
-    /// Adds `len` bytes from `pa` on, each Known or each Unknown.
+    /// Adds `len` bytes from `pa` on, all Known or all Unknown.
+    ///
+    /// # Errors
+    ///
+    /// `AllocError` if memory runs out. The table is then unchanged, except that it may have more room.
     pub fn add_bytes(
         &mut self,
         alloc: Global,
@@ -107,7 +111,7 @@ impl LoanTable {
         Ok(())
     }
 
-    /// Adds `len` bytes from `pa` on within the room for one extent.
+    /// Adds `len` bytes from `pa` on, all Known or all Unknown, within the room for one extent.
     pub fn add_reserved(&mut self, pa: Pa, len: u64, known: bool)
         requires below { pa.0 + len ≤ 2 ^ 42 }
         requires fresh { AreNew self.old.bytes (run_of pa.0 len) }
@@ -121,7 +125,7 @@ impl LoanTable {
         self.spare = 0;
     }
 
-    /// Takes `len` bytes from `pa` on out of the table, within the room for one extent.
+    /// Removes `len` bytes from `pa` on from the table, within the room for one extent.
     pub fn drop_bytes(&mut self, pa: Pa, len: u64)
         requires there { AreIn self.old.bytes (run_of pa.0 len) }
         requires free { AreFree self.old.loans (run_of pa.0 len) }
@@ -136,8 +140,12 @@ impl LoanTable {
         self.spare = 0;
     }
 
-    /// Adds a map over the bytes of a buffer, in order. It lends none of them yet; a coherent map
-    /// never does. What was prepared for the map is forgotten.
+    /// Adds a map over the bytes of a buffer, in order. It lends none of them yet; a coherent map never does.
+    /// Anything that was prepared for the map is forgotten.
+    ///
+    /// # Errors
+    ///
+    /// `AllocError` if memory runs out. The table is then unchanged, except that it may have more room.
     pub fn add_map(
         &mut self,
         alloc: Global,
@@ -158,8 +166,12 @@ impl LoanTable {
         self.put_map(alloc, map, bytes, coherent, true)
     }
 
-    /// Prepares a map over the bytes of a buffer, in order, so that it can be opened without memory. What was
-    /// prepared for the map before is forgotten.
+    /// Prepares a map over the bytes of a buffer, in order, so that it can be opened without memory. Anything
+    /// that was prepared for the map before is forgotten.
+    ///
+    /// # Errors
+    ///
+    /// `AllocError` if memory runs out. The table is then unchanged, except that it may have more room.
     pub fn prepare_map(
         &mut self,
         alloc: Global,
@@ -180,7 +192,7 @@ impl LoanTable {
         self.put_map(alloc, map, bytes, coherent, false)
     }
 
-    /// Adds a map that was prepared.
+    /// Opens a map that was prepared.
     pub fn open_map(&mut self, map: MapId)
         requires { IsPrepared self.old map.made_at }
         ensures loans { self.new.loans
@@ -192,7 +204,7 @@ impl LoanTable {
         open(&mut self.loans, map.made_at);
     }
 
-    /// Puts a map over the bytes of a buffer, open or prepared, in the place of what was prepared.
+    /// Puts a map over the bytes of a buffer, open or prepared, in place of what was prepared.
     fn put_map(
         &mut self,
         alloc: Global,
@@ -252,8 +264,13 @@ impl LoanTable {
         self.positions -= positions_of(gone);
     }
 
-    /// Makes room to change `parts` extents. It fails only where that room was missing. Each change
-    /// within it may use it up, however few extents it changes.
+    /// Makes room to change `parts` extents. Each change within this room may use it up, however few extents
+    /// it changes.
+    ///
+    /// # Errors
+    ///
+    /// `AllocError` if memory runs out; this happens only if the table lacked the room. Its bytes and maps
+    /// are then unchanged.
     pub fn reserve(&mut self, alloc: Global, parts: u32) -> Result<(), AllocError>
         ensures room { OnOk result (parts ≤ self.new.spare) }
         ensures missing { OnErr result (self.old.spare < parts) }
@@ -270,8 +287,11 @@ impl LoanTable {
         Ok(())
     }
 
-    /// A sync before the device's work, of `len` bytes from `off` on in a map's buffer. A refusal
-    /// names the first byte that stands in the way, by its offset in the buffer.
+    /// Applies a sync before the device's work to `len` bytes from `off` on in a map's buffer. A refusal
+    /// names the first byte that is refused, by its offset in the buffer.
+    ///
+    /// `ops` has neither POSTREAD nor POSTWRITE. A refusal leaves the table as it was. After
+    /// `bus_dmamap_sync(9)`.
     pub fn lend(&mut self, map: MapId, off: u64, len: u64, ops: SyncOps) -> Judged
         requires there { HasMap self.old map.made_at }
         requires range { off + len ≤ length (buffer_of self.old map.made_at) }
@@ -286,8 +306,11 @@ impl LoanTable {
         self.sync(map, off, len, ops)
     }
 
-    /// A sync after the device's work, of `len` bytes from `off` on in a map's buffer. A refusal
-    /// names the first byte that stands in the way, by its offset in the buffer.
+    /// Applies a sync after the device's work to `len` bytes from `off` on in a map's buffer. A refusal names
+    /// the first byte that is refused, by its offset in the buffer.
+    ///
+    /// `ops` has neither PREREAD nor PREWRITE. A refusal leaves the table as it was. After
+    /// `bus_dmamap_sync(9)`.
     pub fn give_back(&mut self, map: MapId, off: u64, len: u64, ops: SyncOps) -> Judged
         requires there { HasMap self.old map.made_at }
         requires range { off + len ≤ length (buffer_of self.old map.made_at) }
@@ -302,7 +325,7 @@ impl LoanTable {
         self.sync(map, off, len, ops)
     }
 
-    /// A sync of a range.
+    /// Applies a sync to a range of a map's buffer.
     fn sync(&mut self, map: MapId, off: u64, len: u64, ops: SyncOps) -> Judged
         requires there { HasMap self.old map.made_at }
         requires range { off + len ≤ length (buffer_of self.old map.made_at) }
@@ -323,8 +346,8 @@ impl LoanTable {
         answer
     }
 
-    /// Whether the driver may read bytes. A refusal names the first byte that stands in the way, by
-    /// its offset among them.
+    /// Judges whether the driver may read bytes. A refusal names the first byte that is refused, by its
+    /// offset in the access.
     pub fn may_cpu_read(&self, bytes: &[Extent]) -> Judged
         requires there { AreIn self.now.bytes (addresses bytes.now) }
         requires total { byte_count bytes.now < 2 ^ 64 }
@@ -333,8 +356,8 @@ impl LoanTable {
         access::judge_extents(&self.bytes, &self.lent, Access::Read, bytes)
     }
 
-    /// Whether the driver may write bytes. A refusal names the first byte that stands in the way,
-    /// by its offset among them.
+    /// Judges whether the driver may write bytes. A refusal names the first byte that is refused, by its
+    /// offset in the access.
     pub fn may_cpu_write(&self, bytes: &[Extent]) -> Judged
         requires there { AreIn self.now.bytes (addresses bytes.now) }
         requires total { byte_count bytes.now < 2 ^ 64 }
@@ -343,8 +366,8 @@ impl LoanTable {
         access::judge_extents(&self.bytes, &self.lent, Access::Write, bytes)
     }
 
-    /// Whether the device may read `len` bytes from `off` on in a map's buffer. A refusal names the
-    /// first byte that stands in the way, by its offset in the access.
+    /// Judges whether the device may read `len` bytes from `off` on in a map's buffer. A refusal names the
+    /// first byte that is refused, by its offset in the access.
     pub fn may_dev_read(&self, map: MapId, off: u64, len: u64) -> Judged
         requires there { HasMap self.now map.made_at }
         requires range { off + len ≤ length (buffer_of self.now map.made_at) }
@@ -355,8 +378,8 @@ impl LoanTable {
         access::judge_range(&self.bytes, row, row.is_coherent(), Access::Read, off, len)
     }
 
-    /// Whether the device may write `len` bytes from `off` on in a map's buffer. A refusal names
-    /// the first byte that stands in the way, by its offset in the access.
+    /// Judges whether the device may write `len` bytes from `off` on in a map's buffer. A refusal names the
+    /// first byte that is refused, by its offset in the access.
     pub fn may_dev_write(&self, map: MapId, off: u64, len: u64) -> Judged
         requires there { HasMap self.now map.made_at }
         requires range { off + len ≤ length (buffer_of self.now map.made_at) }
@@ -366,7 +389,8 @@ impl LoanTable {
         access::judge_range(&self.bytes, row, row.is_coherent(), Access::Write, off, len)
     }
 
-    /// The same of a device that must be lent the bytes, even those of a coherent map.
+    /// Judges whether the device may read a range, if the bytes of a coherent map must be lent too. A refusal
+    /// names the first byte that is refused, by its offset in the access.
     pub fn may_dev_read_lent(&self, map: MapId, off: u64, len: u64) -> Judged
         requires there { HasMap self.now map.made_at }
         requires range { off + len ≤ length (buffer_of self.now map.made_at) }
@@ -377,7 +401,8 @@ impl LoanTable {
         access::judge_range(&self.bytes, row, false, Access::Read, off, len)
     }
 
-    /// The same of a device's write.
+    /// Judges whether the device may write a range, if the bytes of a coherent map must be lent too. A
+    /// refusal names the first byte that is refused, by its offset in the access.
     pub fn may_dev_write_lent(&self, map: MapId, off: u64, len: u64) -> Judged
         requires there { HasMap self.now map.made_at }
         requires range { off + len ≤ length (buffer_of self.now map.made_at) }
@@ -387,7 +412,7 @@ impl LoanTable {
         access::judge_range(&self.bytes, row, false, Access::Write, off, len)
     }
 
-    /// Marks bytes Known that the driver has written, within the room for so many extents.
+    /// Marks the bytes Known that the driver has written, within the room for as many extents.
     pub fn note_write(&mut self, bytes: &[Extent])
         requires there { AreIn self.old.bytes (addresses bytes.now) }
         requires total { byte_count bytes.now < 2 ^ 64 }
@@ -401,7 +426,7 @@ impl LoanTable {
         self.spare -= bytes.len() as u64;
     }
 
-    /// Marks bytes Known that the device has written: `len` bytes from `off` on in a map's buffer.
+    /// Marks the bytes Known that the device has written: `len` bytes from `off` on in a map's buffer.
     pub fn note_dev_write(&mut self, map: MapId, off: u64, len: u64)
         requires there { HasMap self.old map.made_at }
         requires range { off + len ≤ length (buffer_of self.old map.made_at) }
@@ -417,7 +442,7 @@ impl LoanTable {
         self.spare = spare_after(self.spare, len);
     }
 
-    /// The number of bytes of a map's buffer.
+    /// Returns the number of bytes of a map's buffer.
     pub fn len_of(&self, map: MapId) -> u64
         requires { HasMap self.now map.made_at }
         ensures is { result ≡ length (buffer_of self.now map.made_at) }
@@ -426,21 +451,21 @@ impl LoanTable {
         row_of(&self.loans, map.made_at).len()
     }
 
-    /// No map's buffer has 2^64 bytes.
+    /// States that every map's buffer has fewer than 2^64 bytes.
     pub fn buffers_are_short(&self)
         ensures { (m : ℕ) → length (buffer_of self.now m) < 2 ^ 64 }
     {
         let _positions = self.positions;
     }
 
-    /// Whether a byte is Known.
+    /// Returns whether a byte is Known.
     pub fn is_known(&self, pa: Pa) -> bool
         ensures { result ≡ is_known self.now pa.0 }
     {
         self.bytes.is_known(pa.0)
     }
 
-    /// The byte at an offset in a map's buffer.
+    /// Returns the physical address of the byte at an offset in a map's buffer.
     pub fn byte_at(&self, map: MapId, at: u64) -> Pa
         requires there { HasMap self.now map.made_at }
         requires range { at < length (buffer_of self.now map.made_at) }
@@ -450,7 +475,8 @@ impl LoanTable {
         Pa(row_of(&self.loans, map.made_at).byte_at(at))
     }
 
-    /// An extent of a map's buffer: the bytes from a place on that follow one another in one frame, up to `end`.
+    /// Returns an extent of a map's buffer: the bytes from offset `at` on with consecutive addresses in one
+    /// frame, before `end`.
     pub fn extent(&self, map: MapId, at: u64, end: u64) -> Extent
         requires there { HasMap self.now map.made_at }
         requires some { at < end }
@@ -463,8 +489,8 @@ impl LoanTable {
         in_one_frame(run)
     }
 
-    /// How many extents hold `len` bytes from `off` on in a map's buffer, in order, each in one frame:
-    /// for so many must there be room where they are lent, given back or written.
+    /// Returns how many extents hold `len` bytes from `off` on in a map's buffer, in order, each in one
+    /// frame. To lend these bytes, give them back or write them takes room for as many extents.
     pub fn extents(&self, map: MapId, off: u64, len: u64) -> u64
         requires there { HasMap self.now map.made_at }
         requires range { off + len ≤ length (buffer_of self.now map.made_at) }

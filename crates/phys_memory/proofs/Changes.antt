@@ -1,4 +1,4 @@
--- A memory after its maps changed.
+-- A memory after a change of its two maps.
 use Rattle.std.proofs.Common.{◌≡◌, ℕ, ◌+◌, ◌/◌, ◌%◌, ◌≤◌, true, false, cond, List, length, refl, ap, sym, ◌∙◌, subst}
 use Rattle.std.proofs.Common.{inl, inr, arith, Bor, MutBor}
 use Rattle.std.specs.Prelude.{Option, Some, None, is_some, nat_eq}
@@ -17,7 +17,7 @@ use Rattle.phys_memory.proofs.Kept.{get-frames, has_frame-kept, contents_inserte
 use Rattle.phys_memory.proofs.Kept.{memory_with_bytes}
 use Rattle.phys_memory.proofs.FrameBytes.{length-overwritten, rewritten_is, wire-rewritten}
 
--- what a look-up finds after an entry was put at k, or taken from k where it is `None`
+-- the entries after a value was put at key k, or removed there if it is `None`
 abbrev pub Puts : {X : Type 0} → List (ℕ × X) → List (ℕ × X) → ℕ → Option X → Type 0
 Puts es fs k o = (q : ℕ) → lookup (nat_eq q) fs ≡ cond (nat_eq k q) o (lookup (nat_eq q) es)
 
@@ -92,12 +92,12 @@ page_found rows pages v r is at here = found (lookup (nat_eq r.frame) pages) ref
             page_of (memory_of rows pages) (Some r) ≡ Some p
         same n b = rw b (ap (λ k. Some (record { frame = k; bytes = p.bytes })) (sym n))
 
--- what the memory has of a frame whose page a look-up finds
+-- the frame of a memory, given its page that a look-up finds
 pub frame_found : (rows : List (ℕ × Reach)) (pages : List (ℕ × FrameBytes)) (f : ℕ) (page : FrameBytes) →
     lookup (nat_eq f) pages ≡ Some page → get (memory_of rows pages).frames f ≡ Some page.bytes
 frame_found rows pages f page h = get-frames pages f ∙ ap (option_map (λ (x : FrameBytes). x.bytes)) h
 
--- a page of the memory, and the same after bytes were written into it
+-- a page of the memory after bytes were written into it
 abbrev pub page_after : FrameBytes → ℕ → List ℕ → FrameBytes
 page_after page at bytes = record page { bytes = overwritten page.bytes at bytes }
 
@@ -109,7 +109,7 @@ memory_rewritten rows pages fresh pa page bytes here h =
     two refl (contents_inserted pages fresh (pa / 4096) (page_after page (pa % 4096) bytes) h)
     ∙ sym (rewritten_is (memory_of rows pages) pa page.bytes bytes (frame_found rows pages (pa / 4096) page here))
 
--- and what is kept then
+-- the invariant after bytes were written into a page
 pub kept_rewritten : (rows : List (ℕ × Reach)) (pages fresh : List (ℕ × FrameBytes)) (pa : ℕ) (page : FrameBytes)
     (bytes : List ℕ) → IsMemory (memory_of rows pages) → lookup (nat_eq (pa / 4096)) pages ≡ Some page →
     pa % 4096 + length bytes ≤ 4096 → Puts pages fresh (pa / 4096) (Some (page_after page (pa % 4096) bytes)) →

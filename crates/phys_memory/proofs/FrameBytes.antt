@@ -68,7 +68,7 @@ place_of pa n a = elim (cases_lt a pa) [
   | inr h ↦ elim (cases_lt a (pa + n)) [ inl k ↦ inside h k | inr k ↦ after k ]
 ]
 
--- a place of a list after bytes were written into it
+-- the element at a place of a list after others were written over it
 pub get_or-overwritten : (old : List ℕ) (at : ℕ) (new : List ℕ) (i : ℕ) → at + length new ≤ length old →
     get_or (overwritten old at new) i 0 ≡ (if in_run at (length new) i then get_or new (i - at) 0 else get_or old i 0)
 get_or-overwritten old at new i h =
@@ -92,7 +92,7 @@ get_or-overwritten old at new i h =
           ∙ ap (λ b. if b then get_or new (i - at) 0 else get_or old i 0) (sym (in_run_after at (length new) i k))
     ]
 
--- the same by addresses, in one frame and in others
+-- a byte by its address after bytes were written, in the same frame and in others
 pub at_address : (pa n a : ℕ) → pa % 4096 + n ≤ 4096 → a / 4096 ≡ pa / 4096 →
     in_run (pa % 4096) n (a % 4096) ≡ in_run pa n a
 at_address pa n a h q = elim (place_of pa n a) [
@@ -115,7 +115,7 @@ pub length-overwritten : (old : List ℕ) (at : ℕ) (new : List ℕ) → at + l
     length (overwritten old at new) ≡ length old
 length-overwritten old at new h = simp (length-append, length-take, length-drop) (omega arith)
 
--- the memory after a write, where the bytes of the frame are known
+-- the memory after a write, given the bytes of the frame
 pub rewritten_is : (m : Memory) (pa : ℕ) (old new : List ℕ) → get m.frames (pa / 4096) ≡ Some old →
     rewritten m pa new ≡ record m { frames = insert m.frames (pa / 4096) (overwritten old (pa % 4096) new) }
 rewritten_is m pa old new here =
@@ -143,6 +143,6 @@ module _ (m : Memory) (pa : ℕ) (old new : List ℕ) (here : get m.frames (pa /
             ∙ ap (λ b. if b then get_or new (a - pa) 0 else wire m a) (sym (elsewhere pa (length new) a fits t.1))
       ]
 
-  -- exactly the run changes
+  -- a write changes exactly the bytes of its run
   pub wire-rewritten : wire (rewritten m pa new) ≡ written pa new (wire m)
   wire-rewritten = ap wire (rewritten_is m pa old new here) ∙ fun_ext wire_at

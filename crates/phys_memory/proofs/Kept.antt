@@ -1,4 +1,4 @@
--- What every memory keeps, through its changes.
+-- The invariant of every memory, kept through its changes.
 use Rattle.std.proofs.Common.{◌≡◌, ℕ, ◌/◌, ◌^◌, ◌<◌, ◌≤◌, Bool, true, false, cond, List, [], length, refl, ap, sym}
 use Rattle.std.proofs.Common.{◌∙◌, subst, inl, inr, ◌≢◌}
 use Rattle.std.specs.Prelude.{Option, Some, None, is_some, nat_eq, IfSome}
@@ -31,7 +31,7 @@ is_some-mapped : {A B : Type 0} (f : A → B) (o : Option A) → is_some (option
 is_some-mapped f None = refl
 is_some-mapped f (Some x) = refl
 
--- a memory has a frame where its pages do
+-- a memory has a frame exactly if its pages do
 pub has_frame-kept : (rows : List (ℕ × Reach)) (pages : List (ℕ × FrameBytes)) (q : ℕ) →
     has_frame (memory_of rows pages) q ≡ is_some (lookup (nat_eq q) pages)
 has_frame-kept rows pages q =
@@ -146,7 +146,7 @@ memory_without_row m v r is here = record {
   whole = λ f bytes h. is.whole f bytes (got_removed m.frames r.frame f bytes h).1;
 }
 
--- a frame may have other bytes
+-- a memory is still a memory after a frame gets other bytes
 pub memory_with_bytes : (m : Memory) (f : ℕ) (bytes : List ℕ) → IsMemory m → has_frame m f ≡ true →
     length bytes ≡ 4096 → IsMemory (record m { frames = insert m.frames f bytes })
 memory_with_bytes m f bytes is has whole = record {
@@ -167,7 +167,7 @@ memory_with_bytes m f bytes is has whole = record {
     number None e s = absurd (cc)
     number (Some old) e s = is.numbered f old e
 
--- what is known of a row that was found
+-- what the invariant says of a row that was found
 pub row_is : (m : Memory) (v : ℕ) (o : Option Reach) → IsMemory m → get m.table v ≡ o → IfSome o (IsReachOf m)
 row_is m v None is here = tt
 row_is m v (Some r) is here = record {

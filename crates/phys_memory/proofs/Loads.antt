@@ -48,7 +48,7 @@ entry_first r (e ∷ es) ps some h =
     (others_behind r es ps ∙ ap (λ xs. es ++ xs) h ∙ append-nil es)
     ∙ ap (λ xs. record { rounded = r; parts = e ∷ es } ∷ xs) (entries_behind r es ps)
 
--- nothing of an entry stands before the first that opens
+-- no part of an entry comes before the first part that opens an entry
 opens_first : (r : Bool) (es : List Extent) (ps : List Part) → 0 < length es →
     others_of (extent_parts true r es ++ ps) ≡ []
 opens_first r [] ps some = absurd (omega arith)
@@ -192,7 +192,7 @@ bytes_front (Of e true r ∷ xs) ys =
 bytes_front (Of e false r ∷ xs) ys = bytes_front xs ys
 bytes_front (Unmapped n ∷ xs) ys = bytes_front xs ys
 
--- a front of the stream of a load is one too
+-- a front of the stream of a load is the stream of a load
 front_loads : (xs ys : List Part) → IsStream (xs ++ ys) → IsStream xs
 front_loads xs ys h =
     let f = others_front xs ys in
@@ -208,6 +208,6 @@ given_first : (ps xs rest : List Part) → Yields (YieldsFirst (λ (qs : List Pa
 given_first ps [] rest y = y
 given_first ps (x ∷ xs) rest y = y.1 ∙ ap (λ ys. x ∷ ys) (given_first y.0 xs rest y.2)
 
--- what a stream of a load gives is such a stream at each point
+-- what a stream of a load has left is the stream of a load at each point
 pub along_loads : (ps : List Part) → IsStream ps → HoldsAlong (YieldsFirst (λ (qs : List Part). qs)) ps IsStream
 along_loads ps h xs rest y = front_loads xs rest (subst IsStream (given_first ps xs rest y) h)

@@ -1,4 +1,4 @@
--- What stands in the wire where pages hold the bytes of their frames.
+-- The wire if pages hold the bytes of their frames.
 use Rattle.std.proofs.Common.{◌≡◌, ◌≢◌, ℕ, zero, suc, ◌+◌, ◌-◌, ◌*◌, ◌/◌, ◌%◌, ◌<◌, ◌≤◌, ◌==◌, true, false, cond}
 use Rattle.std.proofs.Common.{List, [], ◌∷◌, length, map, take, drop, drop-cons, get_or, set, refl, sym, ap, ◌∙◌, inl}
 use Rattle.std.proofs.Common.{inr, arith}
@@ -16,7 +16,7 @@ use Rattle.phys_memory.specs.Memory.{Memory, has_frame, written}
 use Rattle.phys_memory.proofs.FrameBytes.{in_run, at_address, elsewhere, offset_in_frame, get_or-overwritten}
 use Rattle.phys_memory.proofs.Writing.{written_run}
 
--- what stands at a place that a list of pages does not have
+-- the value that is read beyond the end of a list of pages
 pub no_page : FrameBytes
 no_page = record { frame = 0; bytes = [] }
 
@@ -67,7 +67,7 @@ page_at (p ∷ ps) (suc i) w a d h e =
     other_pages p ps w a (λ q. first_differs p ps i d (omega arith) (sym q ∙ e))
     ∙ page_at ps i w a (later_differ p ps d) (omega arith) e
 
--- one of the pages is another page of the same frame now
+-- a page is replaced by another page of the same frame
 pub page_replaced : (ps : List FrameBytes) (i : ℕ) (new : FrameBytes) (w : Wire) →
     AllPairs (λ f g. f ≢ g) (frames_of ps) → i < length ps → new.frame ≡ (get_or ps i no_page).frame →
     with_bytes_of (set ps i new) w ≡ with_bytes_of (new ∷ []) (with_bytes_of ps w)
@@ -97,7 +97,7 @@ page_replaced ps i new w d h e = fun_ext (at ps i d h e)
             with_bytes_of (new ∷ []) (with_bytes_of ps w) a ≡ with_bytes_of (new ∷ []) (with_bytes_of (p ∷ ps) w) a
         under q = ap (λ x. cond (a / 4096 == new.frame) (page_byte new a) x) (sym q)
 
--- a page among pages has no other bytes than they show
+-- the pages show the bytes of each page among them
 pub page_shown : (ps : List FrameBytes) (i : ℕ) (w : Wire) → AllPairs (λ f g. f ≢ g) (frames_of ps) → i < length ps →
     with_bytes_of (get_or ps i no_page ∷ []) (with_bytes_of ps w) ≡ with_bytes_of ps w
 page_shown ps i w d h = fun_ext (λ a. elim (eqb_tells (a / 4096) (get_or ps i no_page).frame) [
@@ -105,7 +105,7 @@ page_shown ps i w d h = fun_ext (λ a. elim (eqb_tells (a / 4096) (get_or ps i n
   | inr t ↦ other_pages (get_or ps i no_page) [] (with_bytes_of ps w) a t.1
 ])
 
--- bytes that are put where no page is
+-- bytes that are put at addresses of no page
 pub put_under : (ps : List FrameBytes) (keys vs : List ℕ) (w : Wire) →
     AllByRecursion (λ a. IsNone ps (a / 4096)) keys →
     with_bytes_of ps (put keys vs w) ≡ put keys vs (with_bytes_of ps w)

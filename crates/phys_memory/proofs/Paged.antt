@@ -50,7 +50,7 @@ module _ (t : Translation) (page frame reach : ℕ) (is : HasPage t page frame r
       ∙ ap (λ j. run_of (p + 1) n ++ reached t (4096 * page + j) k) end)
 
   module _ (keeps : KeepsPlaces t) where
-    -- what comes after the bytes of the page that were taken
+    -- the bytes after those that were taken of a page begin a frame
     begins_after : (i n left : ℕ) → n ≡ min (reach - i) left → i < reach →
         BeginsFrame (reached t (4096 * page + (i + n)) (left - n))
     begins_after i n left e inside = elim (cases_lt (reach - i) left) [

@@ -37,7 +37,7 @@ row_page m at r here = record {
       ∙ ap (λ (t : Bool). if t then Some (4096 * r.frame + i) else None) (le-ltb i r.reach h);
 }
 
--- a byte stands at one place in its page and in its frame
+-- a byte is at the same place in its page and in its frame
 memory_places : (m : Memory) → KeepsPlaces (physical m)
 memory_places m a p h = placed (row_at m a) h
   where

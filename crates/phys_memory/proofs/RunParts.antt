@@ -7,7 +7,7 @@ use Rattle.busdma_machine.specs.Runs.{run_of}
 same_run : (a b m n : ℕ) → a ≡ b → m ≡ n → run_of a m ≡ run_of b n
 same_run a b m n e f = ap (λ x. run_of x m) e ∙ ap (run_of b) f
 
--- a run without its first addresses, and its first addresses alone
+-- the end and the start of a run of addresses
 pub drop_run : (k a n : ℕ) → drop k (run_of a n) ≡ run_of (a + k) (n - k)
 drop_run zero a n = same_run a (a + 0) n (n - 0) (omega arith) (omega arith)
 drop_run (suc k) a zero = let e : 0 ≡ 0 - suc k = omega arith in ap (run_of (a + suc k)) e
@@ -44,7 +44,7 @@ drop_append (suc n) (x ∷ xs) ys =
     let e : n - length xs ≡ suc n - suc (length xs) = omega arith in
     drop_append n xs ys ∙ ap (λ k. drop n xs ++ drop k ys) e
 
--- a run is two runs, of which the second goes on where the first ends
+-- a run is two runs: the second begins at the end of the first
 pub run_append : (a m n : ℕ) → run_of a (m + n) ≡ run_of a m ++ run_of (a + m) n
 run_append a zero n = same_run a (a + 0) (0 + n) n (omega arith) (omega arith)
 run_append a (suc m) n =
@@ -79,7 +79,7 @@ all_take P zero xs h = tt
 all_take P (suc n) [] h = tt
 all_take P (suc n) (x ∷ xs) h = (h.0, all_take P n xs h.1)
 
--- the same is read at each of these addresses
+-- two functions that agree on these addresses read the same bytes
 pub same_reads : (keys : List ℕ) (f g : ℕ → ℕ) → AllByRecursion (λ a. f a ≡ g a) keys → map f keys ≡ map g keys
 same_reads [] f g h = refl
 same_reads (a ∷ keys) f g h = let p = h.0 in let q = same_reads keys f g h.1 in λ i. p i ∷ q i

@@ -37,6 +37,6 @@ same_rewritten m pa bs h = record { table = refl; frames = at }
 pub same_refl : (m : Memory) → SamePages m m
 same_refl m = record { table = refl; frames = λ f. refl }
 
--- two changes, neither of which changes a page
+-- two changes in turn, if no page changes in them
 pub same_trans : (m n o : Memory) → SamePages m n → SamePages n o → SamePages m o
 same_trans m n o h k = record { table = k.table ∙ h.table; frames = λ f. k.frames f ∙ h.frames f }

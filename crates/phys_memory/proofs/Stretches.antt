@@ -17,7 +17,7 @@ use Rattle.phys_memory.proofs.Tables.{get_inserted, get_removed}
 abbrev pub Table : Type 0
 Table = FinMap nat_cmp Reach
 
--- ---- what the tests tell
+-- ---- what the tests say
 
 follows_tells : (from count next : ℕ) → follows from count next ≡ true → next ≡ from + count
 follows_tells from count next h = elim (leb_tells from next) [
@@ -87,7 +87,7 @@ known_removed t p s away is = record {
   fits = is.fits;
 }
 
--- a stretch with a page more
+-- a stretch with one more page
 one_more : (t : Table) (p f : ℕ) (s : Stretch) → get t p ≡ None → p < 2 ^ 52 → f < 2 ^ 30 →
     p ≡ s.page + s.count → f ≡ s.frame + s.count → IsKnown t s →
     IsKnown (insert t p (whole f)) (record s { count = s.count + 1 })
@@ -225,7 +225,7 @@ all_cut t p ss s here are =
       slot = is.slot;
     })
 
--- the stretches after one was changed in its place
+-- the stretches after one was changed at its place
 pub length_set : (ss : List Stretch) (k : ℕ) (s : Stretch) → length (slice_set ss k s) ≡ length ss
 length_set [] k s = refl
 length_set (x ∷ ss) zero s = refl

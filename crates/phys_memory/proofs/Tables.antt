@@ -28,7 +28,7 @@ module _ {X : Type 0} where
   pub get_removed : (m : FinMap nat_cmp X) (k q : ℕ) → get (remove m k) q ≡ cond (nat_eq q k) None (get m q)
   get_removed m k q = get-remove nat_cmp_total m k q ∙ ap (λ b. cond b None (get m q)) (unsigned_tied q k)
 
-  -- maps that have the same everywhere are one
+  -- maps with the same value at each key are equal
   pub same_numbered : (m n : FinMap nat_cmp X) → ((q : ℕ) → get m q ≡ get n q) → m ≡ n
   same_numbered m n same = same_map nat_cmp_total nat_cmp-IsAntisymmetric m n same
 

@@ -95,7 +95,7 @@ spans_one rounded t va n =
     ∙ elim (nat_eq (length (reached t va n)) n) as (λ b. ps ++ then_parts (last rounded t 0 one [] b) [] ≡ ps
     ++ last rounded t 0 one [] b) [ true ↦ refl | false ↦ refl ]
 
--- where the walk has entries, they are those of the stream
+-- the entries of a walk, if it has them, are those of the stream
 pub walk_stream : (rounded : Bool) (t : Translation) (spans : List Span) →
     IfAll (spans_walk rounded t spans) (λ es. spans_stream rounded t spans ≡ parts_of es)
 walk_stream rounded t spans = by_judgement (judged_spans t 0 spans)
@@ -182,7 +182,7 @@ module _ (rounded : Bool) (t : Translation) (before : List Entry) (offset : ℕ)
       past [] f.whole (no_entry rounded here (entries_of rounded t ss) f.are)
       ∙ ap (λ es. walk_from rounded t es (offset + s.len) ss) (append-nil before)
 
-  -- the walk at a span of which not all are
+  -- the walk at a span of which not all bytes are reached
   pub stopped : (at : ℕ) → Unmapped at ≡ walk_of here s.len →
       walk_from rounded t before offset (s ∷ ss) ≡ walk.Unmapped (offset + at)
   stopped at h =
@@ -194,7 +194,7 @@ module _ (rounded : Bool) (t : Translation) (before : List Entry) (offset : ℕ)
 pub missed_inside : (t : Translation) (va n at : ℕ) → Unmapped at ≡ walk_of (reached t va n) n → at ≤ n
 missed_inside t va n at h = omega (arith, (missed (reached t va n) n at h).is, length-reached t va n)
 
--- what is left after an empty stream, where the next span begins
+-- what is left after an empty stream, at the start of the next span
 pub next_span : (t : Translation) (now ps : List Part) (offset : ℕ) (spans : List Span) (s : Span) (ss : List Span) →
     now ≡ [] → spans ≡ s ∷ ss → ps ≡ flat_at true t offset s.va.0 s.len →
     then_parts ps (spans_at true t (offset + s.len) ss) ≡ then_parts now (spans_at true t offset spans)

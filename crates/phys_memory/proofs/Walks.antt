@@ -48,7 +48,7 @@ verdict-walk_of t va n =
     ≡ (if b then Fine else refused_at (0 + l))) [ true ↦ refl | false ↦ ap refused_at zero_plus ]
     ∙ sym (judged-run t va n 0 []) ∙ ap (judged (unreached t) 0) (append-nil (run_of va n))
 
--- what holds of the extents of a walk that is whole
+-- what holds of the extents of a walk that found all bytes
 if_parts : (pas : List ℕ) (n : ℕ) (P : List Extent → Type 0) →
     (length pas ≡ n → P (extents_of pas)) → IfParts (walk_of pas n) P
 if_parts pas n P h = whole (nat_eq (length pas) n) refl

@@ -6,13 +6,13 @@ use Rattle.std.specs.FinMap.{FinMap, code}
 use Rattle.phys_memory.specs.declared.reach.Reach.{Reach}
 use Rattle.phys_memory.specs.Memory.{Roomy}
 
--- a reach as the pair of its fields
+-- the code of a reach, as the pair of its fields
 abbrev pub reach_code : Coded Reach
 reach_code =
     code_by (ℕ × ℕ) (coded× coded_ℕ coded_ℕ) (λ r. (r.frame, r.reach))
     (λ p. record { frame = p.0; reach = p.1 }) (λ _. refl)
 
--- a memory with its room as the tuple of its parts
+-- the code of a memory with its room, as the tuple of its parts
 abbrev pub roomy_code : Coded Roomy
 roomy_code =
     code_by

@@ -1,4 +1,4 @@
--- Extents in the frames of a memory, and the next of a walk.
+-- Extents in the frames of a memory, and the next extent of a walk.
 use Rattle.std.specs.Prelude.{◌≡◌, ℕ, ◌+◌, ◌/◌, ◌%◌, ◌-◌, ◌≤◌, true, List, [], ◌∷◌, ◌++◌}
 use Rattle.busdma_machine.specs.declared.machine.address.Extent.{Extent}
 use Rattle.busdma_machine.specs.Runs.{IsExtent, run_of}
@@ -6,7 +6,7 @@ use Rattle.phys_memory.specs.Memory.{Memory, has_frame}
 use Rattle.busdma_rules.specs.Memory.Translation.{Translation}
 use Rattle.busdma_rules.specs.Memory.Extents.{reached_addresses}
 
--- the extent lies in a frame of the memory
+-- the first byte of the extent is in a frame of the memory
 abbrev pub LiesIn : Memory → Extent → Type 0
 LiesIn m e = has_frame m (e.pa.0 / 4096) ≡ true
 
@@ -15,7 +15,8 @@ abbrev pub BeginsFrame : List ℕ → Type 0
 BeginsFrame [] = Unit {0}
 BeginsFrame (pa ∷ pas) = pa % 4096 ≡ 0
 
--- the extent has the first of n bytes from a virtual address on, and all after it that can be reached in its frame
+-- the extent has the first of n bytes from a virtual address on, and all bytes after it that can be reached
+-- in its frame
 pub record IsNext (t : Translation) (va n : ℕ) (e : Extent) : Type 0 where
   pub extent : IsExtent e
   pub short : e.len ≤ n

@@ -1,4 +1,4 @@
--- Frames of a memory, and pages that lie beside it.
+-- Frames of a memory, and pages that are not in it.
 use Rattle.std.specs.Prelude.{◌≡◌, ◌≢◌, ℕ, false, List}
 use Rattle.std.specs.List.{All, AllByRecursion, AllPairs}
 use Rattle.busdma_machine.specs.declared.machine.address.Extent.{Extent}
@@ -6,7 +6,7 @@ use Rattle.busdma_machine.specs.Runs.{IsExtent}
 use Rattle.phys_memory.specs.Extents.{LiesIn}
 use Rattle.phys_memory.specs.Memory.{Memory, has_frame}
 
--- extents of a memory's frames, each with a byte and in one frame
+-- these extents lie in the memory's frames; each has a byte and lies in one frame
 pub record Lie (m : Memory) (es : List Extent) : Type 0 where
   pub extents : AllByRecursion IsExtent es
   pub frames : AllByRecursion (LiesIn m) es

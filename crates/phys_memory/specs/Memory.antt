@@ -1,4 +1,4 @@
--- The memory of a driver. A page has 4096 bytes, at virtual addresses and in a frame alike.
+-- The memory of a driver. A page has 4096 bytes, both at virtual addresses and in a frame.
 use Rattle.std.specs.Prelude.{◌≡◌, ℕ, ◌+◌, ◌*◌, ◌/◌, ◌%◌, ◌-◌, ◌^◌, ◌<◌, ◌≤◌, Bool, true, ◌&&◌, if◌then◌else◌, nat_lt}
 use Rattle.std.specs.Prelude.{nat_le, List, [], length, slice_index, Option, Some, None, unwrap_or}
 use Rattle.std.specs.Ordering.{nat_cmp}
@@ -7,7 +7,8 @@ use Rattle.phys_memory.specs.declared.reach.Reach.{Reach}
 use Rattle.busdma_machine.specs.Machine.Page.{FrameBytes, overwritten}
 use Rattle.busdma_rules.specs.Memory.Translation.{Translation}
 
--- the virtual pages by their number, the virtual address / 4096, and the bytes of the frames by theirs
+-- a driver's pages by their number (the virtual address / 4096), and the bytes of its frames by the frame's
+-- number
 pub record Memory : Type 0 where
   pub table : FinMap nat_cmp Reach
   pub frames : FinMap nat_cmp (List ℕ)
@@ -17,44 +18,44 @@ pub record Roomy : Type 0 where
   pub memory : Memory
   pub spare : ℕ
 
--- the physical address of a byte of a page, where it can be reached
+-- the physical address of a byte of a page, if the byte can be reached
 abbrev pub reached_in : Option Reach → ℕ → Option ℕ
 reached_in None at = None
 reached_in (Some r) at = if nat_lt at r.reach then Some (4096 * r.frame + at) else None
 
--- the row of the page of a virtual address; there is none from 2^64 on
+-- the row of the page of a virtual address, if there is one; none from 2^64 on
 abbrev pub row_at : Memory → ℕ → Option Reach
 row_at m va = if nat_lt va (2 ^ 64) then get m.table (va / 4096) else None
 
--- the physical address of a virtual one, where the driver can reach it
+-- the physical address of a virtual address, if the driver can reach it
 abbrev pub physical : Memory → Translation
 physical m va = reached_in (row_at m va) (va % 4096)
 
--- the byte of a frame at a place, or 0 without the frame
+-- the byte of a frame at a place, or 0 if there is no frame
 abbrev pub byte_in : Option (List ℕ) → ℕ → ℕ
 byte_in None at = 0
 byte_in (Some bytes) at = slice_index bytes at
 
--- the byte at a physical address, or 0 where the memory has no such frame
+-- the byte at a physical address, or 0 if the memory has no such frame
 abbrev pub wire : Memory → ℕ → ℕ
 wire m pa = byte_in (get m.frames (pa / 4096)) (pa % 4096)
 
--- whether a frame of this number is in the memory
+-- whether the memory has the frame with this number
 abbrev pub has_frame : Memory → ℕ → Bool
 has_frame m frame = contains_key m.frames frame
 
--- whether there is a page at this virtual address
+-- whether there is a page at a virtual address
 abbrev pub has_page : Memory → ℕ → Bool
 has_page m va = contains_key m.table (va / 4096)
 
--- the memory with a page more, at a virtual address, of which so many first bytes can be reached
+-- the memory with one more page, at a virtual address, of which a number of first bytes can be reached
 abbrev pub with_page : Memory → ℕ → FrameBytes → ℕ → Memory
 with_page m va page reach = record {
   table = insert m.table (va / 4096) (record { frame = page.frame; reach = reach });
   frames = insert m.frames page.frame page.bytes;
 }
 
--- what `add` answers: the page, where that virtual page is taken
+-- the page that `add` hands back: the given one, if there is a page at the virtual address already
 abbrev pub handed_back : Memory → ℕ → FrameBytes → Option FrameBytes
 handed_back m va page = if has_page m va then Some page else None
 
@@ -67,11 +68,11 @@ abbrev pub page_of : Memory → Option Reach → Option FrameBytes
 page_of m None = None
 page_of m (Some r) = Some (record { frame = r.frame; bytes = unwrap_or (get m.frames r.frame) [] })
 
--- the page at a virtual address
+-- the page at a virtual address, if there is one
 abbrev pub page_at : Memory → ℕ → Option FrameBytes
 page_at m va = page_of m (get m.table (va / 4096))
 
--- the memory without a virtual page, which has this row, and without its frame
+-- the memory without the virtual page that has this row, and without its frame
 abbrev pub without_row : Memory → ℕ → Option Reach → Memory
 without_row m v None = m
 without_row m v (Some r) = record { table = remove m.table v; frames = remove m.frames r.frame }
@@ -80,18 +81,18 @@ without_row m v (Some r) = record { table = remove m.table v; frames = remove m.
 abbrev pub without_page : Memory → ℕ → Memory
 without_page m va = without_row m (va / 4096) (get m.table (va / 4096))
 
--- the memory after bytes were written into a frame, from a physical address on
+-- the memory after bytes were written into one frame, from a physical address on
 abbrev pub rewritten : Memory → ℕ → List ℕ → Memory
 rewritten m pa bytes =
     let frame = unwrap_or (get m.frames (pa / 4096)) [] in
     record m { frames = insert m.frames (pa / 4096) (overwritten frame (pa % 4096) bytes) }
 
--- what stands at each address after bytes were written from one on; w stood there before
+-- the byte at each address after bytes were written from an address on; w has the bytes before that
 abbrev pub written : ℕ → List ℕ → (ℕ → ℕ) → ℕ → ℕ
 written pa bytes w a = if nat_le pa a && nat_lt a (pa + length bytes) then slice_index bytes (a - pa) else w a
 
--- each page has a frame of its own that is in the memory, and 4096 bytes of it at most are reached; frames have
--- numbers below 2^30, and 4096 bytes
+-- each page has a frame of its own that is in the memory, and at most 4096 bytes of it can be reached; each
+-- frame has a number below 2^30 and 4096 bytes
 pub record IsMemory (m : Memory) : Type 0 where
   pub reached : (v : ℕ) (r : Reach) → get m.table v ≡ Some r → r.reach ≤ 4096
   pub there : (v : ℕ) (r : Reach) → get m.table v ≡ Some r → has_frame m r.frame ≡ true
@@ -99,7 +100,7 @@ pub record IsMemory (m : Memory) : Type 0 where
   pub numbered : (f : ℕ) (bytes : List ℕ) → get m.frames f ≡ Some bytes → f < 2 ^ 30
   pub whole : (f : ℕ) (bytes : List ℕ) → get m.frames f ≡ Some bytes → length bytes ≡ 4096
 
--- what is known of a row of a memory
+-- each row of a memory has a frame of the memory below 2^30, and at most 4096 bytes of it can be reached
 pub record IsReachOf (m : Memory) (r : Reach) : Type 0 where
   pub reached : r.reach ≤ 4096
   pub there : has_frame m r.frame ≡ true

@@ -1,4 +1,4 @@
-//! The bytes of frames by their physical addresses.
+//! Reads and writes the bytes of frames by their physical addresses.
 
 ghost use Rattle.std.specs.Prelude.{◌≡◌, ◌+◌, ◌/◌, ◌%◌, ◌≤◌, true, false, length, map};
 ghost use Rattle.busdma_machine.specs.Runs.{run_of};
@@ -8,7 +8,7 @@ use crate::pages::LanePages;
 use busdma_machine::Pa;
 
 impl LanePages {
-    /// The bytes from a physical address on, which lie in one frame of the memory.
+    /// Returns `len` bytes from physical address `pa` on. They lie in one frame of the memory.
     pub fn bytes_at(&self, pa: Pa, len: u64) -> &[u8]
         requires there { has_frame self.now.memory (pa.0 / 4096) ≡ true }
         requires inside { pa.0 % 4096 + len ≤ 4096 }
@@ -19,7 +19,7 @@ impl LanePages {
         &page.bytes()[at..at + len as usize]
     }
 
-    /// Copies the bytes from a physical address on, which lie in one frame of the memory.
+    /// Copies the bytes from physical address `pa` on into `out`. They lie in one frame of the memory.
     pub fn read(&self, pa: Pa, out: &mut [u8])
         requires there { has_frame self.now.memory (pa.0 / 4096) ≡ true }
         requires inside { pa.0 % 4096 + length out.old ≤ 4096 }
@@ -28,7 +28,7 @@ impl LanePages {
         out.copy_from_slice(self.bytes_at(pa, out.len() as u64));
     }
 
-    /// Writes bytes from a physical address on, into one frame of the memory.
+    /// Writes bytes from physical address `pa` on, into one frame of the memory.
     pub fn write(&mut self, pa: Pa, bytes: &[u8])
         requires there { has_frame self.old.memory (pa.0 / 4096) ≡ true }
         requires inside { pa.0 % 4096 + length bytes.now ≤ 4096 }
@@ -40,7 +40,8 @@ impl LanePages {
         page.write((pa.0 % 4096) as usize, bytes);
     }
 
-    /// The same, where the frame is in the memory: whether it is, is told.
+    /// Writes bytes from physical address `pa` on, if the memory has the frame. Returns whether it has; if
+    /// not, nothing changes.
     pub fn write_if_there(&mut self, pa: Pa, bytes: &[u8]) -> bool
         requires inside { pa.0 % 4096 + length bytes.now ≤ 4096 }
         ensures there { result ≡ has_frame self.old.memory (pa.0 / 4096) }

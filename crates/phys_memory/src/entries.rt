@@ -1,4 +1,4 @@
-//! Walks that give entries.
+//! Walks that return entries.
 
 ghost use Rattle.std.specs.Prelude.{◌≡◌, ◌+◌, ◌^◌, ◌<◌, IfOk, map};
 ghost use Rattle.std.specs.List.{AllByRecursion};
@@ -15,8 +15,7 @@ use crate::walk::Walked;
 use busdma_machine::{Entry, EntryList, Span, Va};
 use std::alloc::{AllocError, Global};
 
-/// The entries of a buffer, or the offset in the whole buffer of the first byte that cannot be
-/// reached.
+/// The entries of a buffer, or the offset in the buffer of the first byte that cannot be reached.
 #[derive(Debug, Drop)]
 pub enum Entries {
     All(EntryList),
@@ -24,7 +23,13 @@ pub enum Entries {
 }
 
 impl LanePages {
-    /// The entries of `len` virtual bytes: one, or none where there is no byte.
+    /// Returns the entries of `len` bytes from virtual address `va` on: one entry, or none if `len` is 0.
+    ///
+    /// Returns `Unmapped` if a byte cannot be reached.
+    ///
+    /// # Errors
+    ///
+    /// `AllocError` if memory runs out.
     pub fn walk_flat(&self, alloc: Global, va: Va, len: u64) -> Result<Entries, AllocError>
         ensures walk { IfOk result (λ w. w ≡ vector_walk (physical self.now.memory) (one_span va.0 len)) }
         ensures addresses { let pas = map (physical_or_0 (physical self.now.memory)) (run_of va.0 len) in
@@ -37,7 +42,13 @@ impl LanePages {
         self.walk_vector(alloc, &[Span { va, len }])
     }
 
-    /// The entries of a vector, in order: one for each span that has a byte.
+    /// Returns the entries of a vector, in order: one for each span that has a byte.
+    ///
+    /// Returns `Unmapped` if a byte cannot be reached.
+    ///
+    /// # Errors
+    ///
+    /// `AllocError` if memory runs out.
     pub fn walk_vector(&self, alloc: Global, spans: &[Span]) -> Result<Entries, AllocError>
         requires { span_bytes spans.now < 2 ^ 64 }
         ensures walk { IfOk result (λ w. w ≡ vector_walk (physical self.now.memory) spans.now) }
@@ -50,7 +61,7 @@ impl LanePages {
         ensures frames { let lies = LiesIn self.now.memory in
             IfOk result (λ w. IfAll w (AllByRecursion (λ e. AllByRecursion lies e.parts))) }
     {
-        // For what is true of every memory.
+        // Reading the field gives the proof the invariant of the memory.
         let _ = &self.table;
         let mut entries = Vec::new(alloc);
         let mut offset = 0;

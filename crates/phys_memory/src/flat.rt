@@ -1,4 +1,4 @@
-//! The parts of virtual bytes.
+//! Iterates over the parts of virtual bytes.
 
 ghost use Rattle.std.specs.Prelude.{◌≡◌, ℕ, ◌+◌, ◌-◌, ◌*◌, ◌/◌, ◌%◌, ◌^◌, ◌<◌, ◌≤◌, IfSome, IfNone, None, Some, true};
 ghost use Rattle.std.specs.Prelude.{[]};
@@ -18,8 +18,8 @@ use crate::stretch::Stretch;
 use busdma_machine::{Extent, Pa, Part, Va};
 use std::marker::Model;
 
-/// The parts of virtual bytes, in order: their extents, up to the first byte that cannot be
-/// reached, and then `Unmapped` with the offset of that byte.
+/// The parts of virtual bytes, in order: their extents up to the first byte that cannot be reached, and then
+/// `Unmapped` with the offset of that byte.
 #[derive(Drop)]
 pub struct FlatParts<'a> {
     memory: &'a LanePages,
@@ -53,7 +53,7 @@ impl<'a> Iterator for FlatParts<'a> {
 
     ghost remaining = { item_count (λ s. s) };
 
-    // A part costs less than a call that hands it on through memory.
+    // Inlined, because a part costs less than the call that returns it through memory.
     #[inline(always)]
     fn next(&mut self) -> Option<Part> {
         if self.left == 0 {
@@ -82,7 +82,7 @@ impl<'a> Iterator for FlatParts<'a> {
 }
 
 impl<'a> FlatParts<'a> {
-    // Leaves nothing.
+    // Ends the iteration.
     pub(crate) fn stop(&mut self)
         ensures { self.new ≡ [] }
     {
@@ -91,27 +91,28 @@ impl<'a> FlatParts<'a> {
 }
 
 impl LanePages {
-    /// The parts of `len` virtual bytes, which are those of the vector of one such span.
+    /// Returns the parts of `len` bytes from virtual address `va` on. They are the parts of a vector with
+    /// only this span.
     pub fn parts_flat(&self, va: Va, len: u64) -> FlatParts<'_>
         ensures parts { result ≡ flat (physical self.now.memory) va.0 len }
         ensures vector { result ≡ vector (physical self.now.memory) (one_span va.0 len) }
         ensures walk { IfAll (vector_walk (physical self.now.memory) (one_span va.0 len)) (λ es. result ≡ parts_of es) }
         ensures sound { IsMemory self.now.memory }
 
-        // Up to 2^20 bytes are the stream of a load, and so is each front of it.
+        // Up to 2^20 bytes are the stream of a load, and so is each front of this stream.
         ensures stream { len ≤ 2 ^ 20 → IsStream result }
         ensures along { len ≤ 2 ^ 20 → HoldsAlong (YieldsFirst (λ ps. ps)) result IsStream }
     {
         self.parts_at(va, len, 0)
     }
 
-    // The same for bytes whose first stands at an offset of the load.
+    // Returns the parts of bytes of which the first is at `offset` in the load.
     pub(crate) fn parts_at(&self, va: Va, len: u64, offset: u64) -> FlatParts<'_>
         requires { offset + len < 2 ^ 64 }
         ensures parts { result ≡ flat_at true (physical self.now.memory) offset va.0 len }
         ensures sound { IsMemory self.now.memory }
     {
-        // For what is true of every memory.
+        // Reading the field gives the proof the invariant of the memory.
         let _ = &self.table;
         FlatParts {
             memory: self,
@@ -123,7 +124,8 @@ impl LanePages {
         }
     }
 
-    // The extent of the first of `left` bytes from a virtual address on, and of those after it in its page.
+    // Returns the extent of the first of `left` bytes from a virtual address on, with the bytes after it in
+    // its page.
     fn extent_at(&self, known: Stretch, at: u128, left: u64) -> Option<Extent>
         requires known { IsKnown self.now.memory.table known }
         requires some { 0 < left }
@@ -141,7 +143,7 @@ impl LanePages {
         })
     }
 
-    // The row of the page of a virtual address.
+    // Returns the row of the page of a virtual address.
     #[inline(never)]
     pub(crate) fn row_at(&self, at: u128) -> Option<Reach>
         ensures is { result ≡ row_at self.now.memory at }

@@ -1,4 +1,4 @@
-//! The memory of one driver: its pages at virtual addresses, and the bytes of their frames.
+//! Keeps the memory of one driver: its pages at virtual addresses, and the bytes of their frames.
 #![tactic(auto)]
 
 mod bytes;

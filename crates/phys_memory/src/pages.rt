@@ -11,8 +11,8 @@ use std::alloc::{AllocError, Global};
 use std::collections::HashMap;
 use std::marker::Model;
 
-/// The memory of one driver: pages of 4096 bytes with virtual addresses, of each of which the
-/// first bytes, or all, can be reached there.
+/// The memory of one driver: pages of 4096 bytes at virtual addresses. Of each page the driver can reach the
+/// first bytes, or all.
 #[derive(Drop)]
 pub struct LanePages {
     pub(crate) table: HashMap<u64, Reach>,
@@ -37,7 +37,7 @@ impl Model for LanePages {
 }
 
 impl LanePages {
-    /// A memory with no pages.
+    /// Makes a memory with no pages.
     pub fn new(alloc: Global) -> LanePages
         ensures table { result.memory.table ≡ empty }
         ensures frames { result.memory.frames ≡ empty }
@@ -49,7 +49,11 @@ impl LanePages {
         }
     }
 
-    /// Gives room for so many more pages.
+    /// Makes room for `pages` more pages.
+    ///
+    /// # Errors
+    ///
+    /// `AllocError` if memory runs out. The pages are then unchanged, and the room is not smaller.
     pub fn reserve(&mut self, alloc: Global, pages: u32) -> Result<(), AllocError>
         ensures memory { self.new.memory ≡ self.old.memory }
         ensures room { OnOk result (pages ≤ self.new.spare) }
@@ -60,8 +64,12 @@ impl LanePages {
         self.frames.reserve(pages as usize)
     }
 
-    /// Adds a page at a virtual address, of which the first `reach` bytes can be reached. It comes
-    /// back where that virtual page is taken, and is dropped where memory for it runs out.
+    /// Adds a page at virtual address `va`, of which the first `reach` bytes can be reached. Returns the page
+    /// if there is a page at that virtual address already, and `None` if it was added.
+    ///
+    /// # Errors
+    ///
+    /// `AllocError` if memory runs out. The memory is then unchanged, and `page` is dropped.
     pub fn add(
         &mut self,
         alloc: Global,
@@ -81,7 +89,8 @@ impl LanePages {
         Ok(self.add_reserved(va, page, reach))
     }
 
-    /// The same, where there is room for the page.
+    /// Adds a page at virtual address `va` within the room, so that it takes no memory. Returns the page if
+    /// there is a page at that virtual address already, and `None` if it was added.
     pub fn add_reserved(&mut self, va: Va, page: Page, reach: u64) -> Option<Page>
         requires room { 0 < self.old.spare }
         requires aligned { va.0 % 4096 ≡ 0 }
@@ -105,7 +114,8 @@ impl LanePages {
         None
     }
 
-    /// Takes the page at a virtual address out, with the bytes that it holds.
+    /// Removes the page at virtual address `va` and returns it with its bytes. Returns `None` if there is no
+    /// such page.
     pub fn remove(&mut self, va: Va) -> Option<Page>
         ensures page { result ≡ page_at self.old.memory va.0 }
         ensures memory { self.new.memory ≡ without_page self.old.memory va.0 }
@@ -118,7 +128,7 @@ impl LanePages {
         self.frames.remove(&row.frame)
     }
 
-    /// Whether a frame of this number is in the memory.
+    /// Returns whether the memory has the frame with this number.
     pub fn has_frame(&self, frame: u64) -> bool
         ensures is { result ≡ has_frame self.now.memory frame }
         ensures sound { IsMemory self.now.memory }
@@ -127,7 +137,7 @@ impl LanePages {
     }
 }
 
-// The number of a page's frame.
+// Returns the number of a page's frame, and states that the page has 4096 bytes.
 fn whole_frame(page: &Page) -> u64
     ensures number { result ≡ page.now.frame }
     ensures below { result < 2 ^ 30 }

@@ -1,4 +1,4 @@
-//! Pages that follow one another.
+//! Stretches of consecutive pages.
 
 ghost use Rattle.std.specs.Prelude.{◌≡◌, ◌+◌, ◌^◌, ◌<◌, IfSome};
 ghost use Rattle.phys_memory.specs.Memory.{IsReachOf, row_at};
@@ -8,8 +8,8 @@ ghost use Rattle.phys_memory.specs.Stretches.{no_stretch, slot_of};
 use crate::pages::LanePages;
 use crate::reach::Reach;
 
-/// Whole pages that follow one another, at virtual addresses and in frames alike: `count` of them, from a
-/// virtual page and its frame on.
+/// Consecutive pages in consecutive frames that can be reached completely: `count` pages from a virtual page
+/// and its frame on.
 #[derive(Clone, Copy)]
 pub(crate) struct Stretch {
     page: u64,
@@ -18,7 +18,7 @@ pub(crate) struct Stretch {
 }
 
 impl Stretch {
-    /// The stretch of no page.
+    /// Returns the stretch of no page.
     pub(crate) fn none() -> Stretch
         ensures { result ≡ no_stretch }
     {
@@ -35,7 +35,7 @@ impl Stretch {
         self.page <= page && page - self.page < self.count
     }
 
-    /// The frame of a page, where the stretch has it.
+    /// Returns the frame of a page, or `None` if the stretch does not have the page.
     fn frame_of(self, page: u64) -> Option<u64>
         requires { self.frame + self.count < 2 ^ 64 }
         ensures { result ≡ frame_in self page }
@@ -46,15 +46,16 @@ impl Stretch {
         Some(self.frame + (page - self.page))
     }
 
-    // Whether a page in this frame is the next behind it.
+    // Returns whether the stretch goes on with this page in this frame.
     fn goes_on(self, page: u64, frame: u64) -> bool
         ensures { result ≡ goes_on self page frame }
     {
         follows(self.page, self.count, page) && follows(self.frame, self.count, frame)
     }
 
-    /// With a page more, which no stretch has, where it is whole. Where the stretch does not go on with it, the page
-    /// begins one of its own, but in the place of a short one alone.
+    /// Returns the stretch after a page was added that no stretch has. The stretch is extended if it goes on
+    /// with the page. Otherwise a stretch of only this page replaces it, unless it is long. A page that
+    /// cannot be reached completely changes nothing.
     pub(crate) fn grown(self, page: u64, row: Reach) -> Stretch
         requires { page < 2 ^ 52 }
         ensures { result ≡ grown self page row }
@@ -85,7 +86,7 @@ impl Stretch {
         }
     }
 
-    /// Without a page and those behind it.
+    /// Returns the stretch without a page and the pages after it.
     pub(crate) fn cut(self, page: u64) -> Stretch
         ensures { result ≡ cut_at self page }
     {
@@ -99,15 +100,15 @@ impl Stretch {
     }
 }
 
-// Whether a number is the next behind `count` that begin with `from`.
+// Returns whether `next` is the number after `count` numbers from `from` on.
 fn follows(from: u64, count: u64, next: u64) -> bool
     ensures { result ≡ follows from count next }
 {
     from <= next && next - from == count
 }
 
-/// The place at which a memory keeps the stretch of a page, where it keeps one. It is the same for all
-/// pages of a window of 256.
+/// Returns the place at which a memory keeps the stretch of a page, if it keeps one. All pages of a window of
+/// 256 have the same place.
 pub(crate) fn slot_of(page: u64) -> usize
     ensures is { result ≡ slot_of page }
     ensures low { result < 16 }
@@ -117,8 +118,8 @@ pub(crate) fn slot_of(page: u64) -> usize
 }
 
 impl LanePages {
-    /// A stretch of this memory, which has the page of a virtual address where `known` has it or the memory keeps
-    /// one that does.
+    /// Returns a stretch of this memory. It has the page of a virtual address if `known` has that page or if
+    /// the memory keeps a stretch that has it.
     pub(crate) fn stretch_at(&self, known: Stretch, at: u128) -> Stretch
         requires { IsKnown self.now.memory.table known }
         ensures { IsKnown self.now.memory.table result }
@@ -130,13 +131,13 @@ impl LanePages {
         self.stretches[slot_of(page)]
     }
 
-    /// The row of the page of a virtual address, without a search where `known` has the page.
+    /// Returns the row of the page of a virtual address, without a search if `known` has the page.
     pub(crate) fn row_by(&self, known: Stretch, at: u128) -> Option<Reach>
         requires { IsKnown self.now.memory.table known }
         ensures is { result ≡ row_at self.now.memory at }
         ensures row { IfSome result (IsReachOf self.now.memory) }
     {
-        // For what is true of every memory.
+        // Reading the field gives the proof the invariant of the memory.
         let _ = &self.table;
         if at < 1 << 64
             && let Some(frame) = known.frame_of((at / 4096) as u64)

@@ -1,4 +1,4 @@
-//! The parts of vectors.
+//! Iterates over the parts of vectors.
 
 ghost use Rattle.std.specs.Prelude.{◌≡◌, ℕ, ◌+◌, ◌^◌, ◌<◌, ◌≤◌, List};
 ghost use Rattle.std.specs.Iterator.{HoldsAlong, YieldsFirst, item_count};
@@ -12,9 +12,9 @@ use crate::pages::LanePages;
 use busdma_machine::{Part, Span, Va};
 use std::marker::Model;
 
-/// The parts of the spans of a vector, in order: the extents of each, the first of which opens its
-/// entry, up to the first byte that cannot be reached, and then `Unmapped` with the offset of that
-/// byte in the whole vector. A span of length 0 gives nothing.
+/// The parts of the spans of a vector, in order: the extents of each span up to the first byte that cannot be
+/// reached, and then `Unmapped` with the offset of that byte in the vector. The first extent of a span opens
+/// its entry. A span of length 0 has no parts.
 #[derive(Drop)]
 pub struct VectorParts<'a> {
     memory: &'a LanePages,
@@ -63,14 +63,14 @@ impl<'a> Iterator for VectorParts<'a> {
 }
 
 impl LanePages {
-    /// The parts of the spans of a vector.
+    /// Returns the parts of the spans of a vector.
     pub fn parts_vector<'a>(&'a self, spans: &'a [Span]) -> VectorParts<'a>
         requires { span_bytes spans.now < 2 ^ 64 }
         ensures parts { result ≡ vector (physical self.now.memory) spans.now }
         ensures walk { IfAll (vector_walk (physical self.now.memory) spans.now) (λ es. result ≡ parts_of es) }
         ensures sound { IsMemory self.now.memory }
 
-        // Up to 2^20 bytes are the stream of a load, and so is each front of it.
+        // Up to 2^20 bytes are the stream of a load, and so is each front of this stream.
         ensures stream { span_bytes spans.now ≤ 2 ^ 20 → IsStream result }
         ensures along { span_bytes spans.now ≤ 2 ^ 20 → HoldsAlong (YieldsFirst (λ ps. ps)) result IsStream }
     {

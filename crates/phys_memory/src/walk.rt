@@ -16,7 +16,7 @@ use crate::pages::LanePages;
 use busdma_machine::{ExtentList, Part, Va};
 use std::alloc::{AllocError, Global};
 
-/// The extents of virtual bytes, or the offset of the first of them that cannot be reached.
+/// The extents of virtual bytes, or the offset of the first byte that cannot be reached.
 #[derive(Debug, Drop)]
 pub enum Walked {
     Parts(ExtentList),
@@ -24,7 +24,14 @@ pub enum Walked {
 }
 
 impl LanePages {
-    /// The extents of `len` virtual bytes, one for each page that they touch, in order.
+    /// Returns the extents of `len` bytes from virtual address `va` on, in order: one for each page that they
+    /// touch.
+    ///
+    /// Returns `Unmapped` if a byte cannot be reached.
+    ///
+    /// # Errors
+    ///
+    /// `AllocError` if memory runs out.
     pub fn translate(&self, alloc: Global, va: Va, len: u64) -> Result<Walked, AllocError>
         ensures walk { IfOk result (λ w. w ≡ walk_of (reached_addresses (physical self.now.memory) va.0 len) len) }
         ensures verdict { let refusal = unreached (physical self.now.memory) in
@@ -41,7 +48,7 @@ impl LanePages {
     }
 }
 
-// The walk over the bytes of a stream.
+// Returns the walk over the bytes of a stream.
 fn walk_parts(alloc: Global, parts: FlatParts<'_>) -> Result<Walked, AllocError>
     ensures { IfOk result (λ w. w ≡ walked [] parts.entry) }
 {

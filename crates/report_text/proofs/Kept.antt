@@ -1,10 +1,10 @@
--- Texts that are kept in memory.
+-- Texts in memory.
 use Rattle.std.proofs.Common.{◌≡◌, List, [], ◌++◌, ℕ, Some, Result, Ok, Err, IfOk, OnOk, IsOk, refl, ap, ◌∙◌}
 use Rattle.std.specs.declared.alloc.AllocError.{AllocError}
 use Rattle.std.specs.Io.KnownBytes.{Appends}
 use Rattle.io_edge.specs.declared.sink.Unwritten.{Unwritten}
 
--- what an empty sink holds after a text that was written whole is that text
+-- an empty sink holds a text after the text was written completely
 pub kept : (before after text : List ℕ) (written : Result (Unit {0}) Unwritten) (result : Result (List ℕ) AllocError)
     → before ≡ [] → OnOk written (Appends (Some before) (Some after) text)
     → IfOk result (λ t. t ≡ after) → (IsOk result → IsOk written) → IfOk result (λ t. t ≡ text)

@@ -1,4 +1,4 @@
--- The rest of a list of things whose texts are given one after the other.
+-- The rest of a list of things whose texts are written one after the other.
 use Rattle.std.proofs.Common.{◌≡◌, ℕ, ◌+◌, suc, ◌<◌, ◌≤◌, List, [], ◌∷◌, ◌++◌, length, get_or, drop, codes, Bool, true, false}
 use Rattle.std.proofs.Common.{◌==◌, refl, sym, ap, ◌∙◌, add-one, drop-cons}
 use Rattle.std.proofs.Math.Dec.{eqb-suc-zero}
@@ -9,7 +9,7 @@ use Rattle.program_rules.specs.Reports.Text.{numbered}
 use Rattle.program_rules.specs.Reports.Answer.{byte_text, bytes_text}
 
 module _ {A : Type 0} where
-  -- the text of the next thing, and those of the rest
+  -- the text of the next thing, and the texts of the rest
   pub flat_next : (text : A → List ℕ) (xs : List A) (i : ℕ) (x d : A) → i < length xs → x ≡ get_or xs i d
       → text x ++ flat_map text (drop (i + 1) xs) ≡ flat_map text (drop i xs)
   flat_next text xs i x d less is =
@@ -23,7 +23,7 @@ module _ {A : Type 0} where
       ∙ ap (λ y. text i y ++ numbered text (i + 1) (drop (suc i) xs)) (sym is)
       ∙ ap (λ j. text i x ++ numbered text (i + 1) (drop j xs)) (sym (add-one i)))
 
-  -- there is no more
+  -- at the end of the list, the rest has no text
   pub flat_end : (text : A → List ℕ) (xs : List A) (i : ℕ) → length xs ≤ i → [] ≡ flat_map text (drop i xs)
   flat_end text xs i over = rw (drop_of_length-le xs over) refl
 

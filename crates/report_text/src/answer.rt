@@ -1,4 +1,4 @@
-//! Answers, in words.
+//! Writes answers in words.
 
 ghost use Rattle.std.specs.Prelude.{◌≡◌, ◌++◌, codes};
 ghost use Rattle.std.specs.List.{flat_map};

@@ -1,4 +1,4 @@
-//! What a step did, in words.
+//! Writes in words what a step did.
 
 ghost use Rattle.std.specs.Prelude.{◌≡◌, ◌++◌, codes, slice_get};
 ghost use Rattle.std.specs.Option.{option_map};

@@ -1,4 +1,4 @@
-//! The lines of a journal's entries.
+//! Writes the lines of a journal's entries.
 
 ghost use Rattle.std.specs.Prelude.{◌≡◌, IfOk};
 ghost use Rattle.io_edge.specs.Pieces.{Gives};
@@ -61,10 +61,14 @@ pub(crate) fn push_entries<K: Sink>(
     }
 }
 
-/// The line of the entry with this number in a journal of the scenario: the number, the actor, what
-/// it did, and after an arrow the answer.
+/// Returns the line of an entry with this number in a journal of the scenario: the number, the actor, what it
+/// did, and after an arrow the answer. The line ends with a line feed.
 ///
-/// What the entry names and the scenario does not have is left empty.
+/// A name that the scenario does not have is left empty.
+///
+/// # Errors
+///
+/// `AllocError` if memory runs out.
 pub fn entry_line(
     alloc: Global,
     scenario: &Scenario,

@@ -1,4 +1,4 @@
-//! The text of a whole run.
+//! Writes the text of a run.
 
 ghost use Rattle.std.specs.Prelude.{◌≡◌, ◌≤◌, IfOk, OnOk, OnErr};
 ghost use Rattle.std.specs.Io.KnownBytes.{Appends};
@@ -15,7 +15,7 @@ use busdma_base::{ByteList, End, Journal, JournalEntry, Scenario};
 use io_edge::{Pieces, Sink, Unwritten};
 use std::alloc::{AllocError, Global};
 
-/// How many entries have a report as their answer.
+/// Returns how many entries have a report as their answer.
 pub fn report_count(entries: &[JournalEntry]) -> usize
     ensures { result ≡ text.report_count entries.now }
 {
@@ -25,7 +25,7 @@ pub fn report_count(entries: &[JournalEntry]) -> usize
         .count()
 }
 
-/// The word for how a run ended.
+/// Returns the word for how a run ended.
 pub fn end_word(end: End) -> &'static str
     ensures { result.now ≡ text.end_word end }
 {
@@ -55,8 +55,12 @@ fn push_run<K: Sink>(out: &mut Pieces<'_, K>, scenario: &Scenario, journal: &Jou
     push_end(out, journal);
 }
 
-/// The last line of a run: how it ended, how many entries its journal has, and how many of them
-/// have a report as their answer.
+/// Returns the last line of a run: how it ended, how many entries its journal has, and how many of them have
+/// a report as their answer. The line ends with a line feed.
+///
+/// # Errors
+///
+/// `AllocError` if memory runs out.
 pub fn end_line(alloc: Global, journal: &Journal) -> Result<ByteList, AllocError>
     ensures { IfOk result (λ line. line ≡ text.journal_end_line journal.now) }
 {
@@ -67,11 +71,14 @@ pub fn end_line(alloc: Global, journal: &Journal) -> Result<ByteList, AllocError
     whole_text(sink, written)
 }
 
-/// The text of a run of the scenario: a line for each entry of its journal, numbered from 0, the
+/// Returns the text of a run of the scenario: a line for each entry of its journal, numbered from 0, the
 /// lines of its zones, and its last line.
 ///
-/// Each line ends with a line feed. What the journal names and the scenario does not have is left
-/// empty.
+/// Each line ends with a line feed. A name that the scenario does not have is left empty.
+///
+/// # Errors
+///
+/// `AllocError` if memory runs out.
 pub fn report(alloc: Global, scenario: &Scenario, journal: &Journal) -> Result<ByteList, AllocError>
     ensures { IfOk result (λ lines. lines ≡ text.report scenario.now journal.now) }
 {
@@ -80,9 +87,12 @@ pub fn report(alloc: Global, scenario: &Scenario, journal: &Journal) -> Result<B
     whole_text(sink, written)
 }
 
-/// Writes the text of [`report`] to the sink while it makes it, in pieces of at most 8,192 bytes
-/// where no name is longer, and without memory of its own. After `Unwritten` the sink holds a front
-/// of it, and not the whole.
+/// Writes the text of [`report`] to the sink, in pieces and without memory of its own. A piece has at most
+/// 8,192 bytes if no name is longer.
+///
+/// # Errors
+///
+/// `Unwritten` if the sink failed. It then has only a front of the text, and not all of it.
 pub fn write_report<K: Sink>(
     scenario: &Scenario,
     journal: &Journal,

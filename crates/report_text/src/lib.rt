@@ -1,5 +1,5 @@
-//! The text of a run: a line for each step, the lines of its bounce zones, and its end; and the line of a refused
-//! scenario. Each line ends with a line feed.
+//! Writes the text of a run: a line for each step, the lines of its bounce zones, and its end. Writes the
+//! line of a refused scenario. Each line ends with a line feed.
 #![tactic(auto)]
 
 mod answer;

@@ -1,4 +1,4 @@
-//! A text that is kept in memory.
+//! Keeps a text in memory.
 
 ghost use Rattle.std.specs.Prelude.{◌≡◌, [], IfOk, IsOk};
 
@@ -6,14 +6,14 @@ use busdma_base::{ByteList, ListOf};
 use io_edge::{MemSink, Unwritten};
 use std::alloc::{AllocError, Global};
 
-/// An empty sink in memory, which fails where memory runs out.
+/// Makes an empty sink in memory, which fails if memory runs out.
 pub(crate) fn text_sink(alloc: Global) -> MemSink
     ensures { result.held ≡ [] }
 {
     MemSink::new(alloc, usize::MAX, Vec::new(alloc))
 }
 
-/// What the sink holds, where all of the text was written to it.
+/// Returns what the sink holds, if all of the text was written to it.
 pub(crate) fn whole_text(
     sink: MemSink,
     written: Result<(), Unwritten>,

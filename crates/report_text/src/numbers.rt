@@ -1,4 +1,4 @@
-//! Numbers, in digits.
+//! Writes numbers in digits.
 
 ghost use Rattle.std.specs.Prelude.{◌≡◌, ◌<◌, ◌≤◌, false, drop};
 ghost use Rattle.std.specs.Fmt.{decimal, digit_glyph, digits as digits_of};
@@ -27,7 +27,7 @@ fn hex_digit(value: u8) -> u8
     }
 }
 
-/// Writes the number in base 16 at the end of the buffer, and says where it begins there.
+/// Writes the number in base 16 at the end of the buffer, and returns the place at which it begins.
 fn write_hex(number: u64, buffer: &mut [u8; 64]) -> usize
     ensures within { result ≤ 64 }
     ensures written { drop result buffer.new ≡ digits_of 16 false number }
@@ -60,7 +60,7 @@ pub(crate) fn push_hex<K: Sink>(out: &mut Pieces<'_, K>, number: u64)
     push_hex_digits(out, number);
 }
 
-/// A byte as two digits in base 16.
+/// Writes a byte as two digits in base 16.
 pub(crate) fn push_byte<K: Sink>(out: &mut Pieces<'_, K>, byte: u8)
     ensures { Gives K.held K.faults out.old (byte_text byte) out.new }
 {

@@ -1,4 +1,4 @@
-//! The line of a refused scenario.
+//! Writes the line of a refused scenario.
 
 ghost use Rattle.std.specs.Prelude.{◌≡◌, ◌≤◌, ◌++◌, codes, IfOk, OnOk, OnErr};
 ghost use Rattle.std.specs.Io.KnownBytes.{Appends};
@@ -93,7 +93,7 @@ pub fn refusal_line(alloc: Global, refusal: &Refusal) -> Result<ByteList, AllocE
 ///
 /// # Errors
 ///
-/// Returns `Unwritten` if the sink failed. It then holds a front of the line, and not all of it.
+/// Returns `Unwritten` if the sink failed. It then has a front of the line, and not all of it.
 pub fn write_refusal<K: Sink>(refusal: &Refusal, sink: &mut K) -> Result<(), Unwritten>
     ensures written { OnOk result
         (Appends (K.held sink.old) (K.held sink.new) (text.refusal_line refusal.now ++ codes "\n")) }

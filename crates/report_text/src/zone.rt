@@ -1,4 +1,4 @@
-//! The lines of bounce zones.
+//! Writes the lines of bounce zones.
 
 ghost use Rattle.std.specs.Prelude.{◌≡◌, ◌++◌, IfOk, codes};
 ghost use Rattle.std.specs.Fmt.{decimal};
@@ -12,7 +12,7 @@ use busdma_base::{ByteList, Pa, ZoneCounts};
 use io_edge::{Pieces, Sink};
 use std::alloc::{AllocError, Global};
 
-/// The front of a line, up to its value.
+/// Writes the front of a line, up to its value.
 fn push_name<K: Sink>(out: &mut Pieces<'_, K>, zone: usize, name: &str)
     ensures { Gives K.held K.faults out.old
         (codes "hw.busdma.zone" ++ (decimal zone ++ (codes "." ++ (name.now ++ codes ": "))))
@@ -76,8 +76,12 @@ pub(crate) fn push_zones<K: Sink>(out: &mut Pieces<'_, K>, zones: &[ZoneCounts])
     }
 }
 
-/// The lines of the zones, in order: eight for each, named after the sysctl values of the x86 bounce
-/// code.
+/// Returns the lines of the zones, in order: eight lines for each zone, named after the sysctl values of the
+/// x86 bounce code.
+///
+/// # Errors
+///
+/// `AllocError` if memory runs out.
 pub fn zone_lines(alloc: Global, zones: &[ZoneCounts]) -> Result<ByteList, AllocError>
     ensures { IfOk result (λ lines. lines ≡ text.zone_lines zones.now) }
 {

@@ -11,7 +11,7 @@ use Rattle.loan_table.proofs.Addresses.{AreIn-set_all}
 use Rattle.loan_table.proofs.Inside.{put_there}
 use Rattle.rules_tests.specs.AllMemory.{HasAll}
 
--- a mark takes no byte out
+-- a mark removes no byte
 pub all-marked : (end : ℕ) (t u : Table) (keys : List ℕ) (v : Bool) → u.bytes ≡ set_all t.bytes keys v → HasAll end t → HasAll end u
 all-marked end t u keys v is all a k below =
     subst (λ bytes. AreIn bytes (run_of a k)) (sym is) (AreIn-set_all t.bytes keys v (run_of a k) (all a k below))
@@ -22,7 +22,7 @@ all-same end t u same all a k below = subst (λ bytes. AreIn bytes (run_of a k))
 pub map-same : (t u : Table) (m : ℕ) → IsSame t u → HasMap t m → HasMap u m
 map-same t u m same there = subst (λ (loans : Loans). IsSome (get loans m)) (sym same.loans) there
 
--- nor does a sync take the map out
+-- a sync does not remove the map
 synced-there : (loans : Loans) (m off len ops : ℕ) → IsSome (get loans m) → IsSome (get (synced loans m off len ops) m)
 synced-there loans m off len ops there = by (loan_of loans m).coherent
   where

@@ -1,5 +1,5 @@
-//! Tests of what no program reaches of the rules of loads and of the parts of a driver: the plain programs of the
-//! definitions, clusters for a chain, and readers and writers of std that fail.
+//! Tests what no program reaches of the rules of loads and of the parts of a driver: the plain programs of
+//! the definitions, clusters for a chain, and readers and writers of std that fail.
 #![tactic(auto)]
 
 #[cfg(test)]

@@ -1,4 +1,4 @@
-//! Calls with their answers, which are worked out by hand.
+//! Calls with their results, which were worked out by hand.
 
 mod clusters;
 mod edges;

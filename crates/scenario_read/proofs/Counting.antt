@@ -1,4 +1,4 @@
--- What is counted, with one more driver.
+-- Counts after one more driver.
 use Rattle.std.proofs.Common.{◌≡◌, List, [], ◌∷◌, ◌++◌, sum_by, arith, ap, ◌∙◌}
 use Rattle.std.proofs.lemmas.List.Sums.{sum_by-append}
 use Rattle.busdma_base.specs.declared.scenarios.scenario.Driver.{Driver}

@@ -1,4 +1,4 @@
-//! The drivers of a scenario.
+//! Reads the drivers of a scenario.
 
 ghost use Rattle.std.specs.Prelude.{◌≡◌, ◌≤◌, ◌<◌, [], codes, length, map, IfOk};
 ghost use Rattle.std.specs.List.{AllByRecursion};
@@ -102,7 +102,7 @@ fn each_driver<'v>(
     Ok(drivers)
 }
 
-/// The drivers that stand here.
+/// Reads the drivers, in order.
 #[tactic(auto, unfolding(scenario_format::specs::Scenarios::Driver::read_drivers))]
 pub(crate) fn drivers(here: &Node, frames: &[FrameRun]) -> Result<DriverList, Stop>
     requires { AllByRecursion IsNumbered frames.now }

@@ -1,4 +1,4 @@
-//! The frames of the machine.
+//! Reads the frames of the machine.
 
 ghost use Rattle.std.specs.Prelude.{◌≡◌, ◌≤◌, ◌+◌, [], map, IfOk};
 ghost use Rattle.std.specs.List.{list_any, AllByRecursion};
@@ -20,7 +20,7 @@ use json_fields::{Node, Stop};
 use scenario_format::{LimitName, RefusalKind};
 use serde_json::Value;
 
-/// The frame lies in the run.
+/// Returns whether the frame is in the run.
 pub(crate) fn is_in(frame: u64, run: &FrameRun) -> bool
     ensures { result ≡ is_in frame run.now }
 {
@@ -43,7 +43,7 @@ fn run(here: &Node) -> Result<FrameRun, Stop>
     Ok(FrameRun { first, count })
 }
 
-/// Two runs share a frame.
+/// Returns whether two runs share a frame.
 fn overlap(a: &FrameRun, b: &FrameRun) -> bool
     ensures { result ≡ overlap a.now b.now }
 {
@@ -56,7 +56,7 @@ fn overlaps_one(run: &FrameRun, before: &[FrameRun]) -> bool
     before.iter().any(|earlier| overlap(run, earlier))
 }
 
-/// The run, where it keeps the limits and has no frame of an earlier one. `total` is the number of
+/// Returns the run, if it keeps the limits and shares no frame with an earlier run. `total` is the number of
 /// frames before it.
 fn judge(here: &Node, before: &[FrameRun], total: u64, run: FrameRun) -> Result<FrameRun, Stop>
     requires sum { total ≡ frame_count before.now }
@@ -88,7 +88,7 @@ fn frame_run(here: &Node, before: &[FrameRun], total: u64) -> Result<FrameRun, S
     judge(here, before, total, run)
 }
 
-/// The machine's frames.
+/// Reads the frames of the machine.
 #[tactic(auto, unfolding(scenario_format::specs::Scenarios::Frames::read_frame_runs))]
 pub(crate) fn frames(here: &Node) -> Result<FrameRunList, Stop>
     ensures value { Gives result (frames_at (spot_of here.now)) }

@@ -1,4 +1,4 @@
-//! From the bytes of a JSON text to a valid scenario, or to the first refusal.
+//! Reads the bytes of a JSON text as a valid scenario, or finds the first refusal.
 #![tactic(auto)]
 
 mod driver;

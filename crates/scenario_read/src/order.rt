@@ -1,4 +1,4 @@
-//! The order of the actors' steps.
+//! Reads the order of the actors' steps.
 
 ghost use Rattle.std.specs.Prelude.{◌≡◌, ◌≤◌, ◌<◌, ◌^◌, [], map, length, IfOk, IfSome};
 ghost use Rattle.std.specs.List.{AllByRecursion};
@@ -56,7 +56,7 @@ fn decimal_number(bytes: &[u8]) -> Option<u32>
     digits(bytes)
 }
 
-/// A driver, of so many.
+/// Returns the driver with this number, or `None` if there are not so many drivers.
 fn lane_of(drivers: u32, bytes: &[u8]) -> Option<u32>
     ensures { result ≡ order.lane_in_text drivers bytes.now }
 {
@@ -64,7 +64,7 @@ fn lane_of(drivers: u32, bytes: &[u8]) -> Option<u32>
     if lane < drivers { Some(lane) } else { None }
 }
 
-/// A side and the number of a driver.
+/// Returns the actor that is named by a side and the number of a driver.
 fn actor_of(drivers: u32, text: &[u8]) -> Option<Actor>
     ensures value { result ≡ order.actor_of drivers text.now }
     ensures there { IfSome result (λ a. a.lane.0 < drivers) }
@@ -115,7 +115,7 @@ fn order(here: &Node, drivers: u32) -> Result<ActorList, Stop>
     Ok(ListOf::new(actors(here, items, drivers)?))
 }
 
-/// The order of a scenario of so many drivers.
+/// Reads the order of a scenario with `drivers` drivers.
 #[tactic(auto, unfolding(scenario_format::specs::Scenarios::Order::order_field))]
 pub(crate) fn order_field(here: &Node, drivers: u32) -> Result<ActorList, Stop>
     ensures value { Gives result (order.order_field drivers (spot_of here.now)) }

@@ -1,4 +1,4 @@
-//! The pages of a driver.
+//! Reads the pages of a driver.
 
 ghost use Rattle.std.specs.Prelude.{◌≡◌, ℕ, [], map, true, false, IfSome, IfNone, IfOk};
 ghost use Rattle.std.specs.List.{list_any, AllByRecursion};
@@ -22,7 +22,7 @@ use json_fields::{Node, Stop};
 use scenario_format::RefusalKind;
 use serde_json::Value;
 
-/// Where the virtual addresses of pages end.
+/// The end of the virtual addresses of pages.
 const PAGES_END: u64 = 0xfffff80000000000;
 
 #[tactic(auto, unfolding(scenario_format::specs::Scenarios::Pages::read_page_values))]
@@ -43,7 +43,7 @@ fn page_values(here: &Node) -> Result<PageRun, Stop>
     Ok(PageRun { va, frame, count })
 }
 
-/// The run of the machine's frames that has a frame.
+/// Returns the run of the machine's frames that has a frame.
 fn run_with(frames: &[FrameRun], frame: u64) -> Option<FrameRun>
     requires { AllByRecursion IsNumbered frames.now }
     ensures found { IfSome result (λ r. (lies_in frame r ≡ true) × IsNumbered r
@@ -58,7 +58,7 @@ fn run_with(frames: &[FrameRun], frame: u64) -> Option<FrameRun>
     None
 }
 
-/// The machine has these frames.
+/// Returns whether the machine has these frames.
 fn all_in(frames: &[FrameRun], first: u64, count: u64) -> bool
     requires { AllByRecursion IsNumbered frames.now }
     ensures { result ≡ base.all_in frames.now first count }
@@ -76,7 +76,7 @@ fn all_in(frames: &[FrameRun], first: u64, count: u64) -> bool
     true
 }
 
-/// The `m` numbers from `a` on and the `n` numbers from `b` on have one in common.
+/// Returns whether the `m` numbers from `a` on and the `n` numbers from `b` on have a number in common.
 fn meet(a: u64, m: u64, b: u64, n: u64) -> bool
     ensures { result ≡ runs.meet a m b n }
 {
@@ -104,7 +104,7 @@ fn is_taken(run: &PageRun, earlier: &[Driver]) -> bool
         .any(|driver| shares_frame(run, driver.pages.as_slice()))
 }
 
-/// The run, where the machine has its frames, no page before it has one of them, and no page of this
+/// Returns the run, if the machine has its frames, no page before it has one of them, and no page of this
 /// driver before it has one of its virtual pages.
 fn judge(
     here: &Node,
@@ -147,7 +147,7 @@ fn page_run(
     judge(here, frames, earlier, before, run)
 }
 
-/// A driver's pages.
+/// Reads the pages of a driver.
 #[tactic(auto, unfolding(scenario_format::specs::Scenarios::Pages::read_pages))]
 pub(crate) fn pages(
     here: &Node,

@@ -1,4 +1,4 @@
-//! The whole scenario.
+//! Reads a scenario.
 
 ghost use Rattle.std.specs.Prelude.{◌≡◌, ◌≤◌, [], length, option_map, IfOk};
 ghost use Rattle.std.specs.List.{AllByRecursion};
@@ -75,7 +75,7 @@ fn scenario(here: &Node) -> Result<Scenario, Stop>
     })
 }
 
-/// The value that the bytes are.
+/// Returns the JSON value of the bytes, or `None` if they are no JSON text.
 fn document(alloc: Global, bytes: &[u8]) -> Result<Option<Value>, AllocError>
     ensures { IfOk result (λ o. option_map view o ≡ scenario.document bytes.now) }
 {
@@ -102,7 +102,7 @@ fn read_document(alloc: Global, document: &Option<Value>) -> Result<Scenario, St
     }
 }
 
-/// What a document says.
+/// Reads the scenario of a document.
 fn reading_of(alloc: Global, document: &Option<Value>) -> Result<Reading, AllocError>
     ensures value { IfOk result
         (λ r. r ≡ scenario.reading (scenario.read_document (option_map view document.now))) }
@@ -115,7 +115,11 @@ fn reading_of(alloc: Global, document: &Option<Value>) -> Result<Reading, AllocE
     }
 }
 
-/// What the bytes say: a valid scenario, or the first refusal. The only error is that memory ran out.
+/// Reads the scenario of a JSON text. Returns a valid scenario or the first refusal.
+///
+/// # Errors
+///
+/// `AllocError` if memory runs out.
 #[tactic(auto, unfolding(scenario_format::specs::Scenarios::Scenario::scenario_of))]
 pub fn scenario_of(alloc: Global, bytes: &[u8]) -> Result<Reading, AllocError>
     ensures value { IfOk result (λ r. r ≡ scenario.scenario_of bytes.now) }
@@ -125,7 +129,12 @@ pub fn scenario_of(alloc: Global, bytes: &[u8]) -> Result<Reading, AllocError>
     reading_of(alloc, &document)
 }
 
-/// The same of bytes that nobody needs afterwards: they are freed before the scenario takes memory.
+/// Reads the scenario of a JSON text, and frees the text before the scenario takes memory. Returns a valid
+/// scenario or the first refusal.
+///
+/// # Errors
+///
+/// `AllocError` if memory runs out.
 #[tactic(auto, unfolding(scenario_format::specs::Scenarios::Scenario::scenario_of))]
 pub fn scenario_of_owned(alloc: Global, bytes: Vec<u8>) -> Result<Reading, AllocError>
     ensures value { IfOk result (λ r. r ≡ scenario.scenario_of bytes.items) }

@@ -1,4 +1,5 @@
-//! Tests of the scenario reader: what bytes it refuses, with what words, and what it reads of others.
+//! Tests of the scenario reader: which bytes it refuses, with which words, and what it reads from other
+//! bytes.
 #![tactic(auto)]
 
 #[cfg(test)]

@@ -1,4 +1,4 @@
-//! What the reader says of texts, as tables: each line is what is said and the text that it is said of.
+//! What the reader says of texts, as tables. Each line is what the reader should say, and the text.
 
 mod documents;
 mod iommu_tags;
@@ -15,8 +15,9 @@ use std::alloc::{AllocError, Global};
 use std::str;
 use std::test::Fail;
 
-/// Lines `WANT <- PART` or `WANT <- N times PART`, each of which is a document with the part between two texts, or the
-/// part so many times with commas between. What is wanted is `good`, or a refusal whose path stands behind this one.
+/// Lines `WANT <- PART` or `WANT <- N times PART`. The document of a line is the text `before`, then the
+/// part, or `N` times the part with commas between, then the text `after`. `WANT` is `good`, or a refusal
+/// whose path is the rest after `path`.
 #[derive(Clone, Copy)]
 struct Table<'a> {
     before: &'a str,
@@ -187,19 +188,19 @@ const LISTS: [Table<'static>; 7] = [
     },
 ];
 
-/// A tag `t` and a map `m`.
+/// A script that makes a tag `t` and a map `m`.
 const SCRIPT: &str =
     r#"{"frames":[[16,8]],"drivers":[{"pages":[["0x1000",16,1]],"script":[{"op":"tag","name":"t"},{"op":"map","name":"m","tag":"t"},"#;
 
-/// A tag `t`, an IOMMU tag `u`, and a map of each: `m` and `n`.
+/// A script that makes a tag `t`, an IOMMU tag `u`, and a map of each, `m` and `n`.
 const SPACES: &str =
     r#"{"frames":[[16,8]],"drivers":[{"script":[{"op":"tag","name":"t"},{"op":"iommu_tag","name":"u"},{"op":"map","name":"m","tag":"t"},{"op":"map","name":"n","tag":"u"},"#;
 
-/// A tag `t`, a map `m`, a memory `q`, and a ring `r` in it.
+/// A script that makes a tag `t`, a map `m`, a memory `q`, and a ring `r` in it.
 const RINGS: &str =
     r#"{"frames":[[16,8]],"drivers":[{"script":[{"op":"tag","name":"t"},{"op":"map","name":"m","tag":"t"},{"op":"dmamem","name":"q","tag":"t"},{"op":"ring","name":"r","mem":"q","slots":4},"#;
 
-/// What the reader says: `good`, or the text of the refusal.
+/// Returns what the reader says: `good`, or the text of the refusal.
 fn told(alloc: Global, text: &str) -> Result<String, AllocError> {
     match scenario_of(alloc, text.as_bytes())? {
         Reading::Good(_) => String::from_str(alloc, "good"),
@@ -212,7 +213,7 @@ fn told(alloc: Global, text: &str) -> Result<String, AllocError> {
     }
 }
 
-/// Whether this was said, with its path behind that one.
+/// Returns whether the reader said what it should say, where `path` comes before the path of `want`.
 fn is_wanted(told: &str, want: &str, path: &str) -> bool {
     let Some((kind, place)) = want.split_once(" ") else {
         return told == want;
@@ -226,7 +227,7 @@ fn is_wanted(told: &str, want: &str, path: &str) -> bool {
     left.strip_prefix(path) == Some(place)
 }
 
-/// How many times a part stands in its document, and the part.
+/// Returns how many times the document has the part, and the part.
 fn times(part: &str) -> (usize, &str) {
     match part.split_once(" times ") {
         Some((times, part)) => (times.parse::<usize>().unwrap_or(0), part),
@@ -234,7 +235,7 @@ fn times(part: &str) -> (usize, &str) {
     }
 }
 
-/// The document of a part.
+/// Returns the document of a part.
 fn document(alloc: Global, table: &Table, part: &str) -> Result<String, AllocError> {
     let (times, part) = times(part);
     let mut text = String::from_str(alloc, table.before)?;
@@ -248,7 +249,7 @@ fn document(alloc: Global, table: &Table, part: &str) -> Result<String, AllocErr
     Ok(text)
 }
 
-/// Whether a line of a table is right.
+/// Returns whether a line of a table is right.
 fn is_right(alloc: Global, table: &Table, line: &str) -> Result<bool, AllocError> {
     let Some((want, part)) = line.split_once(" <- ") else {
         return Ok(false);
@@ -258,7 +259,7 @@ fn is_right(alloc: Global, table: &Table, line: &str) -> Result<bool, AllocError
     Ok(is_wanted(told.as_str(), want, table.path))
 }
 
-/// The first line of tables that is not right.
+/// Returns the first line of tables that is not right.
 fn wrong<'t>(alloc: Global, tables: &[Table<'t>]) -> Result<Option<&'t str>, AllocError> {
     for table in tables {
         for line in table.lines.trim().lines() {

@@ -1,4 +1,4 @@
--- The first operation that passes a test, where at most one does.
+-- The first operation that passes a test, if at most one does.
 use Rattle.std.proofs.Common.{◌≡◌, ℕ, zero, suc, ◌+◌, List, [], ◌∷◌, Bool, true, false, Option, Some, None, refl}
 use Rattle.std.proofs.Common.{ap, ◌∙◌, ◌++◌, arith, if◌then◌else◌, length, ◌||◌, is_some, slice_get}
 use Rattle.std.proofs.Math.Bool.{or-true}

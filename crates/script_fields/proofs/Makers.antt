@@ -25,7 +25,7 @@ same i k e = cc
 same_bytes : (xs ys : List ℕ) → bytes_eq xs ys ≡ true → xs ≡ ys
 same_bytes xs ys e = (bytes_eq-Decides xs ys).0 e
 
--- what makes a name for a use makes the name, and makes what can be used so
+-- an operation that makes a name for a use makes the name, and makes a thing that can be used in this way
 both : (a b : Bool) → (a && b) ≡ true → (a ≡ true) × (b ≡ true)
 both true true e = (refl, refl)
 both true false e = cc
@@ -68,13 +68,13 @@ module _ {Y : Type 0} (places : BTreeMap (String Y) ℕ) (ops : List Op) (index 
   known = ap is_some (sym (first _ refl)) ∙ sym (any_passes (makes name) 0 ops)
 
   module _ (u : NameUse) where
-    -- no operation makes a name that the index has not
+    -- no operation makes a name that is not in the index
     pub unknown : get_by_text places name ≡ None → first_place (makes_for u name) 0 ops ≡ None
     unknown found =
         none_passes (makes_for u name) 0 ops
         (λ i. false_from_ne_true _ (λ e. never i found (is_made u name ops i e)))
 
-    -- one that has the name at another place makes it for no such use
+    -- if another operation has the name, it makes no thing for this use
     pub other : (k : ℕ) → get_by_text places name ≡ Some k → passes (makes_for u name) ops k ≡ false
         → first_place (makes_for u name) 0 ops ≡ None
     other k found fails =
@@ -88,7 +88,7 @@ module _ {Y : Type 0} (places : BTreeMap (String Y) ℕ) (ops : List Op) (index 
     maker k found holds =
         one_passes (makes_for u name) 0 k ops holds (λ i e. only i k (is_made u name ops i e) found) ∙ from_zero k
 
--- a new name is none that an operation makes
+-- a new name is none of those that an operation makes
 apart : (ops : List Op) (name : List ℕ) (place : ℕ) (m : Option Made) → MakesNewName ops m → IsMadeAt ops name place
     → option_map_or (λ (x : Made). bytes_eq x.name name) m false ≡ false
 apart ops name place None new made = refl

@@ -1,20 +1,20 @@
--- What counts keep, and what one operation adds to them.
+-- The invariant of counts, and what one operation adds to them.
 use Rattle.std.specs.Prelude.{◌≡◌, ℕ, ◌+◌, ◌≤◌, length, None}
 use Rattle.busdma_base.specs.declared.scenarios.script.Op.{Op}
 use Rattle.busdma_base.specs.Scenarios.Operations.{about, items_of, read_by, loaded_by}
 use Rattle.scenario_format.specs.declared.counts.Counts.{Counts}
 use Rattle.busdma_base.specs.Scenarios.Limits.{steps_limit, reads_limit, loaded_limit}
 
--- behind an operation whose own step is counted already
+-- the counts after an operation whose own step was counted before
 abbrev pub with_op : Counts → Op → Counts
 with_op c o =
     record { steps = c.steps + length (items_of o); read = c.read + read_by o; loaded = c.loaded + loaded_by o }
 
--- behind n more bytes that are read
+-- the counts after n more bytes that are read
 abbrev pub having_read : Counts → ℕ → Counts
 having_read c n = record { steps = c.steps; read = c.read + n; loaded = c.loaded }
 
--- what is counted keeps the limits
+-- the counts keep the limits
 pub record IsWithin (c : Counts) : Type 0 where
   pub steps : c.steps ≤ steps_limit
   pub read : c.read ≤ reads_limit

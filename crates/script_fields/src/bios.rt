@@ -1,4 +1,4 @@
-//! Bios.
+//! Reads bios.
 
 ghost use Rattle.std.specs.Prelude.{◌≡◌, ◌≤◌, ◌<◌, List, [], true, length, map, IfOk};
 ghost use Rattle.std.specs.List.{AllByRecursion};
@@ -19,7 +19,7 @@ use json_fields::{Node, Stop};
 use scenario_format::{BioKind, RefusalKind};
 use serde_json::Value;
 
-/// The frame is one of the driver's pages.
+/// Returns whether the frame is one of the driver's pages.
 fn has_frame(pages: &[PageRun], frame: u64) -> bool
     ensures { result ≡ base.has_frame pages.now frame }
 {
@@ -78,7 +78,7 @@ fn frames_field(here: &Node, pages: &[PageRun]) -> Result<ListOf<u64>, Stop>
     frames(&here.required("frames")?, pages)
 }
 
-/// Where in its first frame an unmapped bio begins.
+/// Reads the offset of an unmapped bio in its first frame.
 #[tactic(auto, unfolding(scenario_format::specs::Parts::Bios::read_off))]
 fn off(here: &Node) -> Result<u64, Stop>
     ensures value { Gives result (bios.read_off (spot_of here.now)) }
@@ -91,7 +91,7 @@ fn off(here: &Node) -> Result<u64, Stop>
     Ok(off)
 }
 
-/// The kind that a word stands for.
+/// Returns the kind with this word, or `None` if there is no such kind.
 fn kind_of(word: &str) -> Option<BioKind>
     ensures { result ≡ bios.kind_of word.now }
 {
@@ -148,7 +148,7 @@ fn unmapped(here: &Node, pages: &[PageRun]) -> Result<Bio, Stop>
     Ok(Bio::Unmapped { frames, off, len })
 }
 
-/// The bio of a kind.
+/// Reads a bio of the given kind.
 fn bio_by(kind: BioKind, here: &Node, pages: &[PageRun]) -> Result<Bio, Stop>
     ensures value { Gives result (bios.bio_by kind pages.now (spot_of here.now)) }
     ensures own { IfOk result (IsBioOf pages.now) }
@@ -172,7 +172,13 @@ fn bio(here: &Node, pages: &[PageRun]) -> Result<Bio, Stop>
     bio_by(kind, here, pages)
 }
 
-/// The bio in `bio`, whose frames are of the driver's pages.
+/// Reads the bio at the key `bio`. Its frames must be frames of the driver's pages.
+///
+/// # Errors
+///
+/// `Stop::Refused` with the first refusal: `FrameAbsent` for a frame that is not among the driver's pages,
+/// the limit `Entries` for a list that is too long, and `BadField` for a field that is missing or wrong.
+/// `Stop::OutOfMemory` if memory runs out.
 #[tactic(auto, unfolding(scenario_format::specs::Parts::Bios::bio_field))]
 pub fn bio_field(here: &Node, pages: &[PageRun]) -> Result<Bio, Stop>
     ensures value { Gives result (bios.bio_field pages.now (spot_of here.now)) }

@@ -1,4 +1,4 @@
-//! What an operation writes.
+//! Reads the bytes that an operation writes.
 
 ghost use Rattle.std.specs.Prelude.{◌≡◌, length, IfOk};
 ghost use Rattle.busdma_base.specs.Scenarios.Operations.{bytes_of};
@@ -11,7 +11,7 @@ use busdma_base::Bytes;
 use json_fields::{Node, Stop};
 use scenario_format::RefusalKind;
 
-/// Bytes by `hex`.
+/// Reads the bytes at the key `hex`.
 #[tactic(auto, unfolding(scenario_format::specs::Parts::Bytes::read_listed))]
 fn listed(hex: &Node) -> Result<Bytes, Stop>
     ensures { Gives result (bytes.read_listed (spot_of hex.now)) }
@@ -19,7 +19,7 @@ fn listed(hex: &Node) -> Result<Bytes, Stop>
     Ok(Bytes::Listed(hex.bytes()?))
 }
 
-/// One byte, `len` times.
+/// Reads one byte that is written `len` times.
 #[tactic(auto, unfolding(scenario_format::specs::Parts::Bytes::read_filled))]
 fn filled(here: &Node) -> Result<Bytes, Stop>
     ensures { Gives result (bytes.read_filled (spot_of here.now)) }
@@ -29,7 +29,12 @@ fn filled(here: &Node) -> Result<Bytes, Stop>
     Ok(Bytes::Filled { byte, len })
 }
 
-/// What an operation writes: `hex`, or `fill` with `len`.
+/// Reads the bytes that an operation writes: `hex`, or `fill` with `len`.
+///
+/// # Errors
+///
+/// `Stop::Refused` with `BadField` if a field is missing, wrong or too many. `Stop::OutOfMemory` if memory
+/// runs out.
 #[tactic(auto, unfolding(scenario_format::specs::Parts::Bytes::read_written))]
 pub fn written_bytes(here: &Node) -> Result<Bytes, Stop>
     ensures { Gives result (bytes.read_written (spot_of here.now)) }
@@ -41,7 +46,7 @@ pub fn written_bytes(here: &Node) -> Result<Bytes, Stop>
     }
 }
 
-/// How many bytes are written.
+/// Returns how many bytes are written.
 pub fn byte_count(bytes: &Bytes) -> u64
     ensures { result ≡ length (bytes_of bytes.now) }
 {

@@ -1,4 +1,4 @@
-//! What is counted for the limits.
+//! Counts what the limits of a scenario bound.
 
 ghost use Rattle.std.specs.Prelude.{◌≡◌, ◌≤◌, OnOk};
 ghost use Rattle.busdma_base.specs.Scenarios.Limits.{access_limit, buffer_limit};
@@ -12,7 +12,11 @@ use crate::limits::{ACCESS, BUFFER, LOADED, READS, STEPS};
 use json_fields::{Node, Stop};
 use scenario_format::{Counts, LimitName, RefusalKind};
 
-/// Counts `count` more steps. Steps past the limit are refused.
+/// Counts `count` more steps.
+///
+/// # Errors
+///
+/// `Stop::Refused` with the limit `Steps` if they go past the limit. `Stop::OutOfMemory` if memory runs out.
 pub fn count_steps(counts: &mut Counts, here: &Node, count: u64) -> Result<(), Stop>
     requires { IsWithin counts.old }
     ensures value { Gives result (steps_judged counts.old count (place_of here.now.path)) }
@@ -26,7 +30,12 @@ pub fn count_steps(counts: &mut Counts, here: &Node, count: u64) -> Result<(), S
     Ok(())
 }
 
-/// Counts the `len` bytes of a read. Bytes past the limit of an access, or of all reads, are refused.
+/// Counts the `len` bytes of a read.
+///
+/// # Errors
+///
+/// `Stop::Refused` with the limit `Access` if they go past the limit of one access, or `Reads` if they go
+/// past the limit of all reads. `Stop::OutOfMemory` if memory runs out.
 pub fn count_read(counts: &mut Counts, here: &Node, len: u64) -> Result<(), Stop>
     requires { IsWithin counts.old }
     ensures value { Gives result (read_judged counts.old len (place_of here.now.path)) }
@@ -42,8 +51,12 @@ pub fn count_read(counts: &mut Counts, here: &Node, len: u64) -> Result<(), Stop
     Ok(())
 }
 
-/// Counts the bytes of a load of `len` bytes, as `counted` for the limit on all loads. Bytes past the limit of one
-/// load, or of all, are refused.
+/// Counts a load of `len` bytes as `counted` bytes for the limit on all loads.
+///
+/// # Errors
+///
+/// `Stop::Refused` with the limit `Buffer` if `len` is past the limit of one load, or `Loaded` if the load
+/// goes past the limit of all loads. `Stop::OutOfMemory` if memory runs out.
 pub fn count_load(counts: &mut Counts, here: &Node, len: u128, counted: u128) -> Result<(), Stop>
     requires { IsWithin counts.old }
     ensures value { Gives result (load_counted counts.old len counted (place_of here.now.path)) }
@@ -61,7 +74,11 @@ pub fn count_load(counts: &mut Counts, here: &Node, len: u128, counted: u128) ->
     Ok(())
 }
 
-/// Refuses an access of `len` bytes where they are past its limit.
+/// Checks that an access of `len` bytes keeps the limit of an access.
+///
+/// # Errors
+///
+/// `Stop::Refused` with the limit `Access` if it does not. `Stop::OutOfMemory` if memory runs out.
 pub fn judge_access(here: &Node, len: u64) -> Result<(), Stop>
     ensures value { Gives result (access_judged len (place_of here.now.path)) }
     ensures access { OnOk result (len ≤ access_limit) }

@@ -1,4 +1,4 @@
-//! Sets of flags.
+//! Reads sets of flags.
 
 ghost use Rattle.std.specs.Prelude.{◌≡◌, map};
 ghost use Rattle.serde_json.specs.View.{view};
@@ -17,7 +17,8 @@ use json_fields::{Node, Stop};
 use scenario_format::{FlagSet, RefusalKind};
 use serde_json::Value;
 
-/// The bits of a word. WAITOK adds none to the flags of a tag, a load or a memory.
+/// Returns the bits of a word, or `None` if the set has no such word. WAITOK has no bits among the flags of a
+/// tag, a load or a memory.
 fn word_bits(set: FlagSet, word: &str) -> Option<u32>
     ensures { result ≡ flags.word_bits set word.now }
 {
@@ -54,7 +55,7 @@ fn union<'v>(here: &'v Node<'v>, set: FlagSet, items: &'v [Value]) -> Result<u32
     Ok(bits)
 }
 
-/// The bits of all words of a list.
+/// Returns the bits of all words of this list.
 #[tactic(auto, unfolding(scenario_format::specs::Parts::Flags::read_flags))]
 fn flags_here(here: &Node, set: FlagSet) -> Result<u32, Stop>
     ensures { Gives result (flags.read_flags set (spot_of here.now)) }
@@ -63,7 +64,13 @@ fn flags_here(here: &Node, set: FlagSet) -> Result<u32, Stop>
     union(here, set, items)
 }
 
-/// The flags of a tag, a load or a memory.
+/// Returns the bits of the flags at the key `flags`, or 0 if there is no such key. `set` says whose flags
+/// they are.
+///
+/// # Errors
+///
+/// `Stop::Refused` with `BadFlag` if the set has no such flag, or with `BadField` if the value is no list of
+/// texts. `Stop::OutOfMemory` if memory runs out.
 #[tactic(auto, unfolding(scenario_format::specs::Parts::Flags::flags_field))]
 pub fn flags_field(here: &Node, set: FlagSet) -> Result<u32, Stop>
     ensures { Gives result (flags.flags_field set (spot_of here.now)) }
@@ -74,7 +81,7 @@ pub fn flags_field(here: &Node, set: FlagSet) -> Result<u32, Stop>
     }
 }
 
-/// The operations of a sync.
+/// Returns the operations of a sync at the key `ops`.
 #[tactic(auto, unfolding(scenario_format::specs::Parts::Flags::ops_field))]
 pub(crate) fn ops_field(here: &Node) -> Result<u32, Stop>
     ensures { Gives result (flags.ops_field (spot_of here.now)) }

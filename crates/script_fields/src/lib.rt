@@ -1,4 +1,4 @@
-//! What the operations and items of a script say, field by field, by the names that the operations before them make.
+//! Reads the fields of operations and items of a script. A name is looked up among the operations before.
 #![tactic(auto)]
 
 mod bios;

@@ -1,4 +1,4 @@
-//! The operations of a script, found by the names that they make.
+//! The operations of a script, and how they are found by the names that they make.
 
 ghost use Rattle.std.specs.Prelude.{◌≡◌, ◌<◌, ◌++◌, ◌∷◌, ◌^◌, ℕ, List, [], Some, codes, if◌then◌else◌};
 ghost use Rattle.std.specs.Prelude.{false, length, slice_get, IfOk, IfSome, OnOk};
@@ -14,8 +14,8 @@ use std::alloc::{AllocError, Global};
 use std::collections::BTreeMap;
 use std::marker::Model;
 
-/// Operations in the order of their script, with the places of those that make names. Contracts see
-/// the operations alone.
+/// Operations in the order of their script, with an index of the names that they make. Contracts see only the
+/// operations.
 #[derive(Drop)]
 pub struct NamedOps {
     ops: Vec<Op>,
@@ -34,7 +34,7 @@ impl Model for NamedOps {
     ghost invariant = { λ n. IsIndex n.places n.ops.items };
 }
 
-/// Puts the name that an operation makes, if it makes one, into an index.
+/// Puts the name that an operation makes into an index, if it makes one.
 fn put_name(
     places: &mut BTreeMap<String, u32>,
     alloc: Global,
@@ -50,7 +50,7 @@ fn put_name(
     Ok(())
 }
 
-/// Whether the operation at a place makes the name, as a thing that can be used so.
+/// Returns whether the operation at a place makes the name, of a thing that can be used in this way.
 fn makes_at(ops: &[Op], place: u32, used_as: NameUse, name: &str) -> bool
     ensures { result ≡ option_map_or (base.makes_for used_as name.now) (slice_get ops.now place) false }
 {
@@ -61,7 +61,7 @@ fn makes_at(ops: &[Op], place: u32, used_as: NameUse, name: &str) -> bool
 }
 
 impl NamedOps {
-    /// No operation.
+    /// Makes an empty list of operations.
     pub fn new(alloc: Global) -> NamedOps
         ensures { result ≡ [] }
     {
@@ -71,21 +71,22 @@ impl NamedOps {
         }
     }
 
-    /// How many operations there are.
+    /// Returns the number of operations.
     pub fn len(&self) -> usize
         ensures { result ≡ length self.now }
     {
         self.ops.len()
     }
 
-    /// Whether an operation makes the name.
+    /// Returns whether an operation makes the name.
     pub fn has_name(&self, name: &str) -> bool
         ensures { result ≡ list_any (base.makes name.now) self.now }
     {
         self.places.contains_key(name)
     }
 
-    /// The place of the operation that makes the name, if it makes a thing that can be used so.
+    /// Returns the place of the operation that makes the name. Returns `None` if there is none, or if it
+    /// makes a thing that cannot be used in this way.
     pub fn maker(&self, used_as: NameUse, name: &str) -> Option<u32>
         ensures value { result ≡ names.first_operation_place (base.makes_for used_as name.now) 0 self.now }
         ensures made { IfSome result (λ place.
@@ -103,7 +104,11 @@ impl NamedOps {
         }
     }
 
-    /// The operations with one more behind them, which makes no name that one of them makes.
+    /// Returns the operations with one more at the end. `op` must make no name that one of them makes.
+    ///
+    /// # Errors
+    ///
+    /// `AllocError` if memory runs out. The operations are then dropped.
     pub fn with(self, alloc: Global, op: Op) -> Result<NamedOps, AllocError>
         requires few { length self < 2 ^ 32 }
         requires new { base.MakesNewName self (about op).makes }
@@ -117,7 +122,7 @@ impl NamedOps {
         Ok(NamedOps { ops, places })
     }
 
-    /// The operations, in order.
+    /// Returns the operations, in order.
     pub fn into_ops(self) -> Vec<Op>
         ensures { result.items ≡ self }
     {

@@ -1,4 +1,4 @@
-//! The names that a script makes and uses.
+//! Reads the names that a script makes and uses.
 
 ghost use Rattle.std.specs.Prelude.{codes, IfOk};
 ghost use Rattle.std.specs.List.{AllByRecursion};
@@ -14,7 +14,12 @@ use busdma_base::{Name, NameUse};
 use json_fields::{Node, Stop};
 use scenario_format::RefusalKind;
 
-/// The name at a key, which no operation before made. One that was made is refused.
+/// Reads the name at a key. No operation before may have made it.
+///
+/// # Errors
+///
+/// `Stop::Refused` with `BadField` if there is no name at the key, or if an operation before made the name.
+/// `Stop::OutOfMemory` if memory runs out.
 #[tactic(auto, unfolding(scenario_format::specs::Parts::Names::new_name))]
 pub fn new_name<'v>(here: &'v Node<'v>, field: &'v str, before: &NamedOps) -> Result<Name, Stop>
     ensures value { Gives result (names.new_name field.now before.now (spot_of here.now)) }
@@ -27,7 +32,7 @@ pub fn new_name<'v>(here: &'v Node<'v>, field: &'v str, before: &NamedOps) -> Re
     Ok(name)
 }
 
-/// The place of the operation before that made the name that stands here, as a thing that can be used so.
+/// Returns the place of the operation before that made this name, of a thing that can be used in this way.
 #[tactic(auto, unfolding(scenario_format::specs::Parts::Names::read_use))]
 pub(crate) fn used(here: &Node, used_as: NameUse, before: &NamedOps) -> Result<u32, Stop>
     ensures value { Gives result (names.read_use used_as before.now (spot_of here.now)) }
@@ -39,8 +44,13 @@ pub(crate) fn used(here: &Node, used_as: NameUse, before: &NamedOps) -> Result<u
     }
 }
 
-/// The place of the operation before that made the name at a key, as a thing that can be used so. A name of no such
-/// operation is refused.
+/// Returns the place of the operation before that made the name at a key, of a thing that can be used in this
+/// way.
+///
+/// # Errors
+///
+/// `Stop::Refused` with `UnknownName` if there is no such operation, or with `BadField` if there is no name
+/// at the key. `Stop::OutOfMemory` if memory runs out.
 #[tactic(auto, unfolding(scenario_format::specs::Parts::Names::used_name))]
 pub fn used_name<'v>(
     here: &'v Node<'v>,
@@ -54,7 +64,13 @@ pub fn used_name<'v>(
     used(&here.required(field)?, used_as, before)
 }
 
-/// The place of the tag that is a tag's parent, where it has one.
+/// Returns the place of the operation that made the tag named at the key `parent`, or `None` if there is no
+/// such key.
+///
+/// # Errors
+///
+/// `Stop::Refused` with `UnknownName` if no operation before made a tag of this name, or with `BadField` if
+/// the value is no name. `Stop::OutOfMemory` if memory runs out.
 pub fn parent_tag<'v>(here: &'v Node<'v>, before: &NamedOps) -> Result<Option<u32>, Stop>
     ensures value { Gives result
         (names.parent_or_none before.now (field (codes "parent") (spot_of here.now))) }

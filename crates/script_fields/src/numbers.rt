@@ -1,4 +1,4 @@
-//! Numbers of fewer bits than a scenario's numbers have.
+//! Reads numbers with fewer bits than the numbers of a scenario.
 
 ghost use Rattle.std.specs.Prelude.{◌^◌};
 ghost use Rattle.scenario_format.specs.Json.Place.{key};
@@ -10,7 +10,7 @@ ghost use Rattle.scenario_format.specs.Parts.Numbers as numbers;
 use json_fields::{Node, Stop};
 use scenario_format::RefusalKind;
 
-// The number that stands at a key, where it has 32 bits.
+// Returns the number that was read at a key, if it has 32 bits.
 fn short(here: &Node, name: &str, n: u64) -> Result<u32, Stop>
     ensures { Gives result (numbers.below (2 ^ 32) (key (place_of here.now.path) name.now) n) }
 {
@@ -20,7 +20,12 @@ fn short(here: &Node, name: &str, n: u64) -> Result<u32, Stop>
     }
 }
 
-/// The number of 32 bits at a key.
+/// Reads the 32-bit number at a key.
+///
+/// # Errors
+///
+/// `Stop::Refused` with `BadField` and the key's path if there is no such key or its value is no such number.
+/// `Stop::OutOfMemory` if memory runs out.
 #[tactic(auto, unfolding(scenario_format::specs::Parts::Numbers::short_field))]
 pub fn short_field(here: &Node, name: &str) -> Result<u32, Stop>
     ensures { Gives result (numbers.short_field name.now (spot_of here.now)) }
@@ -29,7 +34,12 @@ pub fn short_field(here: &Node, name: &str) -> Result<u32, Stop>
     short(here, name, n)
 }
 
-/// The number of 32 bits at a key, or a default where there is none.
+/// Reads the 32-bit number at a key, or returns the default if there is no such key.
+///
+/// # Errors
+///
+/// `Stop::Refused` with `BadField` and the key's path if its value is no such number. `Stop::OutOfMemory` if
+/// memory runs out.
 #[tactic(auto, unfolding(scenario_format::specs::Parts::Numbers::short_or))]
 pub fn short_or(here: &Node, name: &str, default: u64) -> Result<u32, Stop>
     ensures { Gives result (numbers.short_or name.now default (spot_of here.now)) }
@@ -38,7 +48,7 @@ pub fn short_or(here: &Node, name: &str, default: u64) -> Result<u32, Stop>
     short(here, name, n)
 }
 
-// The number that stands at a key, where it is a byte.
+// Returns the number that was read at a key, if it is a byte.
 fn byte(here: &Node, name: &str, n: u64) -> Result<u8, Stop>
     ensures { Gives result (numbers.below 256 (key (place_of here.now.path) name.now) n) }
 {
@@ -48,7 +58,12 @@ fn byte(here: &Node, name: &str, n: u64) -> Result<u8, Stop>
     }
 }
 
-/// The byte that is given as a number at a key.
+/// Reads the byte that is given as a number at a key.
+///
+/// # Errors
+///
+/// `Stop::Refused` with `BadField` and the key's path if there is no such key or its value is no such number.
+/// `Stop::OutOfMemory` if memory runs out.
 #[tactic(auto, unfolding(scenario_format::specs::Parts::Numbers::byte_field))]
 pub fn byte_field(here: &Node, name: &str) -> Result<u8, Stop>
     ensures { Gives result (numbers.byte_field name.now (spot_of here.now)) }
@@ -57,7 +72,12 @@ pub fn byte_field(here: &Node, name: &str) -> Result<u8, Stop>
     byte(here, name, n)
 }
 
-/// The byte that is given as a number at a key, or a default where there is none.
+/// Reads the byte that is given as a number at a key, or returns the default if there is no such key.
+///
+/// # Errors
+///
+/// `Stop::Refused` with `BadField` and the key's path if its value is no such number. `Stop::OutOfMemory` if
+/// memory runs out.
 #[tactic(auto, unfolding(scenario_format::specs::Parts::Numbers::byte_or))]
 pub fn byte_or(here: &Node, name: &str, default: u64) -> Result<u8, Stop>
     ensures { Gives result (numbers.byte_or name.now default (spot_of here.now)) }

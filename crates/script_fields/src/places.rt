@@ -1,4 +1,4 @@
-//! Where an operation works: at a virtual address, or in a memory that the script made.
+//! Reads where an operation works: at a virtual address, or in a memory that the script made.
 
 ghost use Rattle.std.specs.Prelude.{◌≡◌, [], IfOk};
 ghost use Rattle.std.specs.List.{AllByRecursion};
@@ -15,7 +15,7 @@ use busdma_base::{NameUse, Place, Va};
 use json_fields::{Node, Stop};
 use scenario_format::RefusalKind;
 
-/// The virtual address that stands here.
+/// Reads a virtual address.
 #[tactic(auto, unfolding(scenario_format::specs::Parts::Places::read_address))]
 fn address(va: &Node) -> Result<Place, Stop>
     ensures value { Gives result (places.read_address (spot_of va.now)) }
@@ -25,7 +25,7 @@ fn address(va: &Node) -> Result<Place, Stop>
     Ok(Place::At(Va(va.number()?)))
 }
 
-/// The first byte of the memory that is named here.
+/// Returns the first byte of the memory with this name.
 #[tactic(auto, unfolding(scenario_format::specs::Parts::Places::read_begin))]
 fn begin(mem: &Node, before: &NamedOps) -> Result<Place, Stop>
     ensures value { Gives result (places.read_begin before.now (spot_of mem.now)) }
@@ -36,7 +36,7 @@ fn begin(mem: &Node, before: &NamedOps) -> Result<Place, Stop>
     Ok(Place::In { mem, off: 0 })
 }
 
-/// `off` bytes behind it.
+/// Returns the byte at `off` in the memory with this name.
 #[tactic(auto, unfolding(scenario_format::specs::Parts::Places::read_behind_begin))]
 fn behind_begin(mem: &Node, here: &Node, before: &NamedOps) -> Result<Place, Stop>
     ensures value { Gives result (places.read_behind_begin before.now (spot_of mem.now) (spot_of here.now)) }
@@ -47,7 +47,12 @@ fn behind_begin(mem: &Node, here: &Node, before: &NamedOps) -> Result<Place, Sto
     Ok(Place::In { mem, off })
 }
 
-/// Where an access of the driver begins: `va`, or `mem` with `off`.
+/// Reads where an access of the driver begins: `va`, or `mem` with `off`.
+///
+/// # Errors
+///
+/// `Stop::Refused` with `UnknownName` if no operation before made a memory of this name, or with `BadField`
+/// if a field is missing, wrong or too many. `Stop::OutOfMemory` if memory runs out.
 #[tactic(auto, unfolding(scenario_format::specs::Parts::Places::read_access))]
 pub fn access_place(here: &Node, before: &NamedOps) -> Result<Place, Stop>
     ensures value { Gives result (places.read_access before.now (spot_of here.now)) }
@@ -60,7 +65,12 @@ pub fn access_place(here: &Node, before: &NamedOps) -> Result<Place, Stop>
     }
 }
 
-/// Where a load begins: `va`, or `mem` from its first byte on.
+/// Reads where a load begins: `va`, or the first byte of `mem`.
+///
+/// # Errors
+///
+/// `Stop::Refused` with `UnknownName` if no operation before made a memory of this name, or with `BadField`
+/// if a field is missing, wrong or too many. `Stop::OutOfMemory` if memory runs out.
 #[tactic(auto, unfolding(scenario_format::specs::Parts::Places::loaded_from))]
 pub fn loaded_from(here: &Node, before: &NamedOps) -> Result<Place, Stop>
     ensures value { Gives result (places.loaded_from before.now (spot_of here.now)) }

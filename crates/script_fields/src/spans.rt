@@ -1,4 +1,4 @@
-//! The lists of loads, and the spans of a vector or of an mbuf chain.
+//! Reads the lists of loads, and the spans of a vector or of an mbuf chain.
 
 ghost use Rattle.std.specs.Prelude.{◌≡◌, ◌≤◌, ◌<◌, ◌^◌, [], length, map, IfOk};
 ghost use Rattle.serde_json.specs.View.{view};
@@ -17,8 +17,12 @@ use json_fields::{Node, Stop};
 use scenario_format::{LimitName, RefusalKind};
 use serde_json::Value;
 
-/// The elements of a load's list, which are its spans, its frames or its clusters, in order. More than the limit are
-/// refused.
+/// Returns the elements of a load's list, in order: its spans, its frames or its clusters.
+///
+/// # Errors
+///
+/// `Stop::Refused` with the limit `Entries` if there are more than the limit, or with `BadField` if the value
+/// is no list. `Stop::OutOfMemory` if memory runs out.
 #[tactic(auto, unfolding(scenario_format::specs::Parts::Spans::read_entries))]
 pub fn entries<'v>(here: &Node<'v>) -> Result<&'v [Value], Stop>
     ensures value { GivesSeen (λ v. map view v.now) result (entries_at (spot_of here.now)) }
@@ -31,7 +35,7 @@ pub fn entries<'v>(here: &Node<'v>) -> Result<&'v [Value], Stop>
     Ok(items)
 }
 
-/// `len` bytes from `va` on.
+/// Reads a span: `len` bytes from virtual address `va` on.
 #[tactic(auto, unfolding(scenario_format::specs::Parts::Spans::read_span_fields))]
 pub(crate) fn span_fields(here: &Node) -> Result<Span, Stop>
     ensures { Gives result (span_fields_at (spot_of here.now)) }
@@ -71,7 +75,12 @@ fn spans(here: &Node) -> Result<ListOf<Span>, Stop>
     Ok(ListOf::new(each_span(here, items)?))
 }
 
-/// The spans in `entries`, in order.
+/// Reads the spans at the key `entries`, in order.
+///
+/// # Errors
+///
+/// `Stop::Refused` with the first refusal: the limit `Entries` for a list that is too long, and `BadField`
+/// for a field that is missing or wrong. `Stop::OutOfMemory` if memory runs out.
 #[tactic(auto, unfolding(scenario_format::specs::Parts::Spans::entries_field))]
 pub fn entries_field(here: &Node) -> Result<ListOf<Span>, Stop>
     ensures value { Gives result (entries_field (spot_of here.now)) }
@@ -80,7 +89,7 @@ pub fn entries_field(here: &Node) -> Result<ListOf<Span>, Stop>
     spans(&here.required("entries")?)
 }
 
-/// How many bytes spans have.
+/// Returns how many bytes spans have.
 pub fn span_bytes(spans: &[Span]) -> u128
     ensures bytes { result ≡ bytes_in spans.now }
     ensures small { result < 2 ^ 127 }

@@ -1,4 +1,4 @@
-//! What a sync says, as an operation and as an item.
+//! Reads the fields of a sync, as an operation or as an item.
 
 ghost use Rattle.std.specs.Prelude.{IfOk};
 ghost use Rattle.busdma_base.specs.Scenarios.Names.{IsMade};
@@ -15,7 +15,13 @@ use busdma_base::NameUse;
 use json_fields::{Node, Stop};
 use scenario_format::{RangeFields, SyncFields};
 
-/// What a sync of a whole load says.
+/// Reads the fields of a sync of a complete load.
+///
+/// # Errors
+///
+/// `Stop::Refused` with the first refusal: `UnknownName` if no operation before made the map, `BadFlag` for a
+/// word that is no sync operation, and `BadField` for a field that is missing, wrong or too many.
+/// `Stop::OutOfMemory` if memory runs out.
 #[tactic(auto, unfolding(scenario_format::specs::Parts::Syncs::read_sync_fields))]
 pub fn sync_fields(here: &Node, before: &NamedOps) -> Result<SyncFields, Stop>
     ensures value { Gives result (sync_fields_at before.now (spot_of here.now)) }
@@ -27,7 +33,13 @@ pub fn sync_fields(here: &Node, before: &NamedOps) -> Result<SyncFields, Stop>
     Ok(SyncFields { map, ops })
 }
 
-/// What a sync of a range of a load says.
+/// Reads the fields of a sync of a range of a load.
+///
+/// # Errors
+///
+/// `Stop::Refused` with the first refusal: `UnknownName` if no operation before made the map, `BadFlag` for a
+/// word that is no sync operation, and `BadField` for a field that is missing, wrong or too many.
+/// `Stop::OutOfMemory` if memory runs out.
 #[tactic(auto, unfolding(scenario_format::specs::Parts::Syncs::read_range_fields))]
 pub fn range_fields(here: &Node, before: &NamedOps) -> Result<RangeFields, Stop>
     ensures value { Gives result (range_fields_at before.now (spot_of here.now)) }

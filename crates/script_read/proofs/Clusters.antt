@@ -1,5 +1,5 @@
--- Clusters that are judged one behind another take the bytes of their chain: no virtual byte is of two of them, or of
--- one and of the chain.
+-- Clusters that are judged one after another take the bytes of their chain: no virtual byte is in two of
+-- them, or in one and in the chain.
 use Rattle.std.proofs.Common.{◌≡◌, ℕ, zero, suc, ◌+◌, ◌-◌, ◌*◌, ◌%◌, ◌<◌, ◌≤◌, ◌==◌, ◌||◌, Bool, true, false, List, []}
 use Rattle.std.proofs.Common.{◌∷◌, ◌++◌, length, refl, arith, append-nil, append_assoc, min, max, if◌then◌else◌}
 use Rattle.std.specs.Prelude.{Some, None, IfSome, nat_lt}
@@ -42,9 +42,9 @@ right_false : (a b : Bool) → (a || b) ≡ false → b ≡ false
 right_false true b e = cc
 right_false false b e = e
 
--- ---- addresses beside clusters
+-- ---- addresses that are in no cluster
 
--- an address is not in a cluster, or before its i-th byte
+-- an address is outside a cluster, or before its i-th byte
 abbrev pub IsOff : ℕ → ℕ → ℕ → Type 0
 IsOff c i b = c + i ≤ b → c + 4096 ≤ b
 
@@ -59,7 +59,7 @@ none_at c i low (b ∷ bs) h =
 next_off : (c i b : ℕ) → IsOff c i b → IsOff c (i + 1) b
 next_off c i b h k = h (omega (arith, k))
 
--- the bytes of a cluster from its i-th on differ from each other, and from addresses that are off it
+-- the bytes of a cluster from its i-th on differ from each other, and from addresses that are outside it
 run_unlike : (c i n : ℕ) (before : List ℕ) → i + n ≤ 4096 → AllByRecursion (IsOff c i) before →
     EachAfter IsNoneOf before (run_of (c + i) n)
 run_unlike c i zero before low h = tt
@@ -85,7 +85,7 @@ run_off c d i (suc n) hc hd differ low =
       rw next (run_off c d (i + 1) n hc hd differ (omega (arith, low))),
     )
 
--- ---- clusters one behind another
+-- ---- clusters one after another
 
 abbrev IsWhole : Va → Type 0
 IsWhole c = c.0 % 4096 ≡ 0
@@ -93,7 +93,7 @@ IsWhole c = c.0 % 4096 ≡ 0
 abbrev Differs : Va → Va → Type 0
 Differs c d = c.0 ≡ d.0 → ⊥
 
--- each begins a virtual page, and differs from those behind it
+-- each begins a virtual page, and differs from those after it
 abbrev Differ : List Va → Type 0
 Differ [] = Unit {0}
 Differ (c ∷ cs) = IsWhole c × (AllByRecursion (Differs c) cs × Differ cs)
@@ -143,7 +143,7 @@ front_short n (c ∷ cs) = by (n == 0) (front_short (n - 4096) cs)
     by true more = omega arith
     by false more = omega (arith, more)
 
--- addresses are off these clusters
+-- addresses are outside these clusters
 abbrev AreOff : List ℕ → List Va → Type 0
 AreOff before cs = AllByRecursion (λ (c : Va). AllByRecursion (IsOff c.0 0) before) cs
 
@@ -176,7 +176,7 @@ front_unlike n (c ∷ cs) before differ off =
 
 -- ---- the chain
 
--- an address off all clusters is none of those of their front
+-- an address that is in no cluster is in no front of a cluster
 none_in_run : (a c i n : ℕ) → i + n ≤ 4096 → IsOff c 0 a → list_any (λ b. a == b) (run_of (c + i) n) ≡ false
 none_in_run a c i zero low off = refl
 none_in_run a c i (suc n) low off =
@@ -205,7 +205,7 @@ front_none a n (c ∷ cs) h =
     by true some = refl
     by false some = some
 
--- a byte of a span that shares none with a cluster is off the cluster
+-- a byte of a span that shares none with a cluster is outside the cluster
 apart_off : (c : ℕ) (s : Span) (a : ℕ) → shares c s ≡ false → s.va.0 ≤ a → a < s.va.0 + s.len → IsOff c 0 a
 apart_off c s a e low high k =
     let none : min (c + 4096) (s.va.0 + s.len) ≤ max c s.va.0 = ltb-false _ _ e in omega (arith, none, low, high, k)

@@ -1,4 +1,4 @@
--- What is counted, with one more operation or item.
+-- Counts after one more operation or item.
 use Rattle.std.proofs.Common.{◌≡◌, ℕ, List, [], ◌∷◌, ◌++◌, length, sum_by, arith, length-append, refl}
 use Rattle.std.proofs.lemmas.List.Sums.{sum_by-append}
 use Rattle.busdma_base.specs.declared.scenarios.script.Op.{Op}

@@ -1,4 +1,4 @@
--- One more element that may stand behind those before it.
+-- One more element that is right after those before it.
 use Rattle.std.proofs.Common.{List, [], ◌∷◌, ◌++◌, append-nil, append_assoc}
 use Rattle.busdma_machine.specs.Each.{EachAfter}
 

@@ -1,4 +1,4 @@
--- What has no frames is loaded of any driver's pages.
+-- A load without frames may be a load of any driver's pages.
 use Rattle.std.proofs.Common.{◌≡◌, List, Option, Some, Result, IfOk, IfSome, subst, sym}
 use Rattle.std.proofs.lemmas.Result.{IfOk-weaker}
 use Rattle.busdma_base.specs.declared.scenarios.buffer.Buffer.{Buffer}

@@ -11,16 +11,16 @@ pub record LiesBetween (bounds : Bounds) (s : Span) : Type 0 where
   pub from : bounds.first ≤ s.va.0
   pub to : s.va.0 + s.len ≤ bounds.end
 
--- a cluster at this address lies beside what lies between them
+-- a cluster at this address is outside the bounds of a chain
 abbrev pub is_beside : ℕ → Bounds → Bool
 is_beside va bounds = nat_le (va + 4096) bounds.first || nat_le bounds.end va
 
--- a cluster is not above an address
+-- a cluster is at this address or below it
 abbrev pub IsUpTo : ℕ → Va → Type 0
 IsUpTo highest c = c.0 ≤ highest
 
--- a cluster of a send of this chain, behind those before it: it begins a virtual page, is none of those, and covers
--- no byte of the chain
+-- a cluster of a send of this chain, after the clusters before it: it begins a virtual page, is none of
+-- those, and has no byte of the chain
 pub record IsClusterOf (chain : List Span) (before : List Va) (c : Va) : Type 0 where
   pub whole : c.0 % 4096 ≡ 0
   pub fresh : list_any (is_cluster c.0) before ≡ false

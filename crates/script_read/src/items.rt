@@ -1,4 +1,4 @@
-//! The items of a load.
+//! Reads the items of a load.
 
 ghost use Rattle.std.specs.Prelude.{◌≡◌, [], false, map, IfOk};
 ghost use Rattle.std.specs.List.{AllByRecursion};
@@ -120,7 +120,7 @@ fn raw_write(here: &Node, before: &NamedOps) -> Result<Item, Stop>
     Ok(Item::DevWriteAt { tag, addr, bytes })
 }
 
-/// The item of a word, whose own step is counted.
+/// Reads the item of a word. Its own step was counted before.
 fn item_by(
     word: ItemWord,
     here: &Node,
@@ -197,7 +197,7 @@ fn then(here: &Node, before: &NamedOps, counts: &mut Counts) -> Result<ItemList,
     Ok(ListOf::new(each_item(here, items, before, counts)?))
 }
 
-/// The items of a load.
+/// Reads the items of a load at the key `then`.
 #[tactic(auto, unfolding(scenario_format::specs::Scripts::Items::then_field))]
 pub(crate) fn then_field(
     here: &Node,

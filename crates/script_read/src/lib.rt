@@ -1,4 +1,4 @@
-//! The operations of a script, each read by the operations before it.
+//! Reads the operations of a script, each by the operations before it.
 #![tactic(auto)]
 
 mod items;

@@ -1,4 +1,4 @@
-//! The loads of a map.
+//! Reads the loads of a map.
 
 ghost use Rattle.std.specs.Prelude.{◌≡◌, ◌≤◌, List, IfOk, Some};
 ghost use Rattle.std.specs.List.{AllByRecursion};
@@ -23,7 +23,7 @@ use script_fields::{
     NamedOps, bio_field, count_load, entries_field, flags_field, loaded_from, span_bytes, used_name,
 };
 
-/// How many bytes a buffer has.
+/// Returns how many bytes a buffer has.
 fn buffer_bytes(buffer: &Buffer) -> u128
     ensures { result ≡ buffers.buffer_bytes buffer.now }
 {
@@ -38,7 +38,7 @@ fn buffer_bytes(buffer: &Buffer) -> u128
     }
 }
 
-/// As how many bytes a buffer counts for the limit on all loads.
+/// Returns as how many bytes a buffer counts for the limit on all loads.
 fn counted_bytes(buffer: &Buffer) -> u128
     ensures { result ≡ buffers.counted_bytes buffer.now }
 {
@@ -64,7 +64,7 @@ fn flat(here: &Node, before: &NamedOps) -> Result<Buffer, Stop>
     Ok(Buffer::Flat { place, len })
 }
 
-/// The map of a load.
+/// Reads the map of a load.
 #[tactic(auto, unfolding(scenario_format::specs::Scripts::Loads::read_loaded_map))]
 pub(crate) fn loaded_map(here: &Node, before: &NamedOps) -> Result<u32, Stop>
     ensures value { Gives result (loads.read_loaded_map before.now (spot_of here.now)) }
@@ -73,7 +73,7 @@ pub(crate) fn loaded_map(here: &Node, before: &NamedOps) -> Result<u32, Stop>
     used_name(here, NameUse::Map, "map", before)
 }
 
-/// The load of a map with a buffer. What stands here says its flags and its items.
+/// Reads the flags and the items of a load of a map with this buffer.
 #[tactic(auto, unfolding(scenario_format::specs::Scripts::Loads::load_of))]
 pub(crate) fn load_of(
     here: &Node,
@@ -105,7 +105,7 @@ pub(crate) fn load_of(
     })
 }
 
-/// A load of bytes from a place on, whose own step is counted.
+/// Reads a load of bytes from a place on. Its own step was counted before.
 #[tactic(auto, unfolding(scenario_format::specs::Scripts::Loads::read_load))]
 pub(crate) fn load(here: &Node, before: &NamedOps, counts: &mut Counts) -> Result<Op, Stop>
     requires within { IsWithin counts.old }
@@ -121,7 +121,7 @@ pub(crate) fn load(here: &Node, before: &NamedOps, counts: &mut Counts) -> Resul
     load_of(here, before, counts, map, buffer)
 }
 
-/// A load of a vector, whose own step is counted.
+/// Reads a load of a vector. Its own step was counted before.
 #[tactic(auto, unfolding(scenario_format::specs::Scripts::Loads::read_load_vector))]
 pub(crate) fn load_vector(here: &Node, before: &NamedOps, counts: &mut Counts) -> Result<Op, Stop>
     requires within { IsWithin counts.old }
@@ -137,7 +137,7 @@ pub(crate) fn load_vector(here: &Node, before: &NamedOps, counts: &mut Counts) -
     load_of(here, before, counts, map, Buffer::Vector(spans))
 }
 
-/// A load of an mbuf chain, whose own step is counted. It has no flags.
+/// Reads a load of an mbuf chain, which has no flags. Its own step was counted before.
 #[tactic(auto, unfolding(scenario_format::specs::Scripts::Loads::read_load_mbuf))]
 pub(crate) fn load_mbuf(here: &Node, before: &NamedOps, counts: &mut Counts) -> Result<Op, Stop>
     requires within { IsWithin counts.old }
@@ -153,7 +153,7 @@ pub(crate) fn load_mbuf(here: &Node, before: &NamedOps, counts: &mut Counts) -> 
     load_of(here, before, counts, map, Buffer::Mbuf(chain))
 }
 
-/// A load of a bio of a driver with these pages, whose own step is counted.
+/// Reads a load of a bio of a driver with these pages. Its own step was counted before.
 #[tactic(auto, unfolding(scenario_format::specs::Scripts::Loads::read_load_bio))]
 pub(crate) fn load_bio(
     here: &Node,

@@ -1,4 +1,4 @@
-//! The operations of a script but its loads.
+//! Reads the operations of a script except its loads.
 
 ghost use Rattle.std.specs.Prelude.{◌≡◌, IfOk, None, true};
 ghost use Rattle.busdma_base.specs.Scenarios.Names.{IsMade};
@@ -131,7 +131,7 @@ pub(crate) fn map(here: &Node, before: &NamedOps) -> Result<Op, Stop>
     Ok(Op::Map { name, tag })
 }
 
-// The map of an operation that says nothing else.
+// Reads an operation that has only a map.
 #[tactic(auto, unfolding(scenario_format::specs::Scripts::Ops::read_only_map))]
 fn only_map(here: &Node, used_as: NameUse, before: &NamedOps) -> Result<u32, Stop>
     ensures value { Gives result (ops.read_only_map used_as before.now (spot_of here.now)) }

@@ -1,4 +1,4 @@
-//! Which clusters take the bytes of a chain.
+//! Plans which clusters take the bytes of a chain.
 
 ghost use Rattle.std.specs.Prelude.{◌≡◌, IfOk, IfSome};
 ghost use Rattle.busdma_machine.specs.Machine.Spans.{span_bytes};
@@ -8,8 +8,12 @@ use busdma_machine::{Mbuf, Span, SpanList, Va};
 use script_fields::span_bytes;
 use std::alloc::{AllocError, Global};
 
-/// As many bytes of clusters as a chain has, in order, as a vector; None where they are too few. A
-/// cluster is 4096 bytes from a virtual address on.
+/// Returns the spans of clusters that take the bytes of a chain, in order. They have as many bytes as the
+/// chain. A cluster is 4096 bytes from a virtual address on. Returns `None` if the clusters are too few.
+///
+/// # Errors
+///
+/// `AllocError` if memory runs out.
 pub fn plan(alloc: Global, chain: &[Mbuf], clusters: &[Va]) -> Result<Option<SpanList>, AllocError>
     ensures plan { IfOk result (λ spans. spans ≡ plan chain.now clusters.now) }
     ensures bytes { IfOk result (λ spans. IfSome spans (λ v. span_bytes v ≡ span_bytes chain.now)) }

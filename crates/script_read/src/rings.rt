@@ -1,4 +1,4 @@
-//! Rings of descriptors, what a driver posts to them, and the kicks of their devices.
+//! Reads rings of descriptors, posts to them, and the kicks of their devices.
 
 ghost use Rattle.std.specs.Prelude.{◌≡◌, ◌≤◌, IfOk, None};
 ghost use Rattle.busdma_base.specs.Scenarios.Limits.{steps_limit};
@@ -54,7 +54,7 @@ pub(crate) fn ring_post(here: &Node, before: &NamedOps) -> Result<Op, Stop>
     })
 }
 
-/// How many steps a kick asks for.
+/// Reads how many steps a kick asks for.
 #[tactic(auto, unfolding(scenario_format::specs::Scripts::Rings::read_count))]
 fn count(here: &Node) -> Result<u64, Stop>
     ensures value { Gives result (rings.read_count (spot_of here.now)) }
@@ -68,7 +68,7 @@ fn count(here: &Node) -> Result<u64, Stop>
     Ok(count)
 }
 
-/// A kick of a ring's device, whose own step is counted.
+/// Reads a kick of a ring's device. Its own step was counted before.
 #[tactic(auto, unfolding(scenario_format::specs::Scripts::Rings::read_kick))]
 pub(crate) fn kick(here: &Node, before: &NamedOps, counts: &mut Counts) -> Result<Op, Stop>
     requires within { IsWithin counts.old }

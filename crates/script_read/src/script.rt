@@ -1,4 +1,4 @@
-//! A script: its operations, one after another.
+//! Reads the operations of a script, one after another.
 
 ghost use Rattle.std.specs.Prelude.{◌≡◌, ◌+◌, [], map, IfOk};
 ghost use Rattle.std.specs.List.{AllByRecursion};
@@ -22,7 +22,7 @@ use scenario_format::Counts;
 use script_fields::{NamedOps, count_steps, op_word};
 use serde_json::Value;
 
-/// The operation of a word, whose own step is counted.
+/// Reads the operation of a word. Its own step was counted before.
 #[tactic(auto, using(crate::proofs::Counting::with_op_quiet))]
 fn op_by(
     word: OpWord,
@@ -101,8 +101,13 @@ fn each_op<'v>(
     Ok(before.into_ops())
 }
 
-/// The operations of the script that stands here, in order, of a driver with these pages. Their steps and bytes are
-/// counted.
+/// Reads the operations of a script, in order, of a driver with these pages, and counts their steps and
+/// bytes.
+///
+/// # Errors
+///
+/// `Stop::Refused` with the first refusal, in the order of the script. `Stop::OutOfMemory` if memory runs
+/// out.
 #[tactic(auto, unfolding(scenario_format::specs::Scripts::Script::read_script))]
 pub fn script_of(here: &Node, pages: &[PageRun], counts: &mut Counts) -> Result<OpList, Stop>
     requires within { IsWithin counts.old }

@@ -1,4 +1,4 @@
-//! Sends, and the clusters that take the bytes of their chains.
+//! Reads sends, and the clusters that take the bytes of their chains.
 
 ghost use Rattle.std.specs.Prelude.{◌≡◌, ◌≤◌, List, [], length, map, IfOk, IfSome};
 ghost use Rattle.std.specs.List.{list_any, AllByRecursion};
@@ -27,8 +27,8 @@ use script_fields::{NamedOps, entries, entries_field};
 use serde_json::Value;
 use std::alloc::{AllocError, Global};
 
-/// Addresses between which the bytes of a chain lie. Most clusters lie beside them, and are judged without a walk over
-/// the chain.
+/// Two addresses between which the bytes of a chain lie. Most clusters are outside them, and are judged
+/// without a walk over the chain.
 #[derive(Clone, Copy, Debug)]
 struct Bounds {
     first: u64,
@@ -50,7 +50,7 @@ fn bounds_of(chain: &[Span]) -> Bounds
     bounds
 }
 
-/// A cluster at this address and a span have a byte in common.
+/// Returns whether a cluster at this address and a span have a byte in common.
 fn shares(va: u64, span: &Span) -> bool
     ensures { result ≡ sends.shares va span.now }
 {
@@ -78,7 +78,7 @@ fn is_any(va: u64, before: &[Va]) -> bool
     before.iter().any(|cluster| cluster.0 == va)
 }
 
-/// A cluster at this address has a byte of the chain.
+/// Returns whether a cluster at this address has a byte of the chain.
 #[tactic(auto, using(crate::proofs::Hints::none_shared))]
 fn is_covered(va: u64, chain: &[Span], bounds: Bounds) -> bool
     requires { AllByRecursion (LiesBetween bounds) chain.now }
@@ -90,7 +90,7 @@ fn is_covered(va: u64, chain: &[Span], bounds: Bounds) -> bool
     shares_any(va, chain)
 }
 
-/// A cluster at this address is one of these, none of which is above `highest`.
+/// Returns whether a cluster at this address is one of these, none of which is above `highest`.
 #[tactic(auto, using(crate::proofs::Hints::none_above))]
 fn is_one_of(va: u64, before: &[Va], highest: u64) -> bool
     requires { AllByRecursion (IsUpTo highest) before.now }
@@ -150,7 +150,7 @@ fn clusters(here: &Node, chain: &[Span]) -> Result<ListOf<Va>, Stop>
     Ok(ListOf::new(each_cluster(here, items, chain)?))
 }
 
-/// The clusters in `clusters`, in order.
+/// Reads the clusters at the key `clusters`, in order.
 #[tactic(auto, unfolding(scenario_format::specs::Scripts::Sends::clusters_field))]
 fn clusters_field(here: &Node, chain: &[Span]) -> Result<ListOf<Va>, Stop>
     ensures value { Gives result (sends.clusters_field chain.now (spot_of here.now)) }
@@ -160,7 +160,7 @@ fn clusters_field(here: &Node, chain: &[Span]) -> Result<ListOf<Va>, Stop>
     clusters(&here.required("clusters")?, chain)
 }
 
-/// The clusters that take the bytes of a chain, where they are enough.
+/// Returns the spans of clusters that take the bytes of a chain, or `None` if the clusters are too few.
 fn planned(
     alloc: Global,
     chain: &[Span],
@@ -174,7 +174,7 @@ fn planned(
     plan(alloc, chain, clusters)
 }
 
-/// A send of an mbuf chain, whose own step is counted. It has no flags.
+/// Reads a send of an mbuf chain, which has no flags. Its own step was counted before.
 #[tactic(auto, unfolding(scenario_format::specs::Scripts::Sends::read_send))]
 pub(crate) fn send(here: &Node, before: &NamedOps, counts: &mut Counts) -> Result<Op, Stop>
     requires within { IsWithin counts.old }

@@ -136,7 +136,7 @@ cut_extent t m s e es later eff x j fits =
           (ends_frame e s.owed es gt x j))
     ]) refl
 
--- where a next extent but the last begins, it has all that is owed
+-- if a next extent but the last begins, it has all bytes that are owed
 still_fits : (t : TagLimits) (m : ℕ) (s : Cutter) (e : Extent) (es : List Extent) → IsEffective t →
     AllByRecursion IsExtent (e ∷ es) → AreJoined (e ∷ es) → Fits s.owed (e ∷ es) → Fits (cut_by t m s e).owed es
 still_fits t m s e [] eff x j fits = tt
@@ -156,7 +156,7 @@ cut_at t m s e =
     elim (leb e.len s.owed) as (λ b. (cond b (continued s e) (begun t m s e)).at
     ≡ s.at + e.len) [ true ↦ refl | false ↦ refl ]
 
--- what a cutter asks of the parts to come
+-- what a cutter requires of the parts to come
 pub record IsCuttable (owed : ℕ) (ps : List Part) : Type 0 where
   pub extents : AllByRecursion IsExtent (others_of ps)
   pub joined : AreJoined (others_of ps)
@@ -266,7 +266,7 @@ no_others : (es : List Entry) → others_of (parts_of es) ≡ []
 no_others [] = refl
 no_others (e ∷ es) = others_opened e.rounded e.parts (parts_of es) (no_others es)
 
--- the first entry of a stream of entries, where it has an extent
+-- the first entry of a stream of entries, if it has an extent
 entry_first : (r : Bool) (x : Extent) (xs : List Extent) (ps : List Part) → others_of ps ≡ [] →
     entries_of (extent_parts true r (x ∷ xs) ++ ps) ≡ record { rounded = r; parts = x ∷ xs } ∷ entries_of ps
 entry_first r x xs ps h =
@@ -331,7 +331,7 @@ pub stream_of_entries : (es : List Entry) → AllByRecursion IsEntry es →
 stream_of_entries es h l =
     record { opens = no_others es; entries = are_entries es h; bytes = omega (arith, same_bytes es) }
 
--- has the chunks of the entries
+-- the stream has the chunks of the entries
 pub chunks_of_parts : (t : TagLimits) (m : ℕ) (es : List Entry) →
     chunks_of t m (entries_of (parts_of es)) ≡ chunks_of t m es
 chunks_of_parts t m es = same_chunks t m 0 es

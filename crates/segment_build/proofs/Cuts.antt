@@ -11,7 +11,7 @@ use Rattle.busdma_rules.specs.Segments.Built.{IsFew, AreTooMany}
 use Rattle.segment_build.specs.Joining.{added, added_all}
 use Rattle.busdma_rules.proofs.Segments.Cuts.{cut_is}
 
--- ---- a piece more
+-- ---- one more piece
 
 added_under : (t : TagLimits) (q s : Segment) (ps : List Segment) (p : Segment) →
     added t (q ∷ segments_from t s ps) p ≡ q ∷ added t (segments_from t s ps) p
@@ -44,7 +44,7 @@ cut_all t xs (y ∷ ys) =
     ap (λ ps. segmentation t ps) (sym (append_assoc xs (y ∷ []) ys))
     ∙ (cut_all t (xs ++ y ∷ []) ys ∙ ap (λ segs. added_all t segs ys) (cut_last t xs y))
 
--- ---- and the only one
+-- ---- the segmentation is the only one
 
 cut_run : (t : TagLimits) (s : Segment) (others ps : List Segment) → EachJoins t s others →
     segments_from t s (others ++ ps) ≡ segments_from t (grown s others) ps
@@ -62,9 +62,9 @@ pub one_segmentation : (t : TagLimits) (segs ps : List Segment) → IsSegmentati
 one_segmentation t segs ps h =
     sym h.segments_are ∙ (cut_runs t h.runs h.joined ∙ ap (λ xs. segmentation t xs) h.pieces_are)
 
--- ---- how many
+-- ---- how many segments there are
 
--- a piece more gives no fewer segments
+-- one more piece gives no fewer segments
 pub added_longer : (t : TagLimits) (segs : List Segment) (p : Segment) → length segs ≤ length (added t segs p)
 added_longer t [] p = omega arith
 added_longer t (s ∷ []) p =
@@ -88,7 +88,7 @@ pub cut_shorter : (t : TagLimits) (ps : List Segment) → length (segmentation t
 cut_shorter t [] = omega arith
 cut_shorter t (p ∷ ps) = omega (arith, cut_from_shorter t p ps)
 
--- ---- what is built, where the pieces behind the first i are still to come
+-- ---- what is built if the pieces after the first i are still to come
 
 pub are_few : (t : TagLimits) (segs ps : List Segment) (i : ℕ) → length ps ≤ i →
     added_all t segs (drop i ps) ≡ added_all t [] ps → length segs ≤ t.nsegments → IsFew t ps segs

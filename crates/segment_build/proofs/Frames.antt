@@ -52,7 +52,7 @@ room_left b d x f q left pos e is l =
     let r = mod_below x b (omega arith) in
     omega arith
 
--- with a page at 4096 * f, and q + left bytes of it
+-- a piece of a page has the same length in the page at 4096 * f as in the page at 0
 page_piece : (t : TagLimits) (f q left : ℕ) → IsEffective t → q + left ≤ 4096 →
     piece_len t (4096 * f + q) left ≡ piece_len t q left
 unfolding IsBoundary
@@ -75,7 +75,7 @@ page_piece t f q left eff l =
         let y = room_left t.boundary s.0 q 0 q left s.1 s.2 (omega arith) l in
         omega arith
 
--- a run has as many pieces wherever its page is
+-- a run in a page has equally many pieces in each page
 as_many_pieces : (n : ℕ) (t : TagLimits) (f q left : ℕ) → IsEffective t → q + left ≤ 4096 → left ≤ n →
     length (pieces_of t (run_of (4096 * f + q) left)) ≡ length (pieces_of t (run_of q left))
 as_many_pieces n t f q zero eff l i = refl
@@ -119,7 +119,7 @@ pages_later : (pages : List Pa) → AllByRecursion IsPage pages → AllByRecursi
 pages_later [] h = tt
 pages_later (p ∷ ps) h = h.1
 
--- chunks have as many pieces in whichever pages
+-- chunks have equally many pieces in any pages
 pub as_many : (t : TagLimits) (cs : List Chunk) (xs ys : List Pa) → IsEffective t → AllByRecursion (IsPlaceable t) cs →
     AllByRecursion IsPage xs → AllByRecursion IsPage ys →
     length (placed_pieces t cs xs) ≡ length (placed_pieces t cs ys)

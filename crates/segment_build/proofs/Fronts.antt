@@ -12,7 +12,7 @@ use Rattle.segment_build.specs.Cutting.{after, closed, closed_part, uncut}
 use Rattle.segment_build.proofs.SoFar.{need_longer, pieces_longer}
 use Rattle.segment_build.proofs.PartByPart.{holds, holds_at}
 
--- the chunks that are closed with a part more need no more pages than the whole
+-- the chunks that one more part closes need no more pages than those of the stream
 pub front_need : (t : TagLimits) (m : ℕ) (ps : List Part) (p : Part) → IsEffective t → IsStream (ps ++ p ∷ []) →
     need_of (closed t m uncut ps ++ option_to_list (closed_part (after t m uncut ps) p))
     ≤ need_of (chunks_of t m (entries_of (ps ++ p ∷ [])))
@@ -26,7 +26,7 @@ front_need t m ps p eff h =
       need_longer (closed t m uncut (ps ++ p ∷ [])) (option_to_list (after t m uncut (ps ++ p ∷ [])).last),
     )
 
--- and have no more pieces
+-- the chunks that one more part closes have no more pieces than those of the stream
 pub front_pieces : (t : TagLimits) (m : ℕ) (ps : List Part) (p : Part) (pages : List Pa) → IsEffective t →
     IsStream (ps ++ p ∷ []) →
     length (placed_pieces t (closed t m uncut ps ++ option_to_list (closed_part (after t m uncut ps) p)) pages)

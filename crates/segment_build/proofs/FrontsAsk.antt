@@ -1,4 +1,4 @@
--- What a build asks of a stream holds of each front of a stream of which it holds.
+-- What a build requires of a stream holds of each front of a stream of which it holds.
 use Rattle.std.proofs.Common.{◌≡◌, ◌^◌, ℕ, ◌+◌, ◌≤◌, min, List, [], ◌∷◌, ◌++◌, length, drop, Bool, true, false, cond}
 use Rattle.std.proofs.Common.{refl, ap, sym, ◌∙◌, subst, arith, append_assoc, append-nil, length-append, ◌⊎◌, inl, inr}
 use Rattle.std.specs.Prelude.{Option, Some, None, IfSome}
@@ -110,7 +110,7 @@ bytes_front t m r at es rest eff =
     (within_front (length bs) (length (bs ++ more)) t m r at bs more eff (omega arith)
     (omega (arith, length-append bs more)))
 
--- the last entry of a front, and the same entry of the whole
+-- the last entry of a front, and the same entry of the stream
 last_front : (t : TagLimits) (m at : ℕ) (r : Bool) (e : Extent) (xs ys : List Part) (later : List Chunk) →
     IsEffective t → entries_of xs ≡ [] →
     IsFront (chunks_from t m at (record { rounded = r; parts = e ∷ others_of xs } ∷ entries_of xs))
@@ -233,7 +233,7 @@ front_pieces t cs ds pages eff x y f =
       last_pieces t f.last f.other left eff a b f.longer,
     )
 
--- the front of a stream asks no more than the whole
+-- the front of a stream requires no more than the stream
 pub fronts_ask : (t : TagLimits) (m : ℕ) (pages : List Pa) → IsEffective t → FrontsAskNoMore t m pages
 fronts_ask t m pages eff xs ys h =
     let stream = IsStream-front xs ys h in
@@ -258,7 +258,7 @@ HasRooms-front t m pages room bounced_room fronts xs ys h =
     let bounced = h.bounced_fit in
     record { stream = front.stream; need = omega arith; fits = omega arith; bounced_fit = omega arith }
 
--- the entries of a load give such a stream
+-- the stream of the entries of a load has pages and room, if its chunks do
 pub entries_have_rooms : (t : TagLimits) (m : ℕ) (pages : List Pa) (room bounced_room : ℕ) (es : List Entry) →
     AllByRecursion IsEntry es → entries_bytes es ≤ 2 ^ 20 → need_of (chunks_of t m es) ≤ length pages →
     min (length (placed_pieces t (chunks_of t m es) pages)) t.nsegments ≤ room →

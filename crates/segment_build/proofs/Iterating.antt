@@ -1,4 +1,4 @@
--- What an iterator has given, where its state shows what is left.
+-- What an iterator has yielded, if its state shows what is left.
 use Rattle.std.proofs.Common.{◌≡◌, List, [], ◌∷◌, ◌++◌, ap, sym, ◌∙◌, subst, append-nil}
 use Rattle.std.specs.declared.option.Option.{Option}
 use Rattle.std.specs.declared.option.Option.TheVariants.{Some, None}
@@ -11,11 +11,11 @@ module _ {S A : Type 0} (rest : S → List A) where
   given_first s [] t y = ap rest y
   given_first s (x ∷ xs) t y = y.1 ∙ ap (λ ys. x ∷ ys) (given_first y.0 xs t y.2)
 
-  -- a whole run gives what was left
+  -- a complete run yields what was left
   pub drained_first : (s : S) (xs : List A) → Drains (YieldsFirst rest) s xs → rest s ≡ xs
   drained_first s xs d = given_first s xs d.1.0 d.1.1 ∙ (ap (λ ys. xs ++ ys) d.1.2.0 ∙ append-nil xs)
 
-  -- what holds of the whole list, and of each front of a list of which it holds, holds along a run
+  -- what holds of a list, and of each front of a list of which it holds, holds along a run
   pub along_first : (P : List A → Type 0) → ((xs ys : List A) → P (xs ++ ys) → P xs) → (s : S) →
       P (rest s) → HoldsAlong (YieldsFirst rest) s P
   along_first P front s h xs t y = front xs (rest t) (subst P (given_first s xs t y) h)

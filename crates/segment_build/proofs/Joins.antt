@@ -1,4 +1,4 @@
--- A piece more behind segments, by the last of them.
+-- One more piece after segments, by the last segment.
 use Rattle.std.proofs.Common.{◌≡◌, suc, ◌+◌, ◌-◌, List, [], ◌∷◌, ◌++◌, length, true, false, cond, refl, ap, sym, ◌∙◌}
 use Rattle.std.proofs.Common.{arith, length-append}
 use Rattle.std.specs.Prelude.{Option, Some, None, slice_get, slice_set}
@@ -9,7 +9,7 @@ use Rattle.busdma_machine.specs.declared.tags.tag.TagLimits.{TagLimits}
 use Rattle.busdma_rules.specs.Segments.Segmentation.{joint, may_join}
 use Rattle.segment_build.specs.Joining.{added, joined}
 
--- the last segment, and the segments behind one that is not the last
+-- the last segment, and the segments after one that is not the last
 abbrev last_of : List Segment → Option Segment
 last_of segments = slice_get segments (length segments - 1)
 
@@ -43,7 +43,7 @@ apart_case t s p h =
       | false ↦ λ w e. w
     ]) refl h
 
--- where the piece joins the last segment
+-- the piece joins the last segment
 pub added_joins : (t : TagLimits) (segments : List Segment) (p j : Segment) →
     joined t (slice_get segments (length segments - 1)) p ≡ Some j →
     added t segments p ≡ slice_set segments (length segments - 1) j
@@ -53,7 +53,7 @@ added_joins t (s ∷ r ∷ rs) p j h =
     ap (λ xs. s ∷ xs) (added_joins t (r ∷ rs) p j (ap (λ o. joined t o p) (sym (last_behind s r rs)) ∙ h))
     ∙ sym (set_behind s r j rs)
 
--- where it does not
+-- the piece does not join the last segment
 pub added_begins : (t : TagLimits) (segments : List Segment) (p : Segment) →
     joined t (slice_get segments (length segments - 1)) p ≡ None → added t segments p ≡ segments ++ p ∷ []
 added_begins t [] p h = refl
@@ -64,7 +64,7 @@ added_begins t (s ∷ r ∷ rs) p h =
 pub longer_by_one : (segments : List Segment) (p : Segment) → length (segments ++ p ∷ []) ≡ length segments + 1
 longer_by_one segments p = simp length-append (omega arith)
 
--- a call that succeeds gives no error
+-- a result that is Ok is no error
 pub not_refused : {T E : Type 0} (r : Result T E) (e : E) → r ≡ Err e → IsOk r → ⊥
 not_refused (Ok x) e h k = absurd cc
 not_refused (Err y) e h k = false≢true k

@@ -19,7 +19,7 @@ use Rattle.busdma_rules.proofs.Segments.Sound.{made_len}
 
 -- ---- pieces of longer runs
 
--- where a piece does not have all that is left, more bytes leave it as it is
+-- if a piece does not take all that is left, more bytes leave it as it is
 piece_more : (t : TagLimits) (a n m : ℕ) → piece_len t a n < n → piece_len t a (n + m) ≡ piece_len t a n
 piece_more t a n m h =
     (elim (eqb t.boundary 0) as (λ b. eqb t.boundary 0 ≡ b → piece_len t a (n + m) ≡ piece_len t a n) [
@@ -80,7 +80,7 @@ abbrev pub BeginsLonger : Chunk → List Chunk → Type 0
 BeginsLonger c [] = ⊥
 BeginsLonger c (d ∷ ds) = IsLonger c d
 
--- the chunks of a front: they are those of the whole, but that the last may be shorter
+-- the chunks of a front are those of the stream, except that the last may be shorter
 pub record IsFront (cs ds : List Chunk) : Type 0 where
   pub shared : List Chunk
   pub last : Option Chunk

@@ -1,4 +1,4 @@
--- Segments with the pieces of a run more.
+-- Segments with the pieces of one more run.
 use Rattle.std.proofs.Common.{◌≡◌, ◌+◌, ◌<◌, ◌≤◌, List, [], ◌∷◌, ◌++◌, length, true, false, cond, ap, sym, ◌∙◌, subst}
 use Rattle.std.proofs.Common.{arith}
 use Rattle.busdma_machine.specs.declared.machine.address.Segment.{Segment}
@@ -45,7 +45,7 @@ many_with t before segs ps h many =
       many = subst (λ xs. t.nsegments < length xs) (all_added t before segs ps h) many;
     }
 
--- segments that are too many stay so with more pieces
+-- if segments are too many, they are too many with more pieces
 pub still_many_with : (t : TagLimits) (before ps : List Segment) → AreTooMany t before → AreTooMany t (before ++ ps)
 still_many_with t before ps h =
     record {

@@ -1,4 +1,4 @@
--- One part of a stream after the other.
+-- The parts of a stream, one after the other.
 use Rattle.std.proofs.Common.{◌≡◌, ℕ, zero, suc, ◌+◌, ◌-◌, ◌≤◌, ◌^◌, List, [], ◌∷◌, ◌++◌, length, drop, true, false}
 use Rattle.std.proofs.Common.{cond, refl, ap, sym, ◌∙◌, subst, arith, append-nil, length-append}
 use Rattle.std.specs.Prelude.{Option, Some, None, IfSome}
@@ -211,7 +211,7 @@ pieces_few t (c ∷ cs) pages eff h =
       )
     ]) refl
 
--- the first byte that cannot be reached, with a part more
+-- the first byte that cannot be reached, after one more part
 pub unmapped_last : (ps : List Part) (p : Part) →
     unmapped_of (ps ++ p ∷ []) ≡ option_or (unmapped_of ps) (unmapped_of (p ∷ []))
 unmapped_last [] p = refl
@@ -222,7 +222,7 @@ no_pages : (k : ℕ) → drop {A = Pa} k [] ≡ []
 no_pages zero = refl
 no_pages (suc k) = refl
 
--- the number of pieces with chunks more
+-- the number of pieces after more chunks
 pub pieces_more : (t : TagLimits) (xs ys : List Chunk) →
     length (placed_pieces t (xs ++ ys) []) ≡ length (placed_pieces t xs []) + length (placed_pieces t ys [])
 pieces_more t xs ys =

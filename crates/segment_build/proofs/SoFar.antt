@@ -1,4 +1,4 @@
--- What is built of chunks, with a chunk more.
+-- What is built of chunks, after one more chunk.
 use Rattle.std.proofs.Common.{◌≡◌, ◌<◌, ◌≤◌, List, [], ◌∷◌, ◌++◌, length, drop, Bool, true, false, refl, ap, sym, ◌∙◌}
 use Rattle.std.proofs.Common.{subst, arith, length-append}
 use Rattle.std.specs.Prelude.{Result, Ok, Err, OnOk, IfOk}
@@ -21,7 +21,7 @@ pub used_pages : (t : TagLimits) (pages : List Pa) (cs : List Chunk) (segs : Lis
     IsSoFar t pages cs segs bounced true → length bounced ≡ need_of cs
 used_pages t pages cs segs bounced h = ap length (h.bounced_are refl) ∙ placed_need (keep_pg_offset t.flags) cs pages
 
--- the segments with the pieces of a chunk more
+-- the segments with the pieces of one more chunk
 pub segments_more : (t : TagLimits) (pages : List Pa) (cs : List Chunk) (segs : List Segment) (bounced : List Chunk)
     (c : Chunk) → IsSoFar t pages cs segs bounced true →
     added_all t segs (placed_pieces t (c ∷ []) (drop (length bounced) pages))
@@ -71,7 +71,7 @@ more_many t pages cs segs next bounced later c h l =
       };
     }
 
--- the segments of a front are no more than those of the whole
+-- the segments of a front are no more than those of the stream
 pub cut_longer : (t : TagLimits) (xs ys : List Segment) →
     length (segmentation t xs) ≤ length (segmentation t (xs ++ ys))
 cut_longer t xs ys = omega (arith, ap length (cut_all t xs ys), added_all_longer t (segmentation t xs) ys)

@@ -8,8 +8,8 @@ use Rattle.busdma_rules.specs.Segments.Built.{IsFew, AreTooMany}
 use Rattle.busdma_rules.specs.Segments.Chunks.{bounced_of}
 use Rattle.busdma_rules.specs.Segments.Building.{tag_placed, placed_pieces}
 
--- What the private steps of the code do; no public clause cites it: the segments and bounced chunks that are
--- built of these chunks, while the segments are few enough
+-- the segments and bounced chunks that are built of these chunks, as long as the segments are few enough;
+-- only the private steps of the code use this, and no public clause cites it
 pub record IsSoFar (t : TagLimits) (pages : List Pa) (cs : List Chunk) (segments : List Segment)
     (bounced : List Chunk) (few : Bool) : Type 0 where
   pub segments_are : few ≡ true → IsFew t (placed_pieces t cs pages) segments

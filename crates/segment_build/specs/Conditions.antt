@@ -1,4 +1,4 @@
--- What a build into two lists with room asks.
+-- What a build into two lists with room requires.
 use Rattle.std.specs.Prelude.{◌≡◌, ◌≤◌, ℕ, min, List, [], length, Option}
 use Rattle.std.specs.Iterator.{HoldsAlong}
 use Rattle.std.specs.List.{AllByRecursion}
@@ -14,7 +14,7 @@ use Rattle.busdma_rules.specs.Segments.Chunks.{need_of}
 use Rattle.segment_build.specs.Streams.{stream_chunks}
 use Rattle.busdma_rules.specs.Segments.Trace.{IsPage}
 
--- parts are a stream that has pages for its need, and room for its segments and for its bounced chunks
+-- these parts are a stream; there are pages for its need, and room for its segments and its bounced chunks
 pub record HasRooms (t : TagLimits) (maxmem : ℕ) (pages : List Pa) (room bounced_room : ℕ)
     (parts : List Part) : Type 0 where
   pub stream : IsStream parts
@@ -22,7 +22,8 @@ pub record HasRooms (t : TagLimits) (maxmem : ℕ) (pages : List Pa) (room bounc
   pub fits : min (length (placed_pieces t (stream_chunks t maxmem parts) pages)) t.nsegments ≤ room
   pub bounced_fit : need_of (stream_chunks t maxmem parts) ≤ bounced_room
 
--- the pages begin frames, the two lists are empty, and each front of what an iterator gives has pages and room
+-- the pages begin frames, the two lists are empty, and each front of what an iterator yields has pages and
+-- room
 pub record CanBuild {S : Type 0} (steps : S → Option Part → S → Type 0) (parts : S) (t : TagLimits) (maxmem : ℕ)
     (pages : List Pa) (list : Roomy Segment) (bounced : Roomy Chunk) : Type 0 where
   pub at_frames : AllByRecursion IsPage pages

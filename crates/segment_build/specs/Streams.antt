@@ -1,4 +1,4 @@
--- What a stream is measured to, and what is built of it and asked of its fronts.
+-- The measure of a stream, what is built of it, and what its fronts require.
 use Rattle.std.specs.Prelude.{◌≡◌, ℕ, ◌≤◌, List, ◌++◌, length, Some, None}
 use Rattle.std.specs.List.{AllByRecursion}
 use Rattle.busdma_machine.specs.declared.machine.address.Pa.{Pa}
@@ -20,8 +20,8 @@ use Rattle.busdma_rules.specs.Segments.Trace.{IsPage}
 abbrev pub stream_chunks : TagLimits → ℕ → List Part → List Chunk
 stream_chunks t maxmem parts = chunks_of t maxmem (entries_of parts)
 
--- a stream in which each byte can be reached needs so many bounce pages, and has so many pieces, in
--- whichever pages, and so many bytes
+-- each byte of the stream can be reached, and these are the numbers of its bounce pages, of its pieces in any
+-- pages, and of its bytes
 pub record IsMeasure (t : TagLimits) (maxmem : ℕ) (parts : List Part)
     (pages_needed piece_number byte_number : ℕ) : Type 0 where
   pub mapped : unmapped_of parts ≡ None
@@ -30,34 +30,34 @@ pub record IsMeasure (t : TagLimits) (maxmem : ℕ) (parts : List Part)
       piece_number ≡ length (placed_pieces t (stream_chunks t maxmem parts) pages)
   pub bytes : byte_number ≡ entries_bytes (entries_of parts)
 
--- the measure of a stream, or its first byte that cannot be reached
+-- the measure of a stream, or the offset of its first byte that cannot be reached
 abbrev pub IsMeasured : TagLimits → ℕ → List Part → Measured → Type 0
 IsMeasured t maxmem parts (Fits need pieces bytes) = IsMeasure t maxmem parts need pieces bytes
 IsMeasured t maxmem parts (Unmapped at) = unmapped_of parts ≡ Some at
 
--- the segments of a stream with these pages, few enough, and its bounced chunks in their pages
+-- the segments of a stream with these pages, which are few enough, and its bounced chunks in their pages
 pub record IsBuiltFrom (t : TagLimits) (maxmem : ℕ) (pages : List Pa) (parts : List Part)
     (segments : List Segment) (bounced : List Chunk) : Type 0 where
   pub segments_are : IsFew t (placed_pieces t (stream_chunks t maxmem parts) pages) segments
   pub bounced_are : bounced ≡ bounced_of (tag_placed t (stream_chunks t maxmem parts) pages)
 
--- the segments of a stream with these pages are too many
+-- the stream has too many segments with these pages
 abbrev pub OverflowsFrom : TagLimits → ℕ → List Pa → List Part → Type 0
 OverflowsFrom t maxmem pages parts = AreTooMany t (placed_pieces t (stream_chunks t maxmem parts) pages)
 
--- what is built of a stream with these pages
+-- the segments and bounced chunks of a stream with these pages, or TooMany if the segments are too many
 abbrev pub IsStreamed : TagLimits → ℕ → List Pa → List Part → Streamed → Type 0
 IsStreamed t maxmem pages parts (Segments list bounced) = IsBuiltFrom t maxmem pages parts list bounced
 IsStreamed t maxmem pages parts TooMany = OverflowsFrom t maxmem pages parts
 
--- a front of a stream is a stream, needs no more bounce pages than the whole, and has no more pieces
+-- a front of a stream is a stream, needs no more bounce pages than the stream, and has no more pieces
 pub record AsksNoMore (t : TagLimits) (maxmem : ℕ) (pages : List Pa) (front whole : List Part) : Type 0 where
   pub stream : IsStream front
   pub need : need_of (stream_chunks t maxmem front) ≤ need_of (stream_chunks t maxmem whole)
   pub pieces : length (placed_pieces t (stream_chunks t maxmem front) pages)
       ≤ length (placed_pieces t (stream_chunks t maxmem whole) pages)
 
--- so does each front of each stream
+-- each front of each stream is a stream, needs no more bounce pages, and has no more pieces
 abbrev pub FrontsAskNoMore : TagLimits → ℕ → List Pa → Type 0
 FrontsAskNoMore t maxmem pages =
     (front rest : List Part) → IsStream (front ++ rest) → AsksNoMore t maxmem pages front (front ++ rest)

@@ -1,4 +1,4 @@
-//! What a chunk adds to what is built of the chunks before it.
+//! Adds a chunk to what is built of the chunks before it.
 
 ghost use Rattle.std.specs.Prelude.{◌≡◌, ◌+◌, ◌<◌, ◌≤◌, [], ◌∷◌, ◌++◌, drop, length, min, true, false, Ok, OnOk, IsOk};
 ghost use Rattle.std.specs.List.{AllByRecursion};
@@ -14,8 +14,8 @@ use crate::pieces::add_run;
 use busdma_machine::{Chunk, ChunkRoom, Pa, SegmentRoom, TagLimits};
 use std::alloc::AllocError;
 
-/// Puts a chunk into its page, the next of `pages` where it is bounced, adds its pieces behind the
-/// segments, and answers whether these are few enough with them.
+/// Puts a chunk into its page, the next of `pages` if it is bounced, and adds its pieces after the segments.
+/// Returns whether the segments are still few enough for the tag.
 pub(crate) fn add_chunk(
     limits: &TagLimits,
     pages: &[Pa],

@@ -1,4 +1,4 @@
-//! Segments of chunks that are in their places.
+//! Builds the segments of chunks that are in their places.
 
 ghost use Rattle.std.specs.Prelude.{◌≡◌, ◌+◌, ◌^◌, ◌<◌, ◌≤◌, ◌++◌, length, IfOk, OnOk};
 ghost use Rattle.std.specs.List.{AllByRecursion};
@@ -13,7 +13,7 @@ use busdma_machine::{Chunk, Pa, Segment, SegmentList, SegmentRoom, TagLimits};
 use dma_tag::Tag;
 use std::alloc::{AllocError, Global};
 
-/// What becomes of chunks.
+/// The result of building segments of chunks.
 #[derive(Debug, Drop)]
 pub enum Built {
     /// The segments, in the order of the bytes.
@@ -22,7 +22,12 @@ pub enum Built {
     TooMany,
 }
 
-/// The segments of chunks that are in their places, or `TooMany`.
+/// Builds the segments of chunks that are in their places. Returns `TooMany` if they are more than the tag's
+/// `nsegments`. After `_bus_dmamap_addseg` of `sys/x86/x86/busdma_bounce.c`.
+///
+/// # Errors
+///
+/// `AllocError` if memory runs out.
 pub fn build(alloc: Global, tag: &Tag, chunks: &[Chunk]) -> Result<Built, AllocError>
     requires placed { AllByRecursion IsPlaced chunks.now }
     ensures { IfOk result (IsBuilt tag.now (chunk_pieces tag.now chunks.now)) }
@@ -37,7 +42,11 @@ pub fn build(alloc: Global, tag: &Tag, chunks: &[Chunk]) -> Result<Built, AllocE
     Ok(Built::Segments(list.into_list()))
 }
 
-/// The pieces of chunks that are in their places, in order.
+/// Returns the pieces of chunks that are in their places, in order.
+///
+/// # Errors
+///
+/// `AllocError` if memory runs out.
 pub fn chunk_pieces(alloc: Global, tag: &Tag, chunks: &[Chunk]) -> Result<SegmentList, AllocError>
     requires placed { AllByRecursion IsPlaced chunks.now }
     ensures { IfOk result (λ l. l ≡ chunk_pieces tag.now chunks.now) }
@@ -72,7 +81,7 @@ fn push_pieces(
     Ok(())
 }
 
-/// The bus bytes of a chunk that is in its place.
+/// Returns the bus bytes of a chunk that is in its place.
 pub(crate) fn bus_run(chunk: &Chunk) -> Segment
     requires placed { IsPlaced chunk.now }
     ensures run { run_of result.addr.0 result.len ≡ bus_addresses chunk.now }

@@ -1,4 +1,4 @@
-//! The chunks of entries, their need, and their pages.
+//! Cuts entries into chunks, counts the pages that these need, and puts them into pages.
 
 ghost use Rattle.std.specs.Prelude.{◌≡◌, ◌+◌, ◌^◌, ◌<◌, ◌≤◌, ◌++◌, length, IfOk, OnOk};
 ghost use Rattle.std.specs.List.{AllByRecursion};
@@ -14,12 +14,18 @@ use busdma_machine::{Chunk, ChunkList, Entry, Pa, Part};
 use dma_tag::Tag;
 use std::alloc::{AllocError, Global};
 
-/// The chunks of the entries of a load, in order, none of them in its page yet.
+/// Cuts the entries of a load into chunks, in order. No chunk is in its page yet.
 ///
-/// `maxmem` is the number at which the machine's frame numbers end. A chunk whose first address
-/// needs no bounce page ends with its frame, or before that with its entry. One that needs a page is
-/// bounced, and its length, as far as its entry goes, is that up to the frame's end, or, where the
-/// entry is rounded and the tag keeps no offset, that rounded up to a multiple of the tag's alignment.
+/// The machine's frame numbers are below `maxmem`. A chunk whose first address needs no bounce page ends with
+/// its frame, or before that with its entry. A chunk whose first address needs a page is bounced. Its length
+/// reaches to the end of the frame, and is rounded up to a multiple of the tag's alignment if the entry is
+/// rounded and the tag keeps no offset. It ends with its entry at the latest.
+///
+/// After `bounce_bus_dmamap_load_buffer` of `sys/x86/x86/busdma_bounce.c`.
+///
+/// # Errors
+///
+/// `AllocError` if memory runs out.
 pub fn chunks(
     alloc: Global,
     tag: &Tag,
@@ -72,7 +78,7 @@ fn cut_entry(
     Ok(())
 }
 
-/// The number of bounce pages that the chunks need: one for each that is bounced.
+/// Returns the number of bounce pages that the chunks need: one for each bounced chunk.
 pub fn need(chunks: &[Chunk]) -> u32
     requires few { length chunks.now < 2 ^ 32 }
     ensures { result ≡ need_of chunks.now }
@@ -86,9 +92,9 @@ pub fn need(chunks: &[Chunk]) -> u32
     need
 }
 
-/// Gives the bounced chunks their pages, in order: the bus addresses of the first bytes of as many
-/// frames as the need. Where the tag keeps offsets, `keep`, a chunk begins as far into its page as
-/// its first address into its own frame, and else with the page.
+/// Gives the bounced chunks their pages, in order. `pages` has as many bus addresses as the chunks need, each
+/// of the first byte of a frame. If `keep` is set (the tag keeps offsets), a chunk begins as far into its
+/// page as its first address is into its own frame. Otherwise it begins with the page.
 pub fn place(chunks: &mut [Chunk], pages: &[Pa], keep: bool)
     requires pages { AllByRecursion IsPage pages.now }
     requires need { need_of chunks.old ≡ length pages.now }
@@ -103,7 +109,7 @@ pub fn place(chunks: &mut [Chunk], pages: &[Pa], keep: bool)
     }
 }
 
-/// A bounced chunk in its page.
+/// Returns a bounced chunk in its page.
 pub(crate) fn in_page(chunk: Chunk, page: Pa, keep: bool) -> Chunk
     requires { IsPage page }
     ensures { result ≡ in_page keep page chunk }

@@ -1,4 +1,4 @@
-//! How extents are cut into chunks one after the other.
+//! Cuts extents into chunks, one after the other.
 
 ghost use Rattle.std.specs.Prelude.{◌≡◌, ℕ, ◌+◌, ◌-◌, ◌%◌, ◌^◌, ◌<◌, ◌≤◌};
 ghost use Rattle.busdma_machine.specs.Machine.Entry.{IsPart, part_bytes};
@@ -14,8 +14,8 @@ use dma_tag::{Tag, TagFlags};
 
 /// What is known between two extents of a load.
 ///
-/// `last` is the chunk that the next extent may lengthen, by `owed` bytes at the most. `rounded` is
-/// the mark of the entry, and `at` the place of the next byte in the load.
+/// `last` is the chunk that the next extent may lengthen, by at most `owed` bytes. `rounded` is the mark of
+/// the entry, and `at` the offset of the next byte in the load.
 #[derive(Clone, Copy)]
 pub(crate) struct Cutter {
     pub(crate) last: Option<Chunk>,
@@ -25,7 +25,7 @@ pub(crate) struct Cutter {
 }
 
 impl Cutter {
-    /// Before the first extent.
+    /// Returns the cutter before the first extent.
     pub(crate) fn new() -> Cutter
         ensures { result ≡ uncut }
     {
@@ -37,8 +37,8 @@ impl Cutter {
         }
     }
 
-    /// Cuts the next part, and gives the chunk that it closes.
-    // A chunk costs less than a call that hands it on through memory.
+    /// Cuts the next part, and returns the chunk that it closes, if it closes one.
+    // Inlined, because a chunk costs less than the call that returns it through memory.
     #[inline(always)]
     pub(crate) fn take(&mut self, tag: &Tag, maxmem: u64, part: Part) -> Option<Chunk>
         requires part { IsPart part }
@@ -61,7 +61,7 @@ impl Cutter {
         self.cut(tag, maxmem, extent)
     }
 
-    // Cuts the next extent of an entry.
+    // Cuts the next extent of an entry, and returns the chunk that it closes, if it closes one.
     #[inline(always)]
     fn cut(&mut self, tag: &Tag, maxmem: u64, extent: Extent) -> Option<Chunk>
         requires extent { IsExtent extent }
@@ -98,14 +98,14 @@ impl Cutter {
     }
 }
 
-/// Whether a bounced byte of the tag keeps its offset in its page.
+/// Returns whether the bounced bytes of a tag keep their offset in the page.
 pub(crate) fn keeps_offset(limits: &TagLimits) -> bool
     ensures { result ≡ keep_pg_offset limits.now.flags }
 {
     TagFlags(limits.flags).contains(TagFlags::KEEP_PG_OFFSET)
 }
 
-// The most bytes of a chunk whose first address is this, which is bounced or is not.
+// Returns the greatest number of bytes of a chunk with this first address.
 fn chunk_limit(tag: &Tag, bounced: bool, rounded: bool, pa: Pa) -> u64
     ensures { (maxmem : ℕ) → bounced ≡ needs_bounce tag.now maxmem pa.0 →
         result ≡ chunk_limit tag.now maxmem rounded pa.0 }
@@ -118,7 +118,7 @@ fn chunk_limit(tag: &Tag, bounced: bool, rounded: bool, pa: Pa) -> u64
     (left + alignment - 1) / alignment * alignment
 }
 
-// The chunk, where there is one, with `len` bytes more.
+// Returns the chunk, if there is one, with `len` more bytes.
 fn with_rest(chunk: Option<Chunk>, pa: Pa, len: u64) -> Option<Chunk>
     ensures { result ≡ with_rest chunk pa.0 len }
 {

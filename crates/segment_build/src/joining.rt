@@ -1,4 +1,4 @@
-//! How pieces join to segments one after the other.
+//! Joins pieces to segments, one after the other.
 
 ghost use Rattle.std.specs.Prelude.{◌≡◌, ◌+◌, ◌^◌, ◌<◌, ◌≤◌, length, min, true, false, Ok, IsOk};
 ghost use Rattle.busdma_rules.specs.Segments.Segmentation.{joint, may_join};
@@ -7,7 +7,7 @@ ghost use Rattle.segment_build.specs.Joining.{added, joined};
 use busdma_machine::{Segment, SegmentRoom, TagLimits};
 use std::alloc::AllocError;
 
-/// Adds a piece behind segments, and answers whether they are few enough with it.
+/// Adds a piece after the segments. Returns whether they are still few enough for the tag.
 pub(crate) fn add_piece(
     limits: &TagLimits,
     list: &mut SegmentRoom,
@@ -33,7 +33,7 @@ pub(crate) fn add_piece(
     Ok(true)
 }
 
-// The last segment with the piece, where that may join it.
+// Returns the last segment joined with the piece, or `None` if the piece must not join it.
 fn joined(limits: &TagLimits, last: Option<Segment>, piece: Segment) -> Option<Segment>
     ensures { result ≡ joined limits.now last piece }
 {
@@ -47,7 +47,7 @@ fn joined(limits: &TagLimits, last: Option<Segment>, piece: Segment) -> Option<S
     })
 }
 
-// Whether a piece may join the pieces before it.
+// Returns whether a piece may join the segment before it.
 fn may_join(limits: &TagLimits, last: &Segment, piece: &Segment) -> bool
     ensures is { result ≡ may_join limits.now last.now piece.now }
     ensures fits { result ≡ true → last.now.len + piece.now.len < 2 ^ 64 }

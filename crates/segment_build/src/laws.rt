@@ -1,4 +1,4 @@
-//! Laws of loads. Each is the contract of a function that does nothing.
+//! Laws of loads. Each law is the contract of a function that does nothing.
 
 ghost use Rattle.std.specs.Prelude.{◌≡◌, ◌*◌, ◌<◌, [], length};
 ghost use Rattle.std.specs.List.{AllByRecursion, flat_map, sum_by};
@@ -19,16 +19,16 @@ ghost use Rattle.busdma_rules.specs.Segments.Trace.{trace};
 use busdma_machine::{Chunk, Entry, Pa, Segment};
 use dma_tag::Tag;
 
-/// Every tag's limits are effective. A proof knows it of a tag only once they were read, and so
-/// calls this where the code reads nothing of the tag.
+/// Every tag's limits are effective. A proof knows this of a tag only after its limits were read, so code
+/// that reads nothing of a tag calls this function.
 pub(crate) fn tag_is_effective(tag: &Tag)
     ensures { IsEffective tag.now }
 {
     tag.limits();
 }
 
-/// The chunks of entries have their bytes, in order, and each stands at the number of bytes before
-/// it. Each that is bounced fits into one page, and in pages all are in their places.
+/// The chunks of entries have the bytes of the entries, in order, and the place of each chunk is the number
+/// of bytes before it. Each bounced chunk fits into one page, and in pages all chunks are in their places.
 pub fn chunks_cover(tag: &Tag, maxmem: u64, entries: &[Entry], pages: &[Pa])
     requires entries { AllByRecursion IsEntry entries.now }
     requires pages { AllByRecursion IsPage pages.now }
@@ -52,17 +52,17 @@ pub fn pieces_in_any_pages(tag: &Tag, maxmem: u64, entries: &[Entry], pages: &[P
     tag_is_effective(tag);
 }
 
-/// A front of a stream is a stream, needs no more bounce pages than the whole, and has no more
-/// pieces: what `measure` says of a stream is enough for what `build_from` and `build_into` ask of
-/// each of its fronts.
+/// A front of a stream is a stream, needs no more bounce pages than the stream, and has no more pieces. So
+/// what `measure` says of a stream is enough for what `build_from` and `build_into` require of each of its
+/// fronts.
 pub fn fronts_ask_no_more(tag: &Tag, maxmem: u64, pages: &[Pa])
     ensures { FrontsAskNoMore tag.now maxmem pages.now }
 {
     tag_is_effective(tag);
 }
 
-/// Where the bus addresses of each chunk rise by one, the pieces of the chunks have one segmentation,
-/// and its bytes are the bus addresses of the chunks, in order.
+/// If the bus addresses of each chunk rise by one, the pieces of the chunks have only one segmentation, and
+/// its bytes are the bus addresses of the chunks, in order.
 pub fn one_segmentation(tag: &Tag, chunks: &[Chunk])
     requires rising { AllByRecursion RisesByOne chunks.now }
     ensures only { IsOnlySegmentation tag.now (segmentation tag.now (chunk_pieces tag.now chunks.now))
@@ -82,8 +82,8 @@ pub fn segments_are_the_trace(tag: &Tag, maxmem: u64, entries: &[Entry], pages: 
     tag_is_effective(tag);
 }
 
-/// The segments of entries that lie in the machine obey the tag, where they are few enough and the
-/// bounced chunks have pages that the device reaches.
+/// The segments of entries that lie in the machine obey the tag, if they are few enough and the device
+/// reaches the pages of the bounced chunks.
 pub fn segments_obey(tag: &Tag, maxmem: u64, entries: &[Entry], pages: &[Pa], segments: &[Segment])
     requires entries { AllByRecursion IsEntry entries.now }
     requires inside { AllByRecursion (λ a. a < 4096 * maxmem) (flat_map entry_addresses entries.now) }

@@ -1,4 +1,4 @@
-//! How the bytes of a load are cut into chunks, and what a device is given of them: the segments.
+//! Cuts the bytes of a load into chunks, and builds the segments that a device is given.
 #![tactic(auto)]
 
 mod adding;

@@ -1,4 +1,4 @@
-//! Streams, measured without memory.
+//! Measures streams without memory.
 
 ghost use Rattle.std.specs.Prelude.{◌≡◌, ◌+◌, ◌≤◌, ◌-◌, ◌<◌, ◌^◌, [], ◌∷◌, ◌++◌, length, List, IfSome};
 ghost use Rattle.std.specs.Iterator.{Drains, HoldsAlong, IsFinite};
@@ -16,19 +16,19 @@ use crate::pieces::piece_count;
 use busdma_machine::{Chunk, Pa, Part, TagLimits};
 use dma_tag::Tag;
 
-/// What a stream comes to.
+/// The measure of a stream.
 #[derive(Clone, Copy, Debug, PartialEq, Eq)]
 pub enum Measured {
-    /// The number of bounce pages and of pieces, and the bytes in all.
+    /// The number of bounce pages, the number of pieces, and the number of bytes.
     Fits { need: u32, pieces: u64, bytes: u64 },
     /// The offset of the first byte that cannot be reached.
     Unmapped(u64),
 }
 
-/// The bounce pages, pieces and bytes of a stream of at most 1,048,576 bytes, without memory.
+/// Counts the bounce pages, pieces and bytes of a stream of at most 1,048,576 bytes. It takes no memory.
 ///
-/// `maxmem` is the number at which the machine's frame numbers end. The number of pieces is that of
-/// whichever pages the bounced chunks get.
+/// The machine's frame numbers are below `maxmem`. The number of pieces does not depend on the pages that the
+/// bounced chunks get. After `_bus_dmamap_count_pages` of `sys/x86/x86/busdma_bounce.c`.
 #[tactic(auto, using(crate::proofs::PartByPart::unmapped_last))]
 pub fn measure<I: Iterator<Item = Part>>(tag: &Tag, maxmem: u64, parts: I) -> Measured
     requires can { I.can_next parts }
@@ -55,7 +55,7 @@ pub fn measure<I: Iterator<Item = Part>>(tag: &Tag, maxmem: u64, parts: I) -> Me
     }
 }
 
-/// How many bounce pages and pieces the chunks so far have.
+/// The numbers of bounce pages and pieces of the chunks so far.
 #[derive(Clone, Copy)]
 struct Tally {
     need: u32,
@@ -63,7 +63,7 @@ struct Tally {
 }
 
 impl Tally {
-    // Counts a chunk, where there is one.
+    // Counts a chunk, if there is one.
     #[inline(always)]
     fn add(&mut self, limits: &TagLimits, chunk: Option<Chunk>)
         requires size { 0 < limits.now.maxsegsz }
@@ -87,7 +87,7 @@ impl Tally {
     }
 }
 
-/// The first byte that cannot be reached, after one part more.
+/// Returns the offset of the first byte that cannot be reached, after one more part.
 fn first_unmapped(before: Option<u64>, part: Part) -> Option<u64>
     ensures { result ≡ option_or before (unmapped_of (part ∷ [])) }
 {

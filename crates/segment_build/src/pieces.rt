@@ -1,4 +1,4 @@
-//! The pieces of the bus bytes of a chunk.
+//! Cuts the bus bytes of a chunk into pieces.
 
 ghost use Rattle.std.specs.Prelude.{◌≡◌, ◌+◌, ◌^◌, ◌<◌, ◌≤◌, length, min, true, false, Ok, IsOk};
 ghost use Rattle.busdma_machine.specs.Runs.{run_of};
@@ -9,8 +9,8 @@ use crate::joining::add_piece;
 use busdma_machine::{Pa, Segment, SegmentRoom, TagLimits};
 use std::alloc::AllocError;
 
-/// Adds the pieces of the bus bytes of a chunk behind segments, and answers whether they are few
-/// enough with them.
+/// Adds the pieces of the bus bytes of a chunk after the segments. Returns whether they are still few enough
+/// for the tag.
 #[tactic(auto, using(busdma_rules::proofs::Segments::Places::pieces_step, crate::proofs::Cuts::added_all_longer))]
 pub(crate) fn add_run(
     limits: &TagLimits,
@@ -42,7 +42,7 @@ pub(crate) fn add_run(
     Ok(true)
 }
 
-/// The number of pieces of the bus bytes of a chunk.
+/// Returns the number of pieces of the bus bytes of a chunk.
 #[tactic(auto, using(busdma_rules::proofs::Segments::Places::pieces_step, busdma_rules::proofs::Segments::Places::no_pieces))]
 pub(crate) fn piece_count(limits: &TagLimits, run: Segment) -> u64
     requires size { 0 < limits.now.maxsegsz }
@@ -60,7 +60,7 @@ pub(crate) fn piece_count(limits: &TagLimits, run: Segment) -> u64
     count
 }
 
-/// The length of the piece at a bus address, where so many bytes of its chunk are left.
+/// Returns the length of the piece at bus address `at`, if `left` bytes of its chunk are left.
 pub(crate) fn piece_len(limits: &TagLimits, at: u64, left: u64) -> u64
     requires size { 0 < limits.now.maxsegsz }
     requires some { 0 < left }

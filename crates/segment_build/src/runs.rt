@@ -1,4 +1,4 @@
-//! The pieces of one run of bus bytes, for those who lay out chunks of their own.
+//! Counts and adds the pieces of one run of bus bytes, for crates that lay out chunks of their own.
 
 ghost use Rattle.std.specs.Prelude.{◌≡◌, ◌+◌, ◌^◌, ◌≤◌, ◌++◌, length, min, true, false, List};
 ghost use Rattle.busdma_machine.specs.declared.machine.address.Segment.{Segment as Piece};
@@ -11,7 +11,7 @@ use busdma_machine::{Segment, SegmentRoom};
 use dma_tag::Tag;
 use std::alloc::AllocError;
 
-/// The number of pieces of a run of bus bytes, which are those of one chunk. A run may end at 2^64.
+/// Returns the number of pieces of a run of bus bytes that are the bytes of one chunk. A run may end at 2^64.
 pub fn count_pieces(tag: &Tag, run: Segment) -> u64
     requires fits { run.addr.0 + run.len ≤ 2 ^ 64 }
     ensures count { result ≡ length (pieces_of tag.now (run_of run.addr.0 run.len)) }
@@ -20,9 +20,11 @@ pub fn count_pieces(tag: &Tag, run: Segment) -> u64
     piece_count(tag.limits(), run)
 }
 
-/// Adds the pieces of a run of bus bytes, which are those of one chunk, behind the segments of the
-/// pieces before it, and answers whether the segments are few enough with them. The list has room for
-/// as many more, so far as the tag allows them: it takes no memory. A run may end at 2^64.
+/// Adds the pieces of a run of bus bytes, the bytes of one chunk, after the segments of the pieces before it.
+/// Returns whether the segments are still few enough for the tag.
+///
+/// The list has room for the new segments, as far as the tag allows them, so that the call takes no memory. A
+/// run may end at 2^64.
 pub fn add_pieces(tag: &Tag, list: &mut SegmentRoom, run: Segment) -> bool
     requires fits { run.addr.0 + run.len ≤ 2 ^ 64 }
     requires few { length list.old.items ≤ tag.now.nsegments }
@@ -33,7 +35,7 @@ pub fn add_pieces(tag: &Tag, list: &mut SegmentRoom, run: Segment) -> bool
     ensures many { result ≡ false → (before : List Piece) → IsFew tag.now before list.old.items →
         AreTooMany tag.now (before ++ pieces_of tag.now (run_of run.addr.0 run.len)) }
 
-    // The list keeps the room that it had, beside what it holds.
+    // The list keeps its room: what it takes for new items is counted with them.
     ensures room { list.old.spare + length list.old.items ≤ list.new.spare + length list.new.items }
 {
     let few: Result<bool, AllocError> = add_run(tag.limits(), list, run);

@@ -1,4 +1,4 @@
-//! Segments from a stream of extents, in one pass.
+//! Builds segments of a stream of extents, in one pass.
 
 ghost use Rattle.std.specs.Prelude.{◌≡◌, ◌+◌, ◌<◌, ◌≤◌, [], ◌++◌, length, min, true, List, MatchBool, IfOk, IfSome};
 ghost use Rattle.std.specs.Prelude.{IsOk};
@@ -21,7 +21,7 @@ use busdma_machine::{Chunk, ChunkList, ChunkRoom, Pa, Part, SegmentList, Segment
 use dma_tag::Tag;
 use std::alloc::{AllocError, Global};
 
-/// What becomes of a stream.
+/// The result of building segments of a stream.
 #[derive(Debug, Drop)]
 pub enum Streamed {
     /// The segments, in the order of the bytes, and the bounced chunks in their pages.
@@ -33,11 +33,15 @@ pub enum Streamed {
     TooMany,
 }
 
-/// Builds the segments of a stream of at most 1,048,576 bytes, in one pass, and the list of its
-/// bounced chunks in their pages.
+/// Builds the segments of a stream of at most 1,048,576 bytes, in one pass, and the list of its bounced
+/// chunks in their pages. Returns `TooMany` if the segments are more than the tag's `nsegments`.
 ///
-/// `maxmem` is the number at which the machine's frame numbers end, and `pages` has the bus
-/// addresses of the first bytes of at least as many frames as the stream needs.
+/// The machine's frame numbers are below `maxmem`. `pages` has the bus addresses of the first bytes of at
+/// least as many frames as the stream needs.
+///
+/// # Errors
+///
+/// `AllocError` if memory runs out.
 pub fn build_from<I: Iterator<Item = Part>>(
     alloc: Global,
     tag: &Tag,
@@ -65,10 +69,13 @@ pub fn build_from<I: Iterator<Item = Part>>(
     })
 }
 
-/// The same into two empty lists that have room for the smaller of the pieces and the tag's
-/// `nsegments`, and for the need: it takes no memory. It answers whether the segments are few
-/// enough, and leaves both lists empty, with their room, where they are not. That the room of a whole
-/// stream is enough for its fronts is the law `fronts_ask_no_more`.
+/// Builds the segments of a stream and the list of its bounced chunks into two empty lists, without taking
+/// memory. Returns whether the segments are few enough for the tag; if not, both lists are empty again and
+/// keep their room.
+///
+/// `list` has room for the number of pieces or for the tag's `nsegments`, whichever is smaller, and `bounced`
+/// for the pages that the stream needs. By the law `fronts_ask_no_more`, room for a stream is room for each
+/// of its fronts.
 pub fn build_into<I: Iterator<Item = Part>>(
     tag: &Tag,
     maxmem: u64,
@@ -84,7 +91,7 @@ pub fn build_into<I: Iterator<Item = Part>>(
         × MatchBool result (IsBuiltFrom tag.now maxmem pages.now ps list.new.items bounced.new.items)
         (OverflowsFrom tag.now maxmem pages.now ps × (list.new.items ≡ []) × (bounced.new.items ≡ [])) }
 
-    // Each list keeps the room that it had, beside what it holds.
+    // The lists keep their room: what they take for new items is counted with them.
     ensures room { list.old.spare ≤ list.new.spare + length list.new.items }
     ensures bounced_room { bounced.old.spare ≤ bounced.new.spare + length bounced.new.items }
 {
@@ -92,7 +99,7 @@ pub fn build_into<I: Iterator<Item = Part>>(
     few.unwrap()
 }
 
-// Builds within lists that may grow, and answers whether the segments are few enough.
+// Builds within lists that may grow. Returns whether the segments are few enough for the tag.
 fn build_within<I: Iterator<Item = Part>>(
     tag: &Tag,
     maxmem: u64,
@@ -135,7 +142,7 @@ fn build_within<I: Iterator<Item = Part>>(
     Ok(few)
 }
 
-// Adds the next chunk, where there is one and the segments are few enough so far.
+// Adds the next chunk, if there is one and the segments are few enough so far.
 fn add_next(
     limits: &TagLimits,
     pages: &[Pa],

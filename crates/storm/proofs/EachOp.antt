@@ -1,4 +1,4 @@
--- Each operation of a storm's script is valid behind those before it.
+-- Each operation of a storm's script is valid after those before it.
 use Rattle.std.proofs.Common.{◌≡◌, ℕ, ◌≤◌, List}
 use Rattle.std.proofs.Common.{[], ◌∷◌, ◌++◌, ◌⊎◌, inl, inr, refl, arith}
 use Rattle.std.proofs.lemmas.List.{length-replicate}
@@ -18,7 +18,7 @@ use Rattle.program_rules.specs.Storms.Scenario.{round_at, storm_rounds as rounds
 use Rattle.program_rules.specs.Storms.Transfer.{to_device, from_device}
 use Rattle.storm.proofs.SmallTransfers.{IsSmall, round_cases}
 
--- an operation is valid wherever it stands behind the opening
+-- an operation is valid at each place after the opening
 abbrev IsValidBehind : Op → Type 0
 IsValidBehind o = (rest : List Op) → IsOp (opening ++ rest) o
 

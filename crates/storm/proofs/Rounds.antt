@@ -37,7 +37,7 @@ drawn_add (suc j) k x =
     let e : suc j + k ≡ suc (j + k) = omega arith in
     rw e (ap next (drawn_add j k x))
 
--- a driver draws two numbers a round
+-- a driver draws two numbers in each round
 pub drawn_by_driver : (n seed last i : ℕ) → last ≡ drawn (2 * n * i) seed →
     drawn (2 * n) last ≡ drawn (2 * n * (i + 1)) seed
 drawn_by_driver n seed last i h =

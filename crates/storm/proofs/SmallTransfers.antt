@@ -1,4 +1,4 @@
--- The transfer of each round is small, whatever is drawn.
+-- The transfer of each round is small, whatever numbers are drawn.
 use Rattle.std.proofs.Common.{◌≡◌, ℕ, ◌+◌, ◌%◌, ◌<◌, ◌≤◌, ◌==◌, true, false, cond, List}
 use Rattle.std.proofs.Common.{◌⊎◌, arith}
 use Rattle.std.proofs.Math.Nat.{min-le_right}
@@ -6,7 +6,7 @@ use Rattle.busdma_base.specs.declared.scenarios.script.Op.{Op}
 use Rattle.program_rules.specs.declared.transfer.Transfer.{Transfer}
 use Rattle.program_rules.specs.Storms.Transfer.{round, storm_transfer as transfer, to_device, from_device}
 
--- what each transfer keeps to
+-- the bounds of each transfer
 pub record IsSmall (t : Transfer) : Type 0 where
   pub map : (t.map ≡ 1) ⊎ (t.map ≡ 2)
   pub short : t.len ≤ 8192

@@ -12,7 +12,7 @@ use Rattle.busdma_base.specs.Scenarios.Script.{steps_of}
 use Rattle.program_rules.specs.Storms.Scenario.{round_at, storm_rounds as rounds, storm_setup as opening}
 use Rattle.storm.proofs.SmallTransfers.{round_cases}
 
--- what rounds have together
+-- the sums over rounds
 length_run : (a n : ℕ) → length (run_of a n) ≡ n
 length_run a zero = refl
 length_run a (suc n) = ap suc (length_run (a + 1) n)
@@ -51,7 +51,7 @@ loaded_by_rounds n x =
     (run_of 0 n) in
     omega (arith, length_run 0 n)
 
--- how many they read
+-- how many bytes the rounds of a driver read
 pub read_by_rounds : (n x : ℕ) → sum_by read_by (opening ++ rounds n x) ≤ 64 * n
 read_by_rounds n x =
     let each : sum_by read_by (rounds n x) ≤ 64 * length (run_of 0 n) =

@@ -18,7 +18,7 @@ use Rattle.storm.proofs.Totals.{loaded_by_rounds, read_by_rounds, steps_of_round
 script_valid : (n x : ℕ) → n ≤ 256 → IsScript (opening ++ rounds n x)
 script_valid n x few = record { each = each_valid n x; short = omega (arith, steps_of_rounds n x) }
 
--- a driver is valid behind others where its pages are its own
+-- a driver is valid after others if its pages are its own
 driver_valid : (number n x : ℕ) → n ≤ 256 → (earlier : List Driver) →
     EachAfter (IsPageRun frames earlier) [] (pages number) → IsDriver frames earlier (driver_after number n x)
 driver_valid number n x few earlier own =

@@ -1,4 +1,4 @@
-//! The numbers that a storm draws.
+//! Draws the numbers of a storm.
 
 ghost use Rattle.std.specs.Prelude.{◌≡◌, ◌<◌};
 ghost use Rattle.program_rules.specs.Storms.Generator.{mixed_left, mixed_right, next};
@@ -17,7 +17,7 @@ fn mixed_right(x: u64, by: u32) -> u64
     x ^ (x >> by)
 }
 
-/// A xorshift generator of 64 bits, after Marsaglia, with the shifts 13, 7 and 17.
+/// A xorshift generator with 64 bits, after Marsaglia, with the shifts 13, 7 and 17.
 #[derive(Drop)]
 pub(crate) struct Generator {
     /// The number that was drawn last, or the seed.

@@ -1,4 +1,4 @@
-//! Laws of storms, each the contract of a function that does nothing.
+//! Laws of storms. Each law is the contract of a function that does nothing.
 
 ghost use Rattle.std.specs.Prelude.{ℕ, ◌≡◌, ◌≤◌, ◌+◌, ◌*◌, ◌↔◌};
 ghost use Rattle.std.specs.List.{AllByRecursion};
@@ -12,8 +12,8 @@ pub fn storms_are_valid()
     ensures { (n seed : ℕ) → n ≤ 256 → IsValid (storm_scenario n seed) }
 {}
 
-/// Each driver of a storm has three operations and, for each round, seven operations and items: 1795
-/// where it has 256 rounds.
+/// Each driver of a storm has three operations, and seven operations and items for each round. With 256
+/// rounds these are 1795.
 pub fn storms_have_seven_steps_a_round()
     ensures { (n seed : ℕ) → AllByRecursion (λ (d : Driver). steps_of d.script ≡ 3 + 7 * n) (storm_scenario n seed).drivers }
 {}

@@ -1,5 +1,5 @@
-//! The storm: a scenario of four drivers that contend for few bounce pages, made of drawn numbers,
-//! and the summary of its journal.
+//! Makes a storm, and the summary of its journal. A storm is a scenario, drawn from a seed, of four drivers
+//! that contend for few bounce pages.
 #![tactic(auto)]
 
 mod generator;

@@ -1,4 +1,4 @@
-//! The summary of a storm's journal.
+//! Writes the summary of a storm's journal.
 
 ghost use Rattle.std.specs.Prelude.{◌≡◌, ◌++◌, IfOk, OnOk, string_bytes};
 ghost use Rattle.program_rules.specs.Storms.Summary as text;
@@ -28,8 +28,12 @@ fn push_counts(out: &mut String, journal: &Journal) -> Result<(), AllocError>
     writeln!(out, "deferred {deferred}")
 }
 
-/// The five lines of a storm's summary: its rounds and seed, how many entries its journal has, how
+/// Returns the five lines of a storm's summary: its rounds and seed, how many entries its journal has, how
 /// many of them have a report as their answer, how many loads were deferred, and how it ended.
+///
+/// # Errors
+///
+/// `AllocError` if memory runs out.
 pub fn summary(alloc: Global, n: u32, seed: u64, journal: &Journal) -> Result<ByteList, AllocError>
     ensures { IfOk result (λ lines. lines ≡ text.summary n seed journal.now) }
 {

@@ -1,4 +1,4 @@
-//! The scenario of a storm.
+//! Makes the scenario of a storm.
 
 ghost use Rattle.std.specs.Prelude.{◌≡◌, ◌*◌, ◌++◌, ◌≤◌, OnOk, IfOk};
 ghost use Rattle.program_rules.specs.Storms.Generator.{drawn, next};
@@ -11,7 +11,7 @@ use std::alloc::{AllocError, Global};
 
 const DRIVERS: u32 = 4;
 
-/// So many operations make a round.
+/// The number of operations of a round.
 const OPERATIONS: usize = 4;
 
 const LIMITS: TagLimits = TagLimits {
@@ -91,7 +91,7 @@ fn pages(alloc: Global, number: u32) -> Result<Vec<PageRun>, AllocError>
     Ok(vec![in alloc; run]?)
 }
 
-/// The driver with this number, whose rounds draw the next numbers.
+/// Makes the driver with this number. Its rounds draw the next numbers.
 fn driver(
     alloc: Global,
     number: u32,
@@ -122,8 +122,13 @@ fn drivers(alloc: Global, n: u32, seed: u64) -> Result<Vec<Driver>, AllocError>
     Ok(drivers)
 }
 
-/// A storm: four drivers with two maps each, whose loads all bounce, do `n` rounds of a load, its
-/// transfer and its end with numbers drawn from the seed. A zone has too few pages for all of them.
+/// Makes a storm of `n` rounds. Four drivers with two maps each do the rounds. A round is a load, its
+/// transfer and its end, with numbers drawn from the seed. All loads bounce, and the zone has too few pages
+/// for all of them.
+///
+/// # Errors
+///
+/// `AllocError` if memory runs out.
 pub fn storm_scenario(alloc: Global, n: u32, seed: u64) -> Result<Scenario, AllocError>
     requires rounds { 1 ≤ n }
     requires few { n ≤ 256 }

@@ -1,4 +1,4 @@
-//! The operations of one round.
+//! Makes the operations of one round.
 
 ghost use Rattle.std.specs.Prelude.{◌≡◌, ◌++◌, OnOk, IfOk};
 ghost use Rattle.program_rules.specs.Storms.Transfer as spec;
@@ -8,7 +8,7 @@ use dma_tag::SyncOps;
 use program_rules::Transfer;
 use std::alloc::{AllocError, Global};
 
-/// The transfer of a round that drew these numbers.
+/// Returns the transfer of a round that drew these numbers.
 fn drawn(p: u64, q: u64) -> Transfer
     ensures { result ≡ spec.storm_transfer p q }
 {

@@ -8,27 +8,27 @@ use std::sync::Wait;
 use std::test::Fail;
 use std::thread::Threads;
 
-/// How a source or a sink works: the most bytes of one call, at least one, and the numbers of the calls that fail,
-/// counted from 0.
+/// How a source or a sink works: the greatest number of bytes of one call, at least one, and the numbers of
+/// the calls that fail, counted from 0.
 #[derive(Clone, Copy, Debug)]
 pub struct Edge<'a> {
     pub piece: usize,
     pub failing: &'a [u64],
 }
 
-/// One that takes or gives all at once and never fails.
+/// A source or a sink that takes or gives all bytes at once and never fails.
 pub const WHOLE: Edge<'static> = Edge {
     piece: 1_000_000,
     failing: &[],
 };
 
-/// One that takes or gives a byte at a time and never fails.
+/// A source or a sink that takes or gives one byte at a time and never fails.
 pub const BY_BYTES: Edge<'static> = Edge {
     piece: 1,
     failing: &[],
 };
 
-/// A call of the program: its words, None where there was no memory for them, and its input.
+/// A call of the program: its words, or `None` if there was no memory for them, and its input.
 #[derive(Clone, Copy, Debug)]
 pub struct Call<'a> {
     pub words: Option<&'a [&'a str]>,
@@ -51,7 +51,7 @@ pub struct Ended {
     pub line: Vec<u8>,
 }
 
-/// The words, as the program takes them.
+/// Returns the words in the form that the program takes.
 fn words_of(alloc: Global, words: &[&str]) -> Result<Vec<String>, AllocError> {
     let mut all = Vec::new(alloc);
     for word in words {
@@ -71,7 +71,11 @@ fn sink_of(alloc: Global, edge: Edge) -> Result<MemSink, AllocError> {
     Ok(MemSink::new(alloc, edge.piece.max(1), failing))
 }
 
-/// Makes a call between a source and a sink that work so.
+/// Makes a call between a source and a sink that work in these ways, and returns how it ended.
+///
+/// # Errors
+///
+/// `AllocError` if memory runs out for the words, the source or the sinks.
 pub fn make<R: Threads + Wait + Sync>(
     rt: &R,
     alloc: Global,
@@ -94,7 +98,11 @@ pub fn make<R: Threads + Wait + Sync>(
     })
 }
 
-/// Makes a call between a source and a sink that work so, and finds that it ends as is wanted.
+/// Makes a call between a source and a sink that work in these ways, and checks that it ends as `want` says.
+///
+/// # Errors
+///
+/// Fails if memory runs out for the words, the source or the sinks.
 pub fn ends<R: Threads + Wait + Sync + Abort>(
     rt: &R,
     alloc: Global,

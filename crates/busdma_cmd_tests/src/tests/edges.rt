@@ -1,4 +1,4 @@
-//! Sources and sinks of a byte at a time, and each read and each write of a call failing.
+//! Sources and sinks of one byte at a time. Each read and each write of a call fails once.
 
 use super::called::{BY_BYTES, Call, Edge, End, WHOLE, ends, make};
 use super::texts::{LONG, OTHERS, READING, STORM, UNREAD};
@@ -26,7 +26,7 @@ fn pieces_make_no_difference(rt: HostRuntime) -> Result<(), Fail> {
     Ok(())
 }
 
-/// Each read gives a byte, and one more sees the end. Whichever fails, nothing is printed.
+/// Each read gives a byte, and one more read sees the end. If any of them fails, nothing is printed.
 fn reads_fail<R: Threads + Wait + Sync + Abort>(
     rt: &R,
     alloc: Global,
@@ -55,7 +55,8 @@ fn each_read_may_fail(rt: HostRuntime) -> Result<(), Fail> {
     Ok(())
 }
 
-/// Each write takes a byte, so as many bytes are printed as calls went well. The write behind the last is not made.
+/// Each write takes a byte, so as many bytes are printed as writes went well. No write follows the one that
+/// fails.
 fn writes_fail<R: Threads + Wait + Sync + Abort>(
     rt: &R,
     alloc: Global,
@@ -88,7 +89,7 @@ fn each_write_may_fail(rt: HostRuntime) -> Result<(), Fail> {
     writes_fail(&rt, rt.alloc(), &STORM, UNREADABLE)
 }
 
-/// Nothing is read: it would fail.
+/// Nothing is read, because a read would fail.
 #[test]
 fn some_calls_read_nothing(rt: HostRuntime) -> Result<(), Fail> {
     ends(&rt, rt.alloc(), &STORM.0, (UNREADABLE, WHOLE), &STORM.1)?;

@@ -1,6 +1,6 @@
-//! Two drivers on two threads. A gate lets the late one begin when the early one has made its last
-//! step, so their report is known. A body that turns both on one thread, or that passes no gate, gives
-//! another one in one of the two orders, or keeps the late driver waiting.
+//! Two drivers on two threads. A gate lets the late driver begin when the early one has made its last step,
+//! so their report is known. A body that runs both drivers on one thread, or that passes no gate, gives
+//! another report in one of the two orders, or keeps the late driver waiting.
 
 use super::called::Ended;
 use busdma_base::LaneId;
@@ -25,8 +25,8 @@ const TWO: &str = r#"{"frames": [["0x10", 8], ["0x1000", 16]], "max_bpages": 2,
     {"op": "map", "name": "m", "tag": "a"}, {"op": "load", "map": "m", "va": "0x100000", "len": 5000},
     {"op": "await", "map": "m"}, {"op": "unload", "map": "m"}]}]}"#;
 
-/// Their report, with `#` for the number of the early driver and `@` for that of the late one. The late
-/// driver's load takes the pages that the early one gave back last first.
+/// The report of both drivers, with `#` for the number of the early driver and `@` for the number of the late
+/// one. The late driver's load takes the pages that the early one gave back, the last page first.
 const REPORT: &str = "0 s# tag a -> ok
 1 s# map m -> ok zone0 +2
 2 s# load m -> ok 0x10000+5000
@@ -52,10 +52,11 @@ hw.busdma.zone0.alignment: 4096
 end finished, 14 entries, 0 reports
 ";
 
-/// How often the late driver looks at the most.
+/// The greatest number of times that the late driver looks.
 const LOOKS: u32 = 1_000_000;
 
-/// How many turns the early driver has had when it has made its seven steps, one in each cycle of three.
+/// How many turns the early driver has had when it has made its seven steps, one in each cycle of three
+/// turns.
 const TURNS: u64 = 21;
 
 #[derive(Drop)]
@@ -67,7 +68,7 @@ struct EarlyFirst {
 }
 
 impl EarlyFirst {
-    /// A gate for a driver that is early.
+    /// Makes a gate that lets this driver be early.
     fn new(early: u32) -> EarlyFirst {
         EarlyFirst {
             early: LaneId(early),
@@ -77,7 +78,7 @@ impl EarlyFirst {
         }
     }
 
-    /// Sees that the driver's turns are counted from 0.
+    /// Checks that the driver's turns are counted from 0.
     fn count(&self, lane: LaneId, turn: u64) {
         let own = if lane == LaneId(0) { 0 } else { 1 };
         if self.turns[own].fetch_add(1, Ordering::SeqCst) != turn {
@@ -108,7 +109,7 @@ impl Gate for EarlyFirst {
     }
 }
 
-/// Runs both behind a gate.
+/// Runs both drivers behind a gate.
 fn run<R: Threads + Wait + Sync>(
     rt: &R,
     alloc: Global,
@@ -124,12 +125,12 @@ fn run<R: Threads + Wait + Sync>(
     })
 }
 
-/// Their report, where the early driver and the late one have these numbers.
+/// Returns their report, if the early driver and the late one have these numbers.
 fn report_of(alloc: Global, early: &str, late: &str) -> Result<String, AllocError> {
     REPORT.replace(alloc, "#", early)?.replace(alloc, "@", late)
 }
 
-/// The numbers of the two drivers, the early one first.
+/// Runs both drivers, of which `numbers` has the early one first, and checks the report.
 fn is_right<R: Threads + Wait + Sync + Abort>(
     rt: &R,
     alloc: Global,

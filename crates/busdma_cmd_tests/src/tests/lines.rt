@@ -9,7 +9,7 @@ use std::alloc::{AllocError, Global};
 use std::process::Abort;
 use std::test::Fail;
 
-/// The line of an outcome is the one that is wanted, or there is none where none is wanted.
+/// Checks that the line of an outcome is `want`, or that there is no line if `want` is empty.
 fn is_told(rt: &impl Abort, alloc: Global, outcome: &ProgramEnd, want: &str) -> Result<(), Fail>
     requires known { IsStatus outcome.now.status }
     requires fault { IsSome outcome.now.fault ↔ (outcome.now.status ≡ 65) }
@@ -21,7 +21,7 @@ fn is_told(rt: &impl Abort, alloc: Global, outcome: &ProgramEnd, want: &str) -> 
     Ok(())
 }
 
-/// The same, of a status without a refusal.
+/// Checks the line of a status without a refusal.
 fn status_is_told(rt: &impl Abort, alloc: Global, status: u8, want: &str) -> Result<(), Fail>
     requires known { IsStatus status }
     requires unrefused { status ≢ 65 }
@@ -34,7 +34,7 @@ fn status_is_told(rt: &impl Abort, alloc: Global, status: u8, want: &str) -> Res
     is_told(rt, alloc, &outcome, want)
 }
 
-/// A scenario that was refused.
+/// Returns the outcome of a refused scenario.
 fn refused(alloc: Global) -> Result<ProgramEnd, AllocError>
     ensures status { IfOk result (λ outcome. outcome.status ≡ 65) }
     ensures fault { IfOk result (λ outcome. IsSome outcome.fault) }

@@ -1,4 +1,4 @@
-//! Inputs, and what is printed for them, worked out by hand.
+//! Inputs, and what is printed for them, which was worked out by hand.
 
 use super::called::{Call, End};
 
@@ -28,14 +28,14 @@ end finished, 9 entries, 0 reports
     line: "",
 };
 
-/// A scenario of nothing, behind the number of its bytes, and its journal.
+/// The number of a scenario's bytes, a scenario of nothing, and its journal.
 const NOTHING_AND_ITS_JOURNAL: &str =
     "26\n{\"frames\":[],\"drivers\":[]}end finished, 0 entries, 0 reports\n";
 
-/// The same without the journal's end.
+/// The number of a scenario's bytes and a scenario of nothing, without a journal.
 const NOTHING_AND_NO_JOURNAL: &str = "26\n{\"frames\":[],\"drivers\":[]}";
 
-/// The calls that read and write, each beside how it ends where nothing fails.
+/// The calls that read and write, each with how it ends if nothing fails.
 pub const READING: [(Call<'static>, End<'static>); 3] = [
     (
         Call {
@@ -77,7 +77,7 @@ pub const STORM: (Call<'static>, End<'static>) = (
     },
 );
 
-/// Calls that read nothing: words that are no command, and no memory for the words.
+/// Calls that read nothing: one with words that are no command, and one without memory for the words.
 pub const UNREAD: [(Call<'static>, End<'static>); 2] = [
     (
         Call {
@@ -103,7 +103,7 @@ pub const UNREAD: [(Call<'static>, End<'static>); 2] = [
     ),
 ];
 
-/// Calls that end otherwise: a scenario that is refused, and a journal that is not legal.
+/// Calls that end in other ways: with a scenario that is refused, and with a journal that is not legal.
 pub const OTHERS: [(Call<'static>, End<'static>); 2] = [
     (
         Call {
@@ -129,7 +129,7 @@ pub const OTHERS: [(Call<'static>, End<'static>); 2] = [
     ),
 ];
 
-/// A read of a whole page, whose line is longer than what is written at once.
+/// A read of a page, whose line is longer than what is written at once.
 pub const LONG: Call<'static> = Call {
     words: Some(&["replay"]),
     input: r#"{"frames": [[16, 1]], "drivers": [{"pages": [[1048576, 16, 1]], "script": [

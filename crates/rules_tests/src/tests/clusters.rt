@@ -8,10 +8,10 @@ use std::alloc::Global;
 use std::process::Abort;
 use std::test::Fail;
 
-/// Not in the order of their addresses.
+/// The clusters are not in the order of their addresses.
 const CLUSTERS: [Va; 3] = [Va(0x8000), Va(0x3000), Va(0x5000)];
 
-/// A chain goes into these spans of the clusters, or these are too few.
+/// Checks that a chain goes into these spans of the clusters, or that these are too few.
 fn expect(
     rt: &impl Abort,
     alloc: Global,
@@ -49,7 +49,7 @@ const FROM: [Extent; 2] = [
     },
 ];
 
-/// Six bytes right behind those five, and then two at the first frame's begin.
+/// Six bytes right after those five, and then two at the beginning of the first frame.
 const TO: [Extent; 2] = [
     Extent {
         pa: Pa(0x100_3015),

@@ -37,7 +37,7 @@ fn reads_by_std(rt: HostRuntime) -> Result<(), Fail> {
     Ok(())
 }
 
-/// A writer that keeps bytes back until it is flushed: how many wait, and how many it has given on.
+/// A writer that keeps bytes back until it is flushed: how many wait, and how many it has passed on.
 #[derive(Drop)]
 struct KeepsBack<'a> {
     waiting: usize,
@@ -58,8 +58,8 @@ impl Write for KeepsBack<'_> {
     }
 }
 
-/// What a sink took its writer has given on, while the sink is still there; a full writer and a flush that fails are
-/// told.
+/// The writer of a sink passes on what the sink took, while the sink still exists. A full writer and a flush
+/// that fails are reported.
 #[test]
 fn writes_by_std(rt: HostRuntime) {
     let given = Cell::new(0);

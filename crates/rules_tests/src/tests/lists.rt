@@ -18,7 +18,7 @@ use segment_build::{
 use std::alloc::Global;
 use std::test::Fail;
 
-/// The machine's frame numbers end here.
+/// The machine's frame numbers are below this number.
 const MAXMEM: u64 = 0x1010;
 
 /// A device that reaches the lowest 16 megabytes.
@@ -33,24 +33,25 @@ const LOW: TagLimits = TagLimits {
     flags: 0,
 };
 
-/// One of segments that are too short for the load.
+/// A tag whose segments are too short for the load.
 const SHORT: TagLimits = TagLimits {
     nsegments: 2,
     maxsegsz: 2000,
     ..LOW
 };
 
-/// Two pages that follow one another.
+/// Two pages with consecutive addresses.
 const PAGES: [Pa; 2] = [Pa(0x1_0000), Pa(0x1_1000)];
 
-/// Whether the tag's bounced bytes keep their offset in their page.
+/// Returns whether the tag's bounced bytes keep their offset in their page.
 fn keeps_offset(limits: &TagLimits) -> bool
     ensures { result ≡ keep_pg_offset limits.now.flags }
 {
     TagFlags(limits.flags).contains(TagFlags::KEEP_PG_OFFSET)
 }
 
-/// The segments of chunks that have no pages yet and need all of these, or none where they are too many.
+/// Returns the segments of chunks that have no pages yet and need all of these, or `None` if they are too
+/// many.
 fn of_chunks(
     alloc: Global,
     tag: &Tag,
@@ -71,7 +72,7 @@ fn of_chunks(
     }
 }
 
-/// The segments of `len` virtual bytes, by lists.
+/// Returns the segments of `len` virtual bytes, built by lists.
 fn of_walk(
     alloc: Global,
     tag: &Tag,
@@ -90,7 +91,7 @@ fn of_walk(
     of_chunks(alloc, tag, &mut chunks, pages)
 }
 
-/// The segments of a stream, in one pass.
+/// Returns the segments of a stream, built in one pass.
 fn of_stream(
     alloc: Global,
     tag: &Tag,
@@ -115,7 +116,7 @@ fn of_stream(
     }
 }
 
-/// Whether these segments were found; no segment stands for too many.
+/// Returns whether these segments were found. An empty list means that there are too many.
 fn are(found: &Option<SegmentList>, wanted: &[Segment]) -> bool {
     match found {
         Some(list) => list.as_slice() == wanted,
@@ -123,8 +124,8 @@ fn are(found: &Option<SegmentList>, wanted: &[Segment]) -> bool {
     }
 }
 
-/// The bytes of two frames become one segment in bounce pages that follow one another; pieces of 2000, 2000, 96 and
-/// 904 bytes are three.
+/// The bytes of two frames become one segment in consecutive bounce pages. With short segments, the pieces of
+/// 2000, 2000, 96 and 904 bytes make three segments, which are too many.
 #[test]
 fn lists_and_a_stream_give_the_same_segments(rt: HostRuntime) -> Result<(), Fail> {
     let alloc = rt.alloc();

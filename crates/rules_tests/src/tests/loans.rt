@@ -1,5 +1,5 @@
-//! A table of loans over all memory that a machine may have, 2^42 bytes. A table of one entry a byte would not fit into
-//! any machine.
+//! A table of loans over all memory that a machine may have, 2^42 bytes. A table with one entry for each byte
+//! would not fit into any machine.
 
 ghost use Rattle.std.specs.Prelude.{◌≡◌, ◌+◌, ◌≤◌, IfOk, OnOk};
 ghost use Rattle.loan_table.specs.Table.{HasMap};
@@ -12,7 +12,7 @@ use std::alloc::{AllocError, Global};
 use std::process::Abort;
 use std::test::Fail;
 
-/// The map whose bytes are lent.
+/// Returns the map whose bytes are lent.
 fn lent() -> MapId
     ensures { result.made_at ≡ 1 }
 {
@@ -25,7 +25,7 @@ fn lent() -> MapId
 /// All memory, in bytes.
 const MEMORY: u64 = 0x400_0000_0000;
 
-/// A table of a memory of `len` bytes, each of which is Known, with a map over the frame at 0x1000.
+/// Makes a table of a memory of `len` bytes, each of which is Known, with a map over the frame at 0x1000.
 fn lent_memory(alloc: Global, len: u64) -> Result<LoanTable, AllocError>
     requires long { 8192 ≤ len }
     requires most { len ≤ 4398046511104 }
@@ -42,7 +42,7 @@ fn lent_memory(alloc: Global, len: u64) -> Result<LoanTable, AllocError>
     Ok(table)
 }
 
-/// Whether the driver may read `len` bytes from `pa` on.
+/// Returns whether the driver may read `len` bytes from `pa` on.
 fn read(table: &LoanTable, pa: u64, len: u64) -> Judged
     requires all { HasAll 4398046511104 table.now }
     requires inside { pa + len ≤ 4398046511104 }
@@ -50,7 +50,7 @@ fn read(table: &LoanTable, pa: u64, len: u64) -> Judged
     table.may_cpu_read(&[Extent { pa: Pa(pa), len }])
 }
 
-/// Lends the map's bytes to the device, which is to write them.
+/// Lends the map's bytes to the device, which will write them.
 fn lend(rt: &impl Abort, alloc: Global, table: &mut LoanTable) -> Result<Judged, Fail>
     requires map { HasMap table.old 1 }
     requires all { HasAll 4398046511104 table.old }

@@ -1,4 +1,4 @@
-//! A map that a table of loans gets at once, and a callback that has items.
+//! A map that is added to a table of loans, and a callback that has items.
 
 ghost use Rattle.std.specs.Prelude.{◌≡◌};
 ghost use Rattle.std.specs.FinMap.{empty};
@@ -10,7 +10,7 @@ use loan_table::LoanTable;
 use std::alloc::{AllocError, Global};
 use std::test::Fail;
 
-/// Adds a map of two places that have the same byte to an empty table, and gives its length.
+/// Adds a map of two places with the same byte to an empty table, and returns its length.
 fn add_map(alloc: Global, table: &mut LoanTable) -> Result<u64, AllocError>
     requires bytes { table.old.bytes ≡ empty }
     requires loans { table.old.loans ≡ empty }
@@ -34,12 +34,12 @@ fn a_map_is_added(rt: HostRuntime) -> Result<(), Fail> {
     Ok(())
 }
 
-/// How many items a callback has the device do at this end.
+/// Returns how many items a callback gives the device at this end.
 fn items_at<C: Callback>(callback: C, end: &LoadEnd) -> Option<usize> {
     Some(callback.call(end)?.len())
 }
 
-/// A callback that has the device read 60 bytes.
+/// Makes a callback that lets the device read 60 bytes.
 fn reads(alloc: Global) -> Result<Transfers, AllocError> {
     let item = Item::DevRead {
         map: 4,

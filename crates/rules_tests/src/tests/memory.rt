@@ -8,7 +8,7 @@ use std::alloc::Global;
 use std::process::Abort;
 use std::test::Fail;
 
-/// Adds a whole page that holds 0 in every byte.
+/// Adds a page in which every byte is 0 and can be reached.
 fn add(
     rt: &impl Abort,
     alloc: Global,
@@ -25,7 +25,7 @@ fn add(
     Ok(())
 }
 
-/// Two virtual pages, from 0x1000 on, in frames that do not follow one another.
+/// Makes two virtual pages, from 0x1000 on, in frames that are not consecutive.
 pub(super) fn two_pages(rt: &impl Abort, alloc: Global) -> Result<LanePages, Fail> {
     let mut memory = LanePages::new(alloc);
     add(rt, alloc, &mut memory, 0x1000, 0x1005)?;
@@ -33,14 +33,14 @@ pub(super) fn two_pages(rt: &impl Abort, alloc: Global) -> Result<LanePages, Fai
     Ok(memory)
 }
 
-/// The bytes from a virtual address on.
+/// Returns the span of bytes from a virtual address on.
 pub(super) fn span(va: u64, len: u64) -> Span
     ensures { result.len ≡ len }
 {
     Span { va: Va(va), len }
 }
 
-/// The bytes from a physical address on.
+/// Returns the extent of bytes from a physical address on.
 pub(super) fn extent(pa: u64, len: u64) -> Extent {
     Extent { pa: Pa(pa), len }
 }

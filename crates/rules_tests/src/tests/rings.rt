@@ -41,7 +41,7 @@ fn a_descriptor_is_little_endian(rt: HostRuntime) {
     assert!(rt; descriptor_bytes(&descriptor) == bytes);
 }
 
-/// Where the first segment that has a whole range has it, and none where two segments share it.
+/// A range is found in the first segment that has all of it, and nowhere if two segments share it.
 #[test]
 fn ranges_are_found(rt: HostRuntime) {
     for (addr, len, place) in [

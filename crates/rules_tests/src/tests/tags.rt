@@ -1,4 +1,4 @@
-//! Tags. The first functions are computed by the check from the definitions.
+//! Tags. The check computes the first functions from the definitions.
 
 ghost use Rattle.std.specs.Prelude.{◌≡◌, ◌∷◌, [], false, true, Ok};
 
@@ -6,7 +6,7 @@ use busdma_machine::{Pa, TagLimits};
 use dma_tag::{Einval, Tag};
 use std::alloc::AllocError;
 
-/// Limits that ask for nothing.
+/// Limits that restrict nothing.
 const FREE: TagLimits = TagLimits {
     alignment: 1,
     boundary: 0,
@@ -52,7 +52,7 @@ fn window() -> Result<[bool; 4], Einval>
     Ok([0xfff, 0x1000, 0x1fff, 0x2000].map(|pa| tag.excluded(Pa(pa))))
 }
 
-/// The last tag of a chain has the narrowest limits of all, and else its own.
+/// The last tag of a chain has the narrowest limits of all tags, and otherwise its own.
 #[test]
 fn tags_narrow(rt: HostRuntime) -> Result<(), Einval> {
     assert!(rt; inherited_lowaddr() == Ok(0xffffff));

@@ -1,4 +1,4 @@
-//! Walks over buffers, which give their entries.
+//! Walks over buffers, which return their entries.
 
 ghost use Rattle.std.specs.Prelude.{◌≡◌, IfOk, [], ◌∷◌};
 
@@ -8,14 +8,14 @@ use phys_memory::Entries;
 use std::alloc::{AllocError, Global};
 use std::test::Fail;
 
-/// Two frames, of which the second lies before the first.
+/// Returns two frames, of which the second lies before the first.
 fn two_frames(alloc: Global) -> Result<FrameList, AllocError>
     ensures { IfOk result (λ frames. frames ≡ 0x1002 ∷ 0x1000 ∷ []) }
 {
     Ok(FrameList::new(vec![in alloc; 0x1002, 0x1000]?))
 }
 
-/// Whether a walk gave entries of these extents, each of them rounded or none.
+/// Returns whether a walk returned entries with these extents, all of them rounded or none.
 fn gives(walked: &Entries, rounded: bool, wanted: &[&[Extent]]) -> bool {
     match walked {
         Entries::All(entries) => are(entries.as_slice(), rounded, wanted),
@@ -32,7 +32,7 @@ fn are(entries: &[Entry], rounded: bool, wanted: &[&[Extent]]) -> bool {
     entries.len() == wanted.len()
 }
 
-/// An mbuf of length 0 has no entry, where some bytes could be reached and where none could.
+/// An mbuf of length 0 has no entry, whether its bytes could be reached or not.
 #[test]
 fn a_chain_is_walked(rt: HostRuntime) -> Result<(), Fail> {
     let alloc = rt.alloc();
@@ -53,7 +53,7 @@ fn a_chain_is_walked(rt: HostRuntime) -> Result<(), Fail> {
     Ok(())
 }
 
-/// A bio that is mapped is one entry, which is rounded; one that is not is one that is not.
+/// A mapped bio is one rounded entry; an unmapped bio is one entry that is not rounded.
 #[test]
 fn bios_are_walked(rt: HostRuntime) -> Result<(), Fail> {
     let alloc = rt.alloc();

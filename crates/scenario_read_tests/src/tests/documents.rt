@@ -1,6 +1,6 @@
-//! Whole documents, the pages of a driver, and orders.
+//! Complete documents, the pages of a driver, and orders.
 
-/// What is said of whole documents.
+/// What the reader says of documents.
 pub const DOCUMENTS: &str = r#"
 NotJson <- {
 NotJson <- {"frames":[],"drivers":[]}7
@@ -74,7 +74,7 @@ BadField <- [[[[[[[[[[[[[[[[[[[[[[[[[[[[[[[[[[[[[[[[[[[[[[[[[[[[[[[[[[[[[[[[[[[[
 NotJson <- [[[[[[[[[[[[[[[[[[[[[[[[[[[[[[[[[[[[[[[[[[[[[[[[[[[[[[[[[[[[[[[[[[[[[[[[[[[[[[[[[[[[[[[[[[[[[[[[[[[[[[[[[[[[[[[[[[[[[[[[[[[[[[[[]]]]]]]]]]]]]]]]]]]]]]]]]]]]]]]]]]]]]]]]]]]]]]]]]]]]]]]]]]]]]]]]]]]]]]]]]]]]]]]]]]]]]]]]]]]]]]]]]]]]]]]]]]]]]]]]]]]]]]]]]]]]]]]]
 "#;
 
-/// What is said of a driver's pages, where the machine has the frames 16 to 19 and 21.
+/// What the reader says of a driver's pages, if the machine has the frames 16 to 19 and 21.
 pub const PAGES: &str = r#"
 good <- ["0x1000",16,4],[0,21,1]
 good <- ["0xfffff7fffffff000",16,1]
@@ -95,7 +95,7 @@ BadField drivers[0].pages[1] <- [0,16,2],["0x1000",18,1]
 FrameAbsent drivers[0].pages[1] <- [0,16,2],["0x1000",18,3]
 "#;
 
-/// What is said of the actors of an order.
+/// What the reader says of the actors of an order.
 pub const ACTORS: &str = r#"
 good <- 65536 times "s0"
 Limit(order) order <- 65537 times "s0"

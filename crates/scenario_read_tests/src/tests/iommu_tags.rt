@@ -1,7 +1,7 @@
 //! IOMMU tags, and accesses at device addresses.
 
-/// What is said of an operation behind the making of a tag `t`, an IOMMU tag `u`, and a map of each: `m` and `n`, with
-/// the path behind the script's.
+/// What the reader says of an operation after a tag `t`, an IOMMU tag `u`, and a map of each, `m` and `n`.
+/// The path is the rest after the script's path.
 pub const IOMMU_TAGS: &str = r#"
 good <- {"op":"iommu_tag","name":"x"}
 good <- {"op":"iommu_tag","name":"x","lowaddr":"0xffff","boundary":4096,"maxsize":0,"nsegments":4294967295,"maxsegsz":"0xffffffffffffffff"}
@@ -39,8 +39,8 @@ BadOp [4].op <- {"op":"dev_read_at","tag":"u","addr":0,"len":1}
 BadOp [4].op <- {"op":"dev_write_at","tag":"u","addr":0,"hex":"00"}
 "#;
 
-/// What is said of the items of a load of no bytes behind these, with the path behind that of the
-/// items.
+/// What the reader says of the items of a load of no bytes after these operations. The path is the rest after
+/// the path of the items.
 pub const RAW_ACCESSES: &str = r#"
 good <- {"op":"dev_read_at","tag":"u","addr":0,"len":0}
 good <- {"op":"dev_read_at","tag":"u","addr":"0xffffffffffffffff","len":4096}
@@ -75,7 +75,8 @@ UnknownName [0].map <- {"op":"dev_read","map":"u","off":0,"len":1}
 BadOp [0].op <- {"op":"iommu_tag","name":"x"}
 "#;
 
-/// What is said of repeated loads behind these: a raw read counts for the limit on reads, a raw write does not.
+/// What the reader says of repeated loads after these operations: a raw read counts for the limit on reads, a
+/// raw write does not.
 pub const REPEATED: &str = r#"
 good <- 256 times {"op":"load","map":"n","va":0,"len":0,"then":[{"op":"dev_read_at","tag":"u","addr":0,"len":4096}]}
 Limit(reads) [260].then[0] <- 257 times {"op":"load","map":"n","va":0,"len":0,"then":[{"op":"dev_read_at","tag":"u","addr":0,"len":4096}]}

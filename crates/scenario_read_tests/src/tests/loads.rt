@@ -1,7 +1,7 @@
 //! Loads of vectors, chains and bios.
 
-/// What is said of a load of a vector, a chain or a bio behind the making of a tag `t` and a map `m`, for a driver
-/// whose one page has the frame 16, with the path behind the script's.
+/// What the reader says of a load of a vector, a chain or a bio after a tag `t` and a map `m`, for a driver
+/// whose one page has the frame 16. The path is the rest after the script's path.
 pub const LOADS: &str = r#"
 good <- {"op":"load_vector","map":"m","entries":[]}
 good <- {"op":"load_vector","map":"m","entries":[{"va":"0x1000","len":8},{"len":0,"va":0}],"flags":["WAITOK","NOWAIT"],"then":[]}
@@ -89,29 +89,30 @@ BadFlag [2].flags[0] <- {"op":"load_bio","map":"m","bio":{"kind":"vector","entri
 BadField [2].then[0] <- {"op":"load_bio","map":"m","bio":{"kind":"vector","entries":[]},"then":[7]}
 "#;
 
-/// What is said of the entries of a vector or a chain: at the limit a list is read, and one element past it the list is
-/// refused, whatever its elements are.
+/// What the reader says of the entries of a vector or a chain. A list with as many elements as the limit is
+/// read. With one more element it is refused, whatever its elements are.
 pub const ENTRIES: &str = r#"
 good <- 4096 times {"va":0,"len":0}
 Limit(entries) [2].entries <- 4097 times {"va":0,"len":0}
 Limit(entries) [2].entries <- 4097 times []
 "#;
 
-/// The same of the entries of a bio.
+/// What the reader says of the entries of a bio at the limit of a list and with one more element.
 pub const BIO_ENTRIES: &str = r#"
 good <- 4096 times {"va":0,"len":256}
 Limit(entries) [2].bio.entries <- 4097 times {"va":0,"len":256}
 Limit(entries) [2].bio.entries <- 4097 times []
 "#;
 
-/// The same of the frames of a bio.
+/// What the reader says of the frames of a bio at the limit of a list and with one more element.
 pub const BIO_FRAMES: &str = r#"
 good <- 4096 times 16
 Limit(entries) [2].bio.frames <- 4097 times 16
 Limit(entries) [2].bio.frames <- 4097 times []
 "#;
 
-/// What is said of the frames of a bio of the second driver and of its pages, where the first driver has the frame 1.
+/// What the reader says of the frames of a bio of the second driver and of its pages, if the first driver has
+/// the frame 1.
 pub const FRAMES: &str = r#"
 good <- 2],"off":0,"len":1}}],"pages":[[0,2,1]]
 FrameAbsent drivers[1].script[2].bio.frames[0] <- 1],"off":0,"len":1}}],"pages":[[0,2,1]]

@@ -1,7 +1,7 @@
 //! Memories, and the places and loads that name them.
 
-/// What is said of an operation behind the making of a tag `t`, a map `m` and a memory `q`, with the path behind the
-/// script's.
+/// What the reader says of an operation after a tag `t`, a map `m` and a memory `q`. The path is the rest
+/// after the script's path.
 pub const MEMORIES: &str = r#"
 good <- {"op":"dmamem","name":"x","tag":"t"}
 good <- {"op":"dmamem","name":"x","tag":"t","flags":["WAITOK","NOWAIT","ZERO","COHERENT","ZERO"]}

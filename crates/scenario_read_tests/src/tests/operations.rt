@@ -1,7 +1,7 @@
 //! Operations and items.
 
-/// What is said of an operation behind the making of a tag `t` and a map `m`, with the path behind
-/// the script's.
+/// What the reader says of an operation after a tag `t` and a map `m`. The path is the rest after the
+/// script's path.
 pub const OPERATIONS: &str = r#"
 BadField [2] <- 7
 BadField [2].op <- {}
@@ -124,8 +124,8 @@ BadField [2].map <- {"op":"await","map":["m"]}
 BadField [4].map <- {"op":"map","name":"n","tag":"t"},{"op":"await","map":"n"},{"op":"await","map":"N"}
 "#;
 
-/// What is said of the items of a load of no bytes behind a tag `t` and a map `m`, with the path
-/// behind that of the items.
+/// What the reader says of the items of a load of no bytes after a tag `t` and a map `m`. The path is the
+/// rest after the path of the items.
 pub const ITEMS: &str = r#"
 good <- {"op":"sync","map":"m","ops":["PREWRITE"]},{"op":"dev_read","map":"m","off":0,"len":4096}
 BadField [1] <- {"op":"sync","map":"m","ops":[]},7
@@ -151,7 +151,8 @@ BadField [0].off <- {"op":"dev_write","map":"m","hex":"ff"}
 BadField [0].hex <- {"op":"dev_write","map":"m","off":0,"hex":"f"}
 "#;
 
-/// What is said of operations that are repeated behind a tag `t` and a map `m`, with the path behind the script's.
+/// What the reader says of operations that are repeated after a tag `t` and a map `m`. The path is the rest
+/// after the script's path.
 pub const REPEATED: &str = r#"
 good <- 4094 times {"op":"await","map":"m"}
 Limit(steps) [4096] <- 4095 times {"op":"await","map":"m"}

@@ -1,7 +1,7 @@
 //! Rings of descriptors, what is posted to them, and kicks of their devices.
 
-/// What is said of an operation behind the making of a tag `t`, a map `m`, a memory `q` and a ring `r` in it, with the
-/// path behind the script's.
+/// What the reader says of an operation after a tag `t`, a map `m`, a memory `q` and a ring `r` in it. The
+/// path is the rest after the script's path.
 pub const RINGS: &str = r#"
 good <- {"op":"ring","name":"s","mem":"q","slots":256}
 good <- {"op":"ring","name":"s","mem":"q","slots":0}
@@ -67,8 +67,8 @@ BadOp [4].then[0].op <- {"op":"load","map":"m","va":0,"len":0,"then":[{"op":"kic
 UnknownName [4].then[0].map <- {"op":"load","map":"m","va":0,"len":0,"then":[{"op":"sync","map":"r","ops":[]}]}
 "#;
 
-/// What is said of so many operations there: what is posted and what a device fetches counts for no limit but that on
-/// steps.
+/// What the reader says of repeated operations of a ring: what is posted and what a device fetches counts for
+/// no limit except that on steps.
 pub const REPEATED: &str = r#"
 good <- 4092 times {"op":"ring_post","ring":"r","slot":0,"map":"m","off":0,"len":4096,"kind":1}
 Limit(steps) [4096] <- 4093 times {"op":"ring_post","ring":"r","slot":0,"map":"m","off":0,"len":4096,"kind":1}

@@ -1,6 +1,7 @@
 //! Sends and their clusters.
 
-/// What is said of a send behind the making of a tag `t` and a map `m`, with the path behind the script's.
+/// What the reader says of a send after a tag `t` and a map `m`. The path is the rest after the script's
+/// path.
 pub const SENDS: &str = r#"
 good <- {"op":"send","map":"m","entries":[],"clusters":[]}
 good <- {"op":"send","map":"m","entries":[{"va":"0x1000","len":8}],"clusters":["0x2000",12288,0],"then":[{"op":"sync","map":"m","ops":["PREWRITE"]}]}
@@ -30,14 +31,15 @@ BadField [2].then <- {"op":"send","map":"m","entries":[],"clusters":[],"then":7}
 BadOp [2].then[0].op <- {"op":"send","map":"m","entries":[],"clusters":[],"then":[{"op":"send","map":"m","entries":[],"clusters":[]}]}
 "#;
 
-/// What is said of sends of a mebibyte, each of which counts as two loads.
+/// What the reader says of sends of a mebibyte, each of which counts as two loads.
 pub const REPEATED: &str = r#"
 good <- 8 times {"op":"send","map":"m","entries":[{"va":0,"len":1048576}],"clusters":[]}
 Limit(loaded) [10] <- 9 times {"op":"send","map":"m","entries":[{"va":0,"len":1048576}],"clusters":[],"then":[]}
 Limit(loaded) [10] <- 9 times {"op":"send","map":"m","entries":[{"va":0,"len":1048576}],"clusters":["0x100000"]}
 "#;
 
-/// What is said of the clusters of a send: one element past the limit the list is refused, whatever its elements are.
+/// What the reader says of the clusters of a send. With one element more than the limit the list is refused,
+/// whatever its elements are.
 pub const CLUSTERS: &str = r#"
 BadField [2].clusters[1] <- 4096 times 0
 Limit(entries) [2].clusters <- 4097 times 0

@@ -1,4 +1,4 @@
-//! What the reader makes of texts, as `Debug` tells it.
+//! What the reader makes of texts, as `Debug` prints it.
 
 use scenario_read::scenario_of;
 use std::alloc::{AllocError, Global};
@@ -22,7 +22,7 @@ const OPERATIONS: &str =
  {"op":"tag_destroy","tag":"u"},
  {"op":"cpu_read","va":"0x100000","len":2}]}]}"#;
 
-/// What stands in that scenario.
+/// What the scenario of these operations contains.
 const OPERATIONS_MADE: &[&str] = &[
     r#"frames: ListOf { items: [FrameRun { first: 16, count: 8 }, FrameRun { first: 4096, count: 16 }] }, max_bpages: 8192,"#,
     r#"pages: ListOf { items: [PageRun { va: Va(1048576), frame: 4096, count: 1 }] }"#,
@@ -51,7 +51,7 @@ const BUFFERS: &str =
  {"op":"send","map":"m","entries":[{"va":"0x100001","len":4095},{"va":"0x100000","len":2}],"clusters":["0x102000","0x101000",0]},
  {"op":"send","map":"m","entries":[{"va":"0x100000","len":4097}],"clusters":["0x102000"],"then":[{"op":"sync","map":"m","ops":[]}]}]}]}"#;
 
-/// What stands in that scenario.
+/// What the scenario of these loads contains.
 const BUFFERS_MADE: &[&str] = &[
     r#"Vector(ListOf { items: [Span { va: Va(1048576), len: 8 }, Span { va: Va(1048584), len: 0 }] }), flags: 1,"#,
     r#"Mbuf(ListOf { items: [Span { va: Va(1052672), len: 54 }] }), flags: 0, then: ListOf { items: [Sync {"#,
@@ -76,7 +76,7 @@ const MEMORIES: &str = r#"{"frames":[["0x10",8]],"drivers":[{"script":[
  {"op":"load","map":"ring","va":"0xfffff80000010000","len":1},
  {"op":"dmamem_free","mem":"plain"}]}]}"#;
 
-/// What stands in that scenario.
+/// What the scenario of these memories contains.
 const MEMORIES_MADE: &[&str] = &[
     r#"Dmamem { name: Text { text: "ring" }, tag: 0, flags: 6 }, Dmamem { name: Text { text: "plain" }, tag: 0, flags: 0 }"#,
     r#"Dmamem { name: Text { text: "now" }, tag: 0, flags: 1 }"#,
@@ -97,7 +97,7 @@ const SPACES: &str = r#"{"frames":[["0x1000",1]],"drivers":[{"script":[
   {"op":"dev_read_at","tag":"u","addr":"0xffffffffffffffff","len":1}]},
  {"op":"tag_destroy","tag":"w"}]}]}"#;
 
-/// What stands in that scenario.
+/// What the scenario of these IOMMU tags contains.
 const SPACES_MADE: &[&str] = &[
     r#"IommuTag { name: Text { text: "u" }, limits: SpaceLimits { boundary: 0, lowaddr: Pa(4294967295), maxsize: 4294967295,"#,
     r#"maxsize: 4294967295, nsegments: 65536, maxsegsz: 4294967295 } }, IommuTag { name: Text { text: "w" },"#,
@@ -118,14 +118,14 @@ const RINGS: &str = r#"{"frames":[["0x10",8]],"drivers":[{"script":[
  {"op":"ring_post","ring":"r","slot":0,"map":"q","off":0,"len":0,"kind":1},
  {"op":"kick","ring":"r","count":2}]}]}"#;
 
-/// What stands in that scenario.
+/// What the scenario of this ring contains.
 const RINGS_MADE: &[&str] = &[
     r#"Ring { name: Text { text: "r" }, mem: 2, slots: 4 }, RingPost { ring: 3, slot: 3, map: 1, off: 10, len: 255,"#,
     r#"len: 255, kind: 2, fill: 126 }, RingPost { ring: 3, slot: 0, map: 2, off: 0, len: 0, kind: 1, fill: 0 }"#,
     r#"Kick { ring: 3, steps: ListOf { items: [RingStep { ring: 3 }, RingStep { ring: 3 }] } }"#,
 ];
 
-/// Whether this stands in what is made of a text.
+/// Returns whether the scenario of a text contains this part.
 fn has(alloc: Global, text: &str, part: &str) -> Result<bool, AllocError> {
     let reading = scenario_of(alloc, text.as_bytes())?;
     let told = format!(in alloc; "{reading:?}")?;

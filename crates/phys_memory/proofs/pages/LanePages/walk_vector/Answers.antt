@@ -9,7 +9,7 @@ use Rattle.phys_memory.proofs.Vectors.{walk_end, walk_entries, walk_from, walk_h
 use Rattle.phys_memory.proofs.pages.LanePages.walk_vector.Goals.{then-not-is_empty+in_ok-push, else-not-is_empty}
 use Rattle.phys_memory.proofs.pages.LanePages.walk_vector.Goals as goal
 
--- what an index past the end stands for
+-- the value that is read beyond the end of a list of spans
 abbrev no_span : Span
 no_span = record { va = record { 0 = 0 }; len = 0 }
 
