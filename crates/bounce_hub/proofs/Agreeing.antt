@@ -49,7 +49,7 @@ pub zone-matches : (p : Pool) (a : Account) (z : ℕ) (s : HubZone) → Agrees p
 zone-matches p a z s agrees inside at =
     subst (λ k. Matches k a z) (sym at) (agrees.zones z s (omega (arith, inside, agrees.count)))
 
--- one zone's counters change, and the others' stay
+-- the counters of one zone change, and those of the others stay
 matches-set : (hub_zones : List HubZone) (a b : Account) (z : ℕ) (s : HubZone) → z < length hub_zones →
     ((y : ℕ) (d : HubZone) → y < length hub_zones → Matches (get_or hub_zones y d) a y) →
     Matches s b z → ((y : ℕ) → y ≢ z → SameZone a b y)
@@ -73,7 +73,7 @@ matches-set hub_zones a b z s inside each here others y d below =
           }))
     ])
 
--- the zones of a pool, of which one changed
+-- the zones of a pool of which one changed
 pub zones-set : (p q : Pool) (a b : Account) (z : ℕ) (s : HubZone) → Agrees p a → z < length a.zones →
     q.zones.items ≡ set p.zones.items z s → Matches s b z → ((y : ℕ) → y ≢ z → SameZone a b y)
     → (y : ℕ) (d : HubZone) → y < length q.zones.items → Matches (get_or q.zones.items y d) b y

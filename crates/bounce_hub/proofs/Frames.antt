@@ -90,7 +90,7 @@ filter-few q (x ∷ xs) =
     elim (q x) as (λ v. length (cond v (x ∷ filter q xs) (filter q xs)) ≤ length (x ∷ xs))
     [ true ↦ omega (arith, filter-few q xs) | false ↦ omega (arith, filter-few q xs) ]
 
--- what is known where a run was found
+-- what is known once a run was found
 pub record Found (first : Option ℕ) (n : ℕ) (pages : List FrameBytes) : Type 0 where
   pub at : ℕ
   pub is : first ≡ Some at
@@ -153,7 +153,7 @@ frames_of-le g add none m (x ∷ xs) =
 pub frames-room : (m : MapId) (a : Account) → length a.bank + length (frames_of m a.mems) ≤ frame_total a
 frames-room m a = omega (arith, frames_of-le (λ xs. length xs) (λ xs ys. length-append xs ys) refl m a.mems)
 
--- how often a frame stands in pages
+-- how often a frame occurs in pages
 times-pages : (k : ℕ) (ps : List FrameBytes) → count_by (λ p. p.frame == k) ps ≡ times (4096 * k) (page_addresses ps)
 times-pages k [] = refl
 times-pages k (p ∷ ps) =

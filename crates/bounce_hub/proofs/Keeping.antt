@@ -31,7 +31,7 @@ IsSound-push a (x ∷ xs) e s t = (s.0, IsSound-push (after_entry x a) xs e s.1 
 abbrev pub own : ℕ → HubCall → HubReply → HoldEntry
 own lane c r = record { lane = record { 0 = lane }; call = c; reply = r }
 
--- what the pool's calls may rest on
+-- what the pool's calls can rely on
 pub fits-of : (o : Account) (h : List HoldEntry) (p : Pool) (capacity : ℕ) → length h < 2 ^ 63 →
     IsKept o h p capacity → Fits p (account_of o h)
 fits-of o h p capacity few kept = record {
@@ -42,7 +42,7 @@ fits-of o h p capacity few kept = record {
   room = omega (arith, total-stays o h kept.form kept.sound, kept.frames);
 }
 
--- what a lane may do, where the hub's value is these fields
+-- what a lane may do, if the hub's value is these fields
 pub may-inside : (h : HubSeen) (o : Account) (es : List HoldEntry) (lane : ℕ) (c : HubCall) →
     record { opening = o; history = es } ≡ h → Allows (door h) lane c → MayCall lane c (account_of o es)
 may-inside h o es lane c is may =

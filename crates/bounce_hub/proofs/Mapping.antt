@@ -91,7 +91,7 @@ maps-less m (n ∷ ms) =
 pub maps-owed : (a : Account) (z : ℕ) → z < length a.zones → length (zone_at a z).maps ≤ owed a
 maps-owed a z inside = omega (arith, get_or-le-sum_by of_zone a.zones z no_zone inside)
 
--- the making of a map, by whether it was made
+-- the creation of a map, by whether the map was made
 pub created-made : (m : MapId) (t : TagLimits) (first_done : Bool) (a : Account) (n wanted : ℕ)
     → wanted ≡ wanted_by_map t first_done (zone_at (with_zone_for t a) (zone_of t a.zones))
     (total (with_zone_for t a) (zone_of t a.zones)) (maxpages t a) →

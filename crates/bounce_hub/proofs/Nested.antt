@@ -87,7 +87,7 @@ nested-longer n a b nested kept inside last = record {
       ];
 }
 
--- what stands behind the last zone
+-- the place after the last zone
 behind-last : (p : Pool) (a b : Account) (s : HubZone) → Agrees p a → Matches s b (length p.zones.items) →
     nests_behind (slice_get p.zones.items (length p.zones.items - 1)) s ≡ true →
     (y : ℕ) → y + 1 ≡ length p.zones.items → IsBelow b (length p.zones.items) a y
@@ -103,7 +103,7 @@ behind-last p a b s agrees here holds y e =
       alignment = grind (arith, nat_tests, tests, old.alignment, here.alignment);
     })
 
--- a new zone stands behind all
+-- a new zone comes after all others
 pub nested-joined : (p : Pool) (a b : Account) (s : HubZone) → Agrees p a → KeepsZones a b →
     length b.zones ≡ length a.zones + 1 → Matches s b (length p.zones.items) →
     AreNested (nested_with p.nested p.zones.items s) b
@@ -121,12 +121,12 @@ nested-joined p a b s agrees kept longer here =
       | false ↦ λ fails. nested-kept p.nested a b agrees.nested kept
     ]) refl
 
--- what is aligned no more and lies no lower serves no more tags
+-- a zone that is aligned no more and lies no lower serves no more tags
 fails-above : (a low_y low_z aligned_y aligned_z x : ℕ) → low_z ≤ low_y → aligned_y ≤ aligned_z →
     not (nat_le a aligned_z && nat_le low_z x) ≡ true → not (nat_le a aligned_y && nat_le low_y x) ≡ true
 fails-above a low_y low_z aligned_y aligned_z x low aligned fails = grind (arith, nat_tests)
 
--- among nested zones those that serve a tag stand behind those that do not
+-- among nested zones, those that serve a tag come after those that do not
 pub nested-partitioned : (p : Pool) (a : Account) (t : TagLimits) (front back : List HubZone) → Agrees p a →
     p.zones.items ≡ front ++ back → length front ≡ p.nested → IsPartitionedBy (λ s. not (serves t s)) front
 nested-partitioned p a t front back agrees parts count y z d le below fails =
@@ -144,7 +144,7 @@ nested-partitioned p a t front back agrees parts count y z d le below fails =
     (omega (arith, low_y, low_z, agrees.nested.lowaddr y z le (omega (arith, below, count))))
     (omega (arith, aligned_y, aligned_z, agrees.nested.alignment y z le (omega (arith, below, count)))) fails
 
--- the first that serves a tag, from the first among the nested zones, which stand before the others
+-- the first zone that serves a tag; the nested zones come before the others
 module _ (p : Pool) (a : Account) (t : TagLimits) (front back : List HubZone) (place : ℕ) (agrees : Agrees p a)
     (parts : p.zones.items ≡ front ++ back) (count : length front ≡ p.nested)
     (found : IsPartitionedBy (λ s. not (serves t s)) front → place ≡ place_for t front) where

@@ -1,4 +1,4 @@
--- The first that passes a test, in two parts of a list, and where all behind it pass.
+-- The first element that passes a test, in two parts of a list, if all after it pass.
 use Rattle.std.proofs.Common.{◌≡◌, ℕ, zero, suc, ◌+◌, ◌<◌, ◌≤◌, Bool, true, false, not, List, [], ◌∷◌, ◌++◌, length}
 use Rattle.std.proofs.Common.{get_or, refl, ap, ◌∙◌, arith, if◌then◌else◌}
 use Rattle.busdma_machine.specs.Bounce.Growth.{first_place}

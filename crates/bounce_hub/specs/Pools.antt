@@ -1,4 +1,4 @@
--- How what lanes share stands to the account.
+-- How the pool that all drivers share agrees with the account.
 use Rattle.std.specs.Prelude.{◌≡◌, ℕ, ◌+◌, ◌^◌, ◌<◌, ◌≤◌, List, length, slice_index_or, sum_by}
 use Rattle.busdma_machine.specs.declared.bounce.zone.Waiter.{Waiter}
 use Rattle.busdma_machine.specs.declared.name.MapId.{MapId}
@@ -28,33 +28,33 @@ pub record Matches (s : HubZone) (a : Account) (z : ℕ) : Type 0 where
   pub maps : s.maps ≡ length (zone_at a z).maps
   pub deferred : s.deferred ≡ (zone_at a z).deferred
 
--- the entries to come for maps that wait or await their callbacks: one for the callback, and one for each page's
--- release
+-- how many entries are still to come for maps that wait or await their callbacks: for each map one for its callback,
+-- and one for the release of each of its pages
 abbrev pub entries_of : List Waiter → ℕ
 entries_of ws = sum_by (λ w. w.need + 1) ws
 
--- the entries to come for what was begun: the releases, the callbacks, and the end of each map and memory
+-- how many entries are still to come for what was begun: the releases, the callbacks, and the end of each map and
+-- memory
 abbrev pub owed : Account → ℕ
 owed a =
     length a.held + (sum_by (λ z. entries_of z.wait + length z.maps) a.zones + (entries_of a.ready + length a.mems))
 
--- how many maps wait
+-- how many maps wait for pages, in all zones
 abbrev pub waiting : Account → ℕ
 waiting a = sum_by (λ z. length z.wait) a.zones
 
--- how many loads waited and then had all their pages, or are waiting
+-- how many loads waited and then got all their pages, or still wait
 abbrev pub deferrals : Account → ℕ
 deferrals a = sum_by (λ z. z.deferred + length z.wait) a.zones
 
--- the zones from the first on are nested, so many of them: each lies no higher than those before it, and is aligned no
--- less
+-- the first n zones are nested: each lies no higher than those before it, and is aligned no less
 pub record AreNested (n : ℕ) (a : Account) : Type 0 where
   pub count : n ≤ length a.zones
   pub lowaddr : (y z : ℕ) → y ≤ z → z < n → (zone_at a z).lowaddr ≤ (zone_at a y).lowaddr
   pub alignment : (y z : ℕ) → y ≤ z → z < n → (zone_at a y).alignment ≤ (zone_at a z).alignment
 
--- the bank, the zones, the callback list, the number of entries to come and the two constants are the account's, so
--- many of its zones are nested, and the callback list has room for each map that waits
+-- the pool agrees with the account: they have the same bank, zones, callback list, entries to come and constants. The
+-- zones that the pool takes as nested are, and its callback list has room for each map that waits
 pub record Agrees (p : Pool) (a : Account) : Type 0 where
   pub bank : free_frames p.bank ≡ a.bank
   pub count : length p.zones.items ≡ length a.zones
@@ -66,7 +66,7 @@ pub record Agrees (p : Pool) (a : Account) : Type 0 where
   pub maxmem : p.maxmem ≡ a.maxmem
   pub max_bpages : p.max_bpages ≡ a.max_bpages
 
--- the account's lists fit together, no frame stands twice, its numbers are small, and the bank has room for all frames
+-- the account is well formed, no frame occurs twice, its numbers are small, and the bank has room for all its frames
 pub record Fits (p : Pool) (a : Account) : Type 0 where
   pub well : IsWellFormed a
   pub apart : (f : ℕ) → places f a ≤ 1
@@ -74,24 +74,24 @@ pub record Fits (p : Pool) (a : Account) : Type 0 where
   pub deferrals : deferrals a < 2 ^ 63
   pub room : frame_total a ≤ p.bank.room
 
--- the account allows the call
+-- the pool agrees with an account that allows the call
 pub record Allowed (p : Pool) (lane : ℕ) (c : HubCall) : Type 0 where
   pub account : Account
   pub agrees : Agrees p account
   pub fits : Fits p account
   pub may : MayCall lane c account
 
--- the call made the account's step, and the reply is the account's
+-- the call made the account's step: the pool agrees with the account after it, and the reply is the account's
 pub record Stepped (p : Pool) (lane : ℕ) (c : HubCall) (r : HubReply) (a : Account) (q : Pool) : Type 0 where
   pub agrees : Agrees q (account_step lane c a).account
   pub reply : r ≡ (account_step lane c a).reply
   pub room : q.bank.room ≡ p.bank.room
 
--- the same of each account that the pool can be of
+-- the call made the account's step, for each account that the pool can be of
 abbrev pub Steps : Pool → ℕ → HubCall → HubReply → Pool → Type 0
 Steps p lane c r q = (a : Account) → Agrees p a → Fits p a → MayCall lane c a → Stepped p lane c r a q
 
--- nothing happened that an account tells
+-- the pool still agrees with each account that it agreed with, and its bank has the room that it had
 pub record Stays (p q : Pool) : Type 0 where
   pub agrees : (a : Account) → Agrees p a → Agrees q a
   pub room : q.bank.room ≡ p.bank.room
@@ -100,7 +100,7 @@ pub record Stays (p q : Pool) : Type 0 where
 abbrev pub Missed : Pool → ℕ → Type 0
 Missed p lane = (a : Account) → Agrees p a → (account_step lane TakeCallback a).reply ≡ Nothing
 
--- the account allows the end of a memory of these frames
+-- the pool agrees with an account that allows the end of a memory, and these are the memory's frames
 pub record Returns (p : Pool) (m : MapId) (given : List ℕ) : Type 0 where
   pub account : Account
   pub agrees : Agrees p account
@@ -108,7 +108,7 @@ pub record Returns (p : Pool) (m : MapId) (given : List ℕ) : Type 0 where
   pub may : MayCall m.lane.0 (MemFree m) account
   pub frames : given ≡ frames_of m account.mems
 
--- the end of a memory of these frames made the account's step
+-- the end of a memory with these frames made the account's step, for each account that the pool can be of
 abbrev pub StepsBack : Pool → MapId → List ℕ → Pool → Type 0
 StepsBack p m frames q = (a : Account) → Agrees p a → Fits p a → MayCall m.lane.0 (MemFree m) a →
     frames ≡ frames_of m a.mems → Stepped p m.lane.0 (MemFree m) Nothing a q

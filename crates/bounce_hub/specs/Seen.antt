@@ -1,4 +1,4 @@
--- What contracts see of a hub, and what is true of each.
+-- What contracts see of a hub, and what is true of each hub.
 use Rattle.std.specs.Prelude.{◌≡◌, ℕ, ◌+◌, ◌<◌, ◌≤◌, true, List, length, slice_index, slice_index_or}
 use Rattle.busdma_machine.specs.declared.bounce.hold.HoldEntry.{HoldEntry}
 use Rattle.busdma_machine.specs.declared.bounce.zone.ZoneCounts.{ZoneCounts}
@@ -9,16 +9,17 @@ use Rattle.bounce_hub.specs.declared.pool.Pool.{Pool}
 use Rattle.bounce_hub.specs.Opening.{opening}
 use Rattle.bounce_hub.specs.Pools.{Agrees}
 
--- the account that it began with, and its holds
+-- a hub: the account that it began with, and its holds
 pub record HubSeen : Type 0 where
   pub opening : Account
   pub history : List HoldEntry
 
--- a hub is a door for all lanes
+-- a hub as a door that serves all lanes
 abbrev pub door : HubSeen → Seen
 door h = record { opening = h.opening; history = h.history; serves = λ lane. true }
 
--- the counts of the zones of an account, in order, where so many syncs copied in each, and none past the list's end
+-- the counts are those of an account's zones, in order, given how many syncs copied in each; for a zone past the list's
+-- end none did
 pub record AreCounts (cs : List ZoneCounts) (bounced : List ℕ) (a : Account) : Type 0 where
   pub count : length cs ≡ length a.zones
   pub each : (z : ℕ) (d : ZoneCounts) → z < length cs → slice_index_or cs z d ≡ counts a (slice_index bounced z) z
@@ -27,7 +28,8 @@ pub record AreCounts (cs : List ZoneCounts) (bounced : List ℕ) (a : Account) :
 abbrev pub opening_of : Pool → Account
 opening_of p = opening p.bank p.max_bpages p.maxmem
 
--- its history is sound, its pool is what the account of the history says, and both have room for all that is to come
+-- a hub's history is sound, its pool agrees with the account after the history, its bank has room for the frames of the
+-- opening, and its history has room for all entries to come
 pub record IsKept (opening : Account) (history : List HoldEntry) (pool : Pool) (capacity : ℕ) : Type 0 where
   pub form : IsOpening opening
   pub sound : IsSound opening history

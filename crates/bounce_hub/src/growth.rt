@@ -10,14 +10,14 @@ use crate::pool::Pool;
 use busdma_machine::{PAGE_SIZE, TagLimits};
 use std::alloc::{AllocError, Global};
 
-/// How many pages the first allocation of a tag wants for a zone of so many.
+/// Returns how many pages the first allocation of a tag wants for a zone that has `pages` pages.
 pub(crate) fn wanted_by_tag(tag: &TagLimits, pages: u32) -> u64
     ensures { result ≡ wanted_by_tag tag.now pages }
 {
     (tag.maxsize / PAGE_SIZE).saturating_sub(u64::from(pages))
 }
 
-/// All wanted pages came, or the first allocation was done before.
+/// Returns whether the first allocation of a tag is done: it was done before, or all wanted pages came.
 pub(crate) fn is_made(first_done: bool, added: u32, wanted: u64) -> bool
     ensures { result ≡ (first_done || added == wanted) }
 {
@@ -25,7 +25,7 @@ pub(crate) fn is_made(first_done: bool, added: u32, wanted: u64) -> bool
 }
 
 impl Pool {
-    /// The number of pages of the zone at a place, or 0 behind all zones.
+    /// Returns the number of pages of the zone at a place, or 0 if there is no zone there.
     pub(crate) fn pages_at(&self, place: usize) -> u32
         ensures { result ≡ pages_of (slice_get self.now.zones.items place) }
     {
@@ -35,7 +35,7 @@ impl Pool {
         }
     }
 
-    /// The number of maps of the zone at a place, or 0 behind all zones.
+    /// Returns the number of maps of the zone at a place, or 0 if there is no zone there.
     fn maps_at(&self, place: usize) -> usize
         ensures { result ≡ maps_of (slice_get self.now.zones.items place) }
     {
@@ -45,7 +45,7 @@ impl Pool {
         }
     }
 
-    /// Up to how many pages a zone grows for a further map of a tag.
+    /// Returns up to how many pages a zone grows for a further map of a tag.
     fn most_pages(&self, tag: &TagLimits) -> u64
         ensures { result ≡ most_pages tag.now self.now.max_bpages self.now.maxmem }
     {
@@ -57,7 +57,7 @@ impl Pool {
         }
     }
 
-    /// How many pages the making of a map of the tag wants for the zone at a place.
+    /// Returns how many pages the creation of a map of the tag wants for the zone at a place.
     pub(crate) fn wanted_by_map(&self, tag: &TagLimits, first_done: bool, place: usize) -> u64
         ensures { let hub_zone = slice_get self.now.zones.items place in
             let most = most_pages tag.now self.now.max_bpages self.now.maxmem in
@@ -74,8 +74,9 @@ impl Pool {
             .max(1)
     }
 
-    /// Moves so many of the lowest free frames to the zone at a place, or to a new one there, as far
-    /// as there are any at or below its lowaddr, and answers how many.
+    /// Moves up to `wanted` of the lowest free frames to the zone at a place, or to a new one there, and
+    /// returns how many were moved. Only frames that lie at or below the zone's lowaddr are moved. If memory
+    /// runs out, the account is unchanged.
     pub(crate) fn grow(
         &mut self,
         alloc: Global,
@@ -95,7 +96,7 @@ impl Pool {
         }
     }
 
-    /// The same for a zone that is there.
+    /// Grows a zone that exists, as `grow` does.
     fn grow_zone(
         &mut self,
         alloc: Global,
@@ -114,7 +115,7 @@ impl Pool {
         Ok(added)
     }
 
-    /// The same for a new zone behind the others.
+    /// Makes a new zone after the others and grows it, as `grow` does.
     fn grow_new(
         &mut self,
         alloc: Global,

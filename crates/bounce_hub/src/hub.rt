@@ -1,4 +1,4 @@
-//! The hub: the bounce zones that all lanes share, and all holds so far.
+//! The hub: the account of bounce pages that all drivers share, and its history.
 
 ghost use Rattle.std.specs.Prelude.{◌≡◌, [], IfOk, length, slice_get};
 ghost use Rattle.busdma_machine.specs.Bounce.History.{IsOpening, IsSound, account_of};
@@ -16,8 +16,10 @@ use std::alloc::{AllocError, Global};
 use std::marker::Model;
 use std::snapshot::Snapshot;
 
-/// The bounce zones, the callback list and the free frames that all lanes share, with the history
-/// of the holds. Its pages are owned, so none is with two maps.
+/// The bounce zones, the callback list and the free frames that all drivers share, with the history of the
+/// holds.
+///
+/// Pages are owned values, so no page is with two maps.
 #[derive(Drop)]
 pub struct Hub {
     first: Snapshot<Pool>,
@@ -37,8 +39,10 @@ impl Model for Hub {
 }
 
 impl Hub {
-    /// A hub of the free frames of a bank, with no zone and an empty history. `maxmem` is in frames: the
-    /// number of the machine's highest frame plus one.
+    /// Makes a hub of the free frames of a bank, with no zone and an empty history.
+    ///
+    /// `maxmem` is in frames: the number of the machine's highest frame plus one. `max_bpages` bounds the
+    /// number of pages to which a zone grows for further maps.
     pub fn new(alloc: Global, bank: FrameBank, max_bpages: u32, maxmem: u64) -> Hub
         ensures made { result ≡ record { opening = opening bank max_bpages maxmem; history = [] } }
         ensures form { IsOpening result.opening }
@@ -52,7 +56,7 @@ impl Hub {
         }
     }
 
-    /// All holds so far, in order. They are a sound history of the account with which the hub began.
+    /// Returns all holds so far, in order. They are a sound history of the account with which the hub began.
     pub fn history(&self) -> &[HoldEntry]
         ensures items { result.now ≡ self.now.history }
         ensures form { IsOpening self.now.opening }
@@ -61,22 +65,29 @@ impl Hub {
         self.history.as_slice()
     }
 
-    /// The first map of the callback list: a lane's `take_callback` finds it where it is the lane's, and none else.
+    /// Returns the first map of the callback list, or `None` if the list is empty. A driver's `take_callback`
+    /// returns this map if it is the driver's, and no other.
     pub fn first_callback(&self) -> Option<Waiter>
         ensures { result ≡ slice_get (account_of self.now.opening self.now.history).ready 0 }
     {
         self.pool.ready.head()
     }
 
-    /// The number of zones.
+    /// Returns the number of zones.
     pub fn zone_count(&self) -> usize
         ensures { result ≡ length (account_of self.now.opening self.now.history).zones }
     {
         self.pool.zones.len()
     }
 
-    /// The counts of the zones, in the order of their making. `bounced` has, zone by zone, how many
-    /// syncs copied so far, which the hub does not know; a zone past its end had none.
+    /// Returns the counts of the zones, in the order in which they were made.
+    ///
+    /// `bounced` has, zone by zone, how many syncs copied so far, which the hub does not know. A zone past
+    /// its end had none.
+    ///
+    /// # Errors
+    ///
+    /// `AllocError` if memory runs out.
     pub fn counts(&self, alloc: Global, bounced: &[u64]) -> Result<ZoneList, AllocError>
         ensures { IfOk result (λ l.
             AreCounts l bounced.now (account_of self.now.opening self.now.history)) }
@@ -86,7 +97,7 @@ impl Hub {
     }
 }
 
-/// The frames of every bank rise. A proof knows it of a bank only once the bank was asked something.
+/// States that the frames of a bank rise. A proof knows it only after some call on the bank.
 fn bank_is_sound(bank: &FrameBank)
     ensures { IsBank bank.now }
 {
@@ -108,6 +119,8 @@ impl HubDoor for Hub {
         lane: LaneId,
         tag: &TagLimits,
     ) -> Result<Grown, AllocError> {
+        // Room for this entry and for all entries still owed is taken before the pool's call. So a failed
+        // allocation leaves the account unchanged, and a call that gives something back never takes memory.
         self.history.reserve(self.pool.owed + 1)?;
         let grown = self.pool.attach(alloc, lane, tag)?;
         self.history.push_reserved(HoldEntry {
@@ -156,6 +169,7 @@ impl HubDoor for Hub {
         need: u32,
         nowait: bool,
     ) -> Result<Grabbed, AllocError> {
+        // The load can owe one entry for its callback and one for the release of each page.
         self.history.reserve(self.pool.owed + need as usize + 2)?;
         let (grabbed, reply) = self.pool.grab(alloc, map, zone, need, nowait)?;
         self.history.push_reserved(HoldEntry {

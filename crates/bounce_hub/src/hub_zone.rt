@@ -1,4 +1,4 @@
-//! A zone as the hub has it: with the maps that wait for its pages.
+//! A zone as the hub keeps it: with the maps that wait for its pages.
 
 ghost use Rattle.std.specs.Prelude.{◌≡◌, ◌+◌, ◌-◌, ◌^◌, ◌<◌, ◌≤◌, [], ◌∷◌, ◌++◌, length, take, drop, All};
 ghost use Rattle.std.specs.Prelude.{vec_capacity, IfOk, OnOk, OnErr};
@@ -13,8 +13,8 @@ use busdma_machine::{MapId, Pa, PaList, Page, PageList, ZoneCounts, ZoneId};
 use std::alloc::{AllocError, Global};
 use wait_list::{ReadyList, WaitList};
 
-/// A zone, the maps that wait for its pages, the number of its living maps, and how many loads waited
-/// so far and then had all their pages.
+/// A zone, the maps that wait for its pages, the number of its maps, and how many loads waited so far and
+/// then got all their pages.
 #[derive(Drop)]
 pub struct HubZone {
     pub zone: Zone,
@@ -24,7 +24,7 @@ pub struct HubZone {
 }
 
 impl HubZone {
-    /// A zone with no page and no map.
+    /// Makes a zone without pages and maps. The alignment is in bytes.
     pub fn new(alloc: Global, lowaddr: Pa, alignment: u64) -> HubZone
         ensures { result ≡ record {
           zone = no_pages lowaddr.0 alignment;
@@ -41,14 +41,19 @@ impl HubZone {
         }
     }
 
-    /// The counts of the zone, where so many syncs copied.
+    /// Returns the counts of the zone. `bounced` is the number of syncs that copied so far.
     pub fn counts(&self, bounced: u64) -> ZoneCounts
         ensures { result ≡ counts_of bounced self.now }
     {
         self.zone.counts(bounced, self.deferred)
     }
 
-    /// Hands out free pages from the head of the list, with their addresses.
+    /// Hands out `need` free pages from the head of the list, with their physical addresses in the same
+    /// order.
+    ///
+    /// # Errors
+    ///
+    /// `AllocError` if memory runs out. The zone is then unchanged.
     pub fn hand_out(&mut self, alloc: Global, need: u32) -> Result<(PageList, PaList), AllocError>
         requires { need ≤ free_pages self.old.zone }
         ensures zone { OnOk result (self.new ≡ record self.old {
@@ -67,7 +72,8 @@ impl HubZone {
         Ok((pages, PaList::new(addresses)))
     }
 
-    /// Hands out promised pages from the head of the list, with their addresses.
+    /// Hands out `need` promised pages from the head of the list to the empty list `pages`. Returns their
+    /// physical addresses in the same order, in the room of `addresses`. Takes no memory.
     pub fn hand_promised(&mut self, need: u32, pages: &mut PageList, addresses: Vec<Pa>) -> PaList
         requires enough { need ≤ self.old.zone.reserved }
         requires no_page { pages.old.items ≡ [] }
@@ -86,7 +92,12 @@ impl HubZone {
         PaList::new(addresses)
     }
 
-    /// A map waits with all free pages, whose number is the answer.
+    /// Reserves all free pages for a map that needs more, appends the map to those that wait, and returns the
+    /// number of pages.
+    ///
+    /// # Errors
+    ///
+    /// `AllocError` if memory runs out. The zone and the callback list are then unchanged.
     pub fn queue(
         &mut self,
         alloc: Global,
@@ -110,7 +121,8 @@ impl HubZone {
         Ok(have)
     }
 
-    /// Takes a page back, and serves the maps that wait. Answers how many were completed.
+    /// Takes a page back, gives free pages to the maps that wait, and returns how many of them then have all
+    /// their pages.
     pub fn take_back(&mut self, page: Page, ready: &mut ReadyList) -> u32
         requires active { 1 ≤ self.old.zone.active }
         requires room { length self.old.wait ≤ ready.old.spare }

@@ -1,4 +1,5 @@
-//! The bounce zones that all lanes share, their callback list, the bank, and the history of holds.
+//! The account of bounce pages: the zones that all drivers share, their callback list, the bank, and the
+//! history of holds.
 #![tactic(auto)]
 
 mod growth;

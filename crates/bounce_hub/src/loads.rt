@@ -1,4 +1,4 @@
-//! Pages for loads: they are grabbed, released, and handed out with callbacks.
+//! How loads get their pages: by a grab or with a callback, and how pages are released.
 
 ghost use Rattle.std.specs.Prelude.{◌≡◌, ◌+◌, ◌^◌, ◌<◌, ◌≤◌, IfOk, IfSome, IfNone, OnErr};
 ghost use Rattle.busdma_machine.specs.declared.bounce.hold.HubCall.TheVariants.{Grab, Release, TakeCallback};
@@ -13,7 +13,15 @@ use busdma_machine::{Called, Grabbed, HubReply, LaneId, MapId, PaList, Page, Zon
 use std::alloc::{AllocError, Global};
 
 impl Pool {
-    /// A load's wish for pages, with the reply that the history keeps.
+    /// Takes `need` pages of a zone for a load, or lets the load wait for them, and returns the outcome with
+    /// the reply that the history keeps.
+    ///
+    /// If too few pages are free, the load waits, or is refused if `nowait` is set. After
+    /// `_bus_dmamap_reserve_pages` of `sys/x86/x86/busdma_bounce.c`.
+    ///
+    /// # Errors
+    ///
+    /// `AllocError` if memory runs out. The account is then unchanged.
     pub fn grab(
         &mut self,
         alloc: Global,
@@ -44,7 +52,10 @@ impl Pool {
         }
     }
 
-    /// A page comes back from a map, and its zone serves. Answers how many maps were completed.
+    /// Takes a page back from a map, serves the maps that wait for its zone, and returns how many of them
+    /// were completed.
+    ///
+    /// After `free_bounce_page` of `sys/x86/x86/busdma_bounce.c`.
     pub fn release(&mut self, map: MapId, zone: ZoneId, page: Page) -> u32
         requires { Allowed self.old map.lane.0 (Release map zone (record { 0 = page_address page })) }
         ensures steps { Steps self.old map.lane.0
@@ -57,7 +68,8 @@ impl Pool {
         moved
     }
 
-    /// The head of the callback list gets its pages, where it is the lane's; with their addresses.
+    /// Removes the head of the callback list if it is a load of the driver's, and returns it with its pages
+    /// and their physical addresses. Otherwise returns `None`, and nothing changes.
     pub fn take_callback(&mut self, lane: LaneId) -> Option<(Called, PaList)>
         requires { Allowed self.old lane.0 TakeCallback }
         ensures steps { IfSome result (λ r.

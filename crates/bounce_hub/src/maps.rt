@@ -1,4 +1,4 @@
-//! The first allocation of a tag, and the making and the end of a map.
+//! The first allocation of a tag, and the creation and destruction of a map.
 
 ghost use Rattle.std.specs.Prelude.{◌≡◌, ◌+◌, ◌^◌, ◌<◌, ◌≤◌, IfOk, OnErr};
 ghost use Rattle.busdma_machine.specs.declared.bounce.hold.HubCall.TheVariants.{AttachTag, CreateMap, DestroyMap};
@@ -11,7 +11,13 @@ use busdma_machine::{Grown, LaneId, MapId, TagLimits, ZoneId};
 use std::alloc::{AllocError, Global};
 
 impl Pool {
-    /// The first allocation of a tag.
+    /// Makes the first allocation of a tag, which grows the tag's zone, and returns how the zone grew.
+    ///
+    /// After `bus_dma_tag_create(9)` with `BUS_DMA_ALLOCNOW`.
+    ///
+    /// # Errors
+    ///
+    /// `AllocError` if memory runs out. The account is then unchanged.
     pub fn attach(
         &mut self,
         alloc: Global,
@@ -31,7 +37,15 @@ impl Pool {
         Ok(Grown { zone, added, made })
     }
 
-    /// The making of a map.
+    /// Creates a map in the zone of its tag, which grows if the map wants pages, and returns how the zone
+    /// grew.
+    ///
+    /// The map is not created if it is to make its tag's first allocation and some wanted page did not come.
+    /// After `bus_dmamap_create(9)`.
+    ///
+    /// # Errors
+    ///
+    /// `AllocError` if memory runs out. The account is then unchanged.
     pub fn create(
         &mut self,
         alloc: Global,
@@ -58,7 +72,7 @@ impl Pool {
         Ok(Grown { zone, added, made })
     }
 
-    /// The end of a map.
+    /// Destroys a map, whose zone keeps its pages. After `bus_dmamap_destroy(9)`.
     pub fn destroy(&mut self, map: MapId, zone: ZoneId)
         requires { Allowed self.old map.lane.0 (DestroyMap map zone) }
         ensures steps { Steps self.old map.lane.0 (DestroyMap map zone) Nothing self.new }

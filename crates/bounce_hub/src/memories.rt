@@ -26,7 +26,15 @@ fn give_all(bank: &mut FrameBank, pages: PageList)
 }
 
 impl Pool {
-    /// The frames of a new memory, with the reply that the history keeps.
+    /// Takes the frames of a new memory out of the bank, and returns them as pages, with the reply that the
+    /// history keeps.
+    ///
+    /// The pages are `None` if no run of free frames meets the tag; the account is then unchanged. After
+    /// `bus_dmamem_alloc(9)`.
+    ///
+    /// # Errors
+    ///
+    /// `AllocError` if memory runs out. The account is then unchanged.
     pub fn allocate(
         &mut self,
         alloc: Global,
@@ -58,7 +66,7 @@ impl Pool {
         }
     }
 
-    /// The frames of a memory come back.
+    /// Gives the frames of a memory back to the bank. After `bus_dmamem_free(9)`.
     pub fn free_memory(&mut self, mem: MapId, pages: PageList)
         requires { Returns self.old mem (page_addresses pages.items) }
         ensures steps { StepsBack self.old mem (page_addresses pages.items) self.new }

@@ -1,9 +1,9 @@
-//! Where the zone of a tag stands among the zones.
+//! The place of a tag's zone among the zones.
 //!
-//! The zones of a machine are nested: a new one is made for a tag where none serves it, so it lies lower than
-//! all before it and then serves what they serve. The first that serves a tag is found among such zones by
-//! halving. Behind one that breaks the row, as a tag with an alignment above a page's makes one, each is
-//! looked at.
+//! A new zone is made for a tag only if no zone serves it. It thus lies lower than all zones before it and
+//! serves the tags that they serve: the zones are nested. The first zone that serves a tag is found among
+//! nested zones by binary search. A tag with an alignment above a page's can break the nesting; the zones
+//! from there on are searched one by one.
 
 ghost use Rattle.std.specs.Prelude.{◌≡◌, ◌-◌, ◌≤◌, length, not, slice_get};
 ghost use Rattle.std.specs.List.Sorted.{IsPartitionedBy};
@@ -13,15 +13,15 @@ use crate::hub_zone::HubZone;
 use crate::pool::Pool;
 use busdma_machine::TagLimits;
 
-/// The zone's pages are aligned and low enough for the tag.
+/// Returns whether the zone's pages are aligned and low enough for the tag.
 fn serves(tag: &TagLimits, hub_zone: &HubZone) -> bool
     ensures { result ≡ serves tag.now hub_zone.now }
 {
     tag.alignment <= hub_zone.zone.alignment() && hub_zone.zone.lowaddr().0 <= tag.lowaddr.0
 }
 
-/// The place of the first zone that serves the tag, or behind all zones, where each zone behind one that
-/// serves the tag serves it too.
+/// Returns the place of the first zone that serves the tag, or the number of zones if none does. Each zone
+/// after one that serves the tag serves it too.
 fn place_in_nested(tag: &TagLimits, zones: &[HubZone]) -> usize
     ensures is { IsPartitionedBy (λ s. not (serves tag.now s)) zones.now →
         result ≡ place_for tag.now zones.now }
@@ -30,7 +30,7 @@ fn place_in_nested(tag: &TagLimits, zones: &[HubZone]) -> usize
     zones.partition_point(|hub_zone| !serves(tag, hub_zone))
 }
 
-/// The place of the first zone that serves the tag, or behind all zones.
+/// Returns the place of the first zone that serves the tag, or the number of zones if none does.
 fn place_in(tag: &TagLimits, zones: &[HubZone]) -> usize
     ensures is { result ≡ place_for tag.now zones.now }
     ensures bound { result ≤ length zones.now }
@@ -43,7 +43,8 @@ fn place_in(tag: &TagLimits, zones: &[HubZone]) -> usize
     zones.len()
 }
 
-/// A zone behind the last of these, if any, lies no higher than it, and is aligned no less.
+/// Returns whether a zone lies no higher than the last of these zones and is aligned no less, or these are
+/// none.
 fn nests_behind(zones: &[HubZone], next: &HubZone) -> bool
     ensures { result ≡ nests_behind (slice_get zones.now (length zones.now - 1)) next.now }
 {
@@ -57,7 +58,7 @@ fn nests_behind(zones: &[HubZone], next: &HubZone) -> bool
 }
 
 impl Pool {
-    /// The place of the first zone that serves the tag, or behind all zones.
+    /// Returns the place of the first zone that serves the tag, or the number of zones if none does.
     pub(crate) fn place_for(&self, tag: &TagLimits) -> usize
         requires { IsOfAccount self.now }
         ensures is { result ≡ place_for tag.now self.now.zones.items }
@@ -71,7 +72,7 @@ impl Pool {
         self.nested + place_in(tag, others)
     }
 
-    /// How many of the zones from the first on are nested once this one stands behind them all.
+    /// Returns how many of the zones from the first on are nested once this zone follows all of them.
     pub(crate) fn nested_with(&self, next: &HubZone) -> usize
         requires { self.now.nested ≤ length self.now.zones.items }
         ensures { result ≡ nested_with self.now.nested self.now.zones.items next.now }

@@ -1,4 +1,4 @@
-//! What all lanes share, without the history of its holds.
+//! What all drivers share, without the history of its holds.
 
 ghost use Rattle.std.specs.Prelude.{◌≡◌, IfOk, slice_index};
 ghost use Rattle.bounce_hub.specs.Opening.{opening};
@@ -11,10 +11,10 @@ use frame_bank::FrameBank;
 use std::alloc::{AllocError, Global};
 use wait_list::ReadyList;
 
-/// The free frames, the zones in the order of their making, how many of them from the first on are
-/// nested, the callback list, how many entries of the history are still to come for what was begun,
-/// and the two constants. Zones are nested where each lies no higher than those before it, and is
-/// aligned no less.
+/// The free frames, the zones in the order in which they were made, the callback list, and the two constants.
+///
+/// `nested` is how many zones from the first on are nested: each lies no higher than those before it, and is
+/// aligned no less. `owed` is how many entries of the history are still to come for what was begun.
 #[derive(Drop)]
 pub struct Pool {
     pub bank: FrameBank,
@@ -27,7 +27,7 @@ pub struct Pool {
 }
 
 impl Pool {
-    /// The frames of a bank, and no zone.
+    /// Makes a pool of the frames of a bank, without zones.
     pub fn new(alloc: Global, bank: FrameBank, max_bpages: u32, maxmem: u64) -> Pool
         ensures bank { result.bank ≡ bank }
         ensures maxmem { result.maxmem ≡ maxmem }
@@ -45,7 +45,12 @@ impl Pool {
         }
     }
 
-    /// The counts of the zones, in the order of their making, where so many syncs copied in each.
+    /// Returns the counts of the zones, in the order in which they were made. `bounced` has, zone by zone,
+    /// how many syncs copied so far; a zone past its end had none.
+    ///
+    /// # Errors
+    ///
+    /// `AllocError` if memory runs out.
     pub fn counts(&self, alloc: Global, bounced: &[u64]) -> Result<ZoneList, AllocError>
         ensures { IfOk result (λ l. HaveCounts self.now.zones.items bounced.now l) }
     {
@@ -58,7 +63,7 @@ impl Pool {
     }
 }
 
-/// The number at a place of a list, and 0 past its end.
+/// Returns the number at a place of a list, or 0 past its end.
 fn number_at(numbers: &[u64], place: usize) -> u64
     ensures { result ≡ slice_index numbers.now place }
 {

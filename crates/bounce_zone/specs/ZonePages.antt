@@ -3,7 +3,7 @@ use Rattle.std.specs.Prelude.{◌≡◌, ℕ, ◌+◌, ◌-◌, ◌^◌, ◌<◌
 use Rattle.busdma_machine.specs.declared.bounce.zone.ZoneCounts.{ZoneCounts}
 use Rattle.busdma_machine.specs.Machine.Page.{FrameBytes}
 
--- the pages in list order, how many of them are reserved, and how many pages are with maps
+-- a zone: the pages of its list in order, how many of them are reserved, and how many pages are with maps
 pub record ZonePages : Type 0 where
   pub lowaddr : ℕ
   pub alignment : ℕ
@@ -11,33 +11,33 @@ pub record ZonePages : Type 0 where
   pub reserved : ℕ
   pub active : ℕ
 
--- a zone of this lowaddr and alignment with no page
+-- a zone with this lowaddr and alignment and without pages
 abbrev pub no_pages : ℕ → ℕ → ZonePages
 no_pages lowaddr alignment =
     record { lowaddr = lowaddr; alignment = alignment; pages = []; reserved = 0; active = 0 }
 
--- the zone with so many more pages reserved
+-- the zone with `count` more pages reserved
 abbrev pub reserving : ℕ → ZonePages → ZonePages
 reserving count z = record z { reserved = z.reserved + count }
 
--- the zone without so many reserved pages from the head of its list, which are with maps
+-- the zone after `count` reserved pages from the head of its list went to maps
 abbrev pub handing_out : ℕ → ZonePages → ZonePages
 handing_out count z =
     record z { pages = drop count z.pages; reserved = z.reserved - count; active = z.active + count }
 
--- the zone with a page back at the head of its list
+-- the zone after a page came back from a map to the head of its list
 abbrev pub taking_back : FrameBytes → ZonePages → ZonePages
 taking_back page z = record z { pages = page ∷ z.pages; active = z.active - 1 }
 
--- the pages that are reserved for nobody
+-- the number of pages in a zone's list that are not reserved
 abbrev pub free_pages : ZonePages → ℕ
 free_pages z = length z.pages - z.reserved
 
--- all its pages
+-- the number of a zone's pages, in its list and with maps
 abbrev pub total_pages : ZonePages → ℕ
 total_pages z = length z.pages + z.active
 
--- the counts of a zone, where so far so many syncs copied, and so many loads waited and then had all their pages
+-- the counts of a zone, given how many syncs copied so far and how many loads waited and then got all their pages
 abbrev pub zone_counts : ZonePages → ℕ → ℕ → ZoneCounts
 zone_counts z bounced deferred = record {
   total = total_pages z;
@@ -50,8 +50,8 @@ zone_counts z bounced deferred = record {
   alignment = z.alignment;
 }
 
--- what is true of each zone: its list has the free and the reserved pages, and has room for those with maps, and all
--- its pages are fewer than 2^32
+-- what is true of each zone: its list has the free and the reserved pages and has room for the pages with maps, and the
+-- zone has fewer than 2^32 pages
 pub record IsCounted (pages : List FrameBytes) (free reserved active capacity : ℕ) : Type 0 where
   pub listed : free + reserved ≡ length pages
   pub roomy : free + reserved + active ≤ capacity

@@ -1,4 +1,4 @@
-//! Bounce zones.
+//! One zone of bounce pages, and how many of its pages are free, reserved and in use.
 #![tactic(auto)]
 
 mod zone;

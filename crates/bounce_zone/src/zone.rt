@@ -13,9 +13,11 @@ use std::alloc::{AllocError, Global};
 use std::collections::VecDeque;
 use std::marker::Model;
 
-/// Pages for the maps of tags that ask for no more than its alignment and reach no lower than its
-/// lowaddr. The list has the free and the reserved pages; a reservation is a number, and the page
-/// is picked at use.
+/// The bounce pages for tags whose alignment is at most the zone's and whose lowaddr is at or above the
+/// zone's.
+///
+/// The list has the free and the reserved pages. A reservation is only a number; which page it gets is
+/// decided when the page is handed out.
 #[derive(Drop)]
 pub struct Zone {
     lowaddr: Pa,
@@ -44,7 +46,7 @@ impl Model for Zone {
 }
 
 impl Zone {
-    /// A zone with no page.
+    /// Makes a zone without pages. The alignment is in bytes.
     pub fn new(alloc: Global, lowaddr: Pa, alignment: u64) -> Zone
         ensures { result ≡ no_pages lowaddr.0 alignment }
     {
@@ -58,8 +60,14 @@ impl Zone {
         }
     }
 
-    /// Moves so many of the bank's lowest frames to the tail of the list, as far as they lie at or
-    /// below the zone's lowaddr, and answers how many.
+    /// Moves up to `wanted` of the bank's lowest frames to the tail of the list, and returns how many were
+    /// moved. Only frames that lie at or below the zone's lowaddr are moved.
+    ///
+    /// After `alloc_bounce_pages` of `sys/x86/x86/busdma_bounce.c`.
+    ///
+    /// # Errors
+    ///
+    /// `AllocError` if memory runs out. The zone and the bank are then unchanged.
     pub fn grow(
         &mut self,
         alloc: Global,
@@ -83,7 +91,10 @@ impl Zone {
         Ok(added)
     }
 
-    /// Reserves so many of the free pages, or all where fewer are free, and answers how many.
+    /// Reserves `wanted` of the free pages, or all of them if fewer are free, and returns how many were
+    /// reserved.
+    ///
+    /// After `reserve_bounce_pages` of `sys/x86/x86/busdma_bounce.c`.
     pub fn reserve(&mut self, wanted: u32) -> u32
         ensures got { result ≡ min (free_pages self.old) wanted }
         ensures zone { self.new ≡ reserving result self.old }
@@ -94,7 +105,8 @@ impl Zone {
         got
     }
 
-    /// Hands out so many reserved pages from the head of the list, in order.
+    /// Hands out `count` reserved pages from the head of the list, in order, and adds them to the tail of
+    /// `into`.
     pub fn take(&mut self, count: u32, into: &mut PageList)
         requires reserved { count ≤ self.old.reserved }
         requires room { length into.old.items + count ≤ into.old.room }
@@ -107,7 +119,9 @@ impl Zone {
         self.active += count;
     }
 
-    /// Takes a page back, to the head of the list.
+    /// Takes a page back from a map and puts it at the head of the list.
+    ///
+    /// After `free_bounce_page` of `sys/x86/x86/busdma_bounce.c`.
     pub fn put_back(&mut self, page: Page)
         requires { 1 ≤ self.old.active }
         ensures { self.new ≡ taking_back page self.old }
@@ -117,36 +131,37 @@ impl Zone {
         self.active -= 1;
     }
 
-    /// The physical address that it was made with: the pages that `grow` adds end at or below it.
+    /// Returns the physical address that the zone was made with: every page that `grow` adds ends at or below
+    /// it.
     pub fn lowaddr(&self) -> Pa
         ensures { result.0 ≡ self.now.lowaddr }
     {
         self.lowaddr
     }
 
-    /// The alignment, in bytes, that it was made with.
+    /// Returns the alignment, in bytes, that the zone was made with.
     pub fn alignment(&self) -> u64
         ensures { result ≡ self.now.alignment }
     {
         self.alignment
     }
 
-    /// The number of its pages, in the list and with maps.
+    /// Returns the number of the zone's pages, in its list and with maps.
     pub fn total(&self) -> u32
         ensures { result ≡ total_pages self.now }
     {
         self.free + self.reserved + self.active
     }
 
-    /// The number of pages in the list that are reserved for nobody.
+    /// Returns the number of pages in the list that are not reserved.
     pub fn free(&self) -> u32
         ensures { result ≡ free_pages self.now }
     {
         self.free
     }
 
-    /// The counts of the zone, where so far so many syncs copied, and so many loads waited and then
-    /// had all their pages.
+    /// Returns the counts of the zone. `bounced` is the number of syncs that copied so far, and `deferred`
+    /// the number of loads that waited and then got all their pages.
     pub fn counts(&self, bounced: u64, deferred: u64) -> ZoneCounts
         ensures counts { result ≡ zone_counts self.now bounced deferred }
         ensures sum { result.free + result.reserved + result.active ≡ result.total }
@@ -164,7 +179,7 @@ impl Zone {
     }
 }
 
-/// Moves pages to the tail of a queue, in order.
+/// Moves pages to the tail of a queue, in order. The queue has room for them.
 fn append(queue: &mut VecDeque<Page>, pages: PageList)
     requires { length queue.old.items + length pages.items ≤ deque_capacity queue.old }
     ensures queue { queue.new.items ≡ queue.old.items ++ pages.items }

@@ -20,7 +20,7 @@ use Rattle.busdma_rules.proofs.Segments.Places.{run_length}
 use Rattle.device_model.specs.Access.{IsThere}
 use Rattle.device_model.specs.Walking.{BeginsLow}
 
--- ---- a run, and what is left behind it
+-- ---- a run, and what is left after it
 pub split_run : (a n left : ℕ) (rest : List ℕ) → n ≤ left →
     take left (run_of a n ++ rest) ≡ run_of a n ++ take (left - n) rest
 split_run a n left rest h =
@@ -101,7 +101,7 @@ module _ (m : Memory) (pages : List FrameBytes) (apart : AreApart m (frames_of p
       ∙ page_written page a bytes w whole (frame_at k (a / 4096) h e) fits
       ∙ ap (put (run_of a (length bytes)) bytes) (page_shown pages k (wire m) apart.differ h)
 
--- ---- what stays where a memory has the same pages
+-- ---- what stays the same if a memory has the same pages
 pub there_now : (m n : Memory) (fs now : List ℕ) (a : ℕ) → SamePages m n → now ≡ fs → IsThere m fs a → IsThere n now a
 there_now m n fs now a s e t = record {
   numbered = t.numbered;
@@ -118,7 +118,7 @@ slice_size n done k bytes e h = ap (λ j. length (take j (drop done bytes))) e
 pub rest_length : (a n : ℕ) (xs rest : List ℕ) → xs ≡ run_of a n ++ rest → length xs ≡ n + length rest
 rest_length a n xs rest e = ap length e ∙ length-append (run_of a n) rest ∙ ap (λ k. k + length rest) (run_length a n)
 
--- the frame of another page is looked for in those behind it
+-- the frame of another page is searched for in the pages after it
 pub any_behind : (ps : List FrameBytes) (k f : ℕ) (d : FrameBytes) → (get_or ps k d).frame ≢ f →
     list_any (λ g. f == g) (drop k (frames_of ps)) ≡ true → list_any (λ g. f == g) (drop (k + 1) (frames_of ps)) ≡ true
 any_behind ps k f d differ h = elim (cases_lt k (length ps)) [

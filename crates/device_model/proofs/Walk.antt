@@ -13,11 +13,11 @@ use Rattle.busdma_rules.specs.Segments.Segmentation.{segment_bytes}
 use Rattle.busdma_rules.proofs.Segments.Places.{run_length}
 use Rattle.device_model.specs.Walking.{BeginsLow, rest_from}
 
--- what stands at a place that a list of segments does not have
+-- the segment that is read at a place outside the list
 abbrev pub no_segment : Segment
 no_segment = record { addr = record { 0 = 0 }; len = 0 }
 
--- the bytes of a segment, and of those behind it
+-- the bytes of a segment, and of the segments after it
 bytes_more : (segments : List Segment) (i : ℕ) → i < length segments
     → segment_bytes (drop i segments) ≡ run_of (get_or segments i no_segment).addr.0 (get_or segments i no_segment).len
     ++ segment_bytes (drop (i + 1) segments)
@@ -29,7 +29,7 @@ nothing_dropped : (k : ℕ) (xs : List ℕ) → xs ≡ [] → length (drop k xs)
 nothing_dropped zero xs e = ap length e
 nothing_dropped (suc k) xs e = ap (λ ys. length (drop (suc k) ys)) e
 
--- behind a segment
+-- after a segment
 pub past_segment : (segments : List Segment) (i skip : ℕ) → i < length segments →
     (get_or segments i no_segment).len ≤ skip
     → rest_from segments (i + 1) (skip - (get_or segments i no_segment).len) ≡ rest_from segments i skip
@@ -42,7 +42,7 @@ past_segment segments i skip h k =
     (drop_all skip run (omega (arith, count)))
     ∙ ap (λ n. drop (skip - n) (segment_bytes (drop (i + 1) segments))) count)
 
--- where a byte is left, so is its segment
+-- a byte that is left has a segment
 pub some_segment : (segments : List Segment) (i skip : ℕ) →
     0 < length (rest_from segments i skip) → i < length segments
 some_segment segments i skip h = elim (cases_lt i (length segments)) [
@@ -65,7 +65,7 @@ within_segment segments i skip h k =
     ap (drop skip) (bytes_more segments i h) ∙ drop-append-le skip run (segment_bytes (drop (i + 1) segments)) fits
     ∙ ap (λ xs. xs ++ segment_bytes (drop (i + 1) segments)) (drop_run skip s.addr.0 s.len)
 
--- a run of a segment's bytes, and what is behind it
+-- a run of a segment's bytes, and what is after it
 pub next_run : (segments : List Segment) (i skip n : ℕ) → i < length segments →
     skip + n ≤ (get_or segments i no_segment).len
     → rest_from segments i skip ≡ run_of ((get_or segments i no_segment).addr.0 + skip) n

@@ -1,4 +1,4 @@
-//! The way through the segments of a load.
+//! A position that moves through the bytes of a load's segments.
 
 ghost use Rattle.std.specs.Prelude.{◌≡◌, ◌<◌, ◌≤◌, ◌++◌, drop, length};
 ghost use Rattle.busdma_machine.specs.Runs.{IsExtent, run_of};
@@ -7,7 +7,7 @@ ghost use Rattle.device_model.specs.Walking.{BeginsLow, rest_of};
 
 use busdma_machine::{Extent, Pa, Segment};
 
-/// A place among the bytes of segments: so many bytes behind the begin of one of them.
+/// A position among the bytes of segments: a number of bytes after the start of one of them.
 #[derive(Drop)]
 pub(crate) struct Cursor<'a> {
     segments: &'a [Segment],
@@ -16,7 +16,7 @@ pub(crate) struct Cursor<'a> {
 }
 
 impl<'a> Cursor<'a> {
-    /// The place of the byte `off`, counted from the begin of the first segment.
+    /// Returns the position of the byte `off`, counted from the start of the first segment.
     pub(crate) fn new(segments: &'a [Segment], off: u64) -> Cursor<'a>
         ensures { rest_of result ≡ drop off (segment_bytes segments.now) }
     {
@@ -27,8 +27,8 @@ impl<'a> Cursor<'a> {
         }
     }
 
-    /// The next bytes, at most so many, as far as they lie in one segment and in one frame. The
-    /// place moves behind them.
+    /// Returns the extent of the next bytes, at most `most`, that lie in one segment and in one frame, and
+    /// moves the position past them.
     pub(crate) fn next(&mut self, most: u64) -> Extent
         requires some { 0 < most }
         requires left { 0 < length (rest_of self.old) }

@@ -1,4 +1,4 @@
-//! Which page has a frame.
+//! The search for the page of a frame.
 
 ghost use Rattle.std.specs.Prelude.{◌≡◌, ◌<◌, ◌==◌, true, length, slice_index};
 ghost use Rattle.std.specs.List.{list_any};
@@ -6,8 +6,8 @@ ghost use Rattle.busdma_machine.specs.Machine.PageList.{frames_of};
 
 use busdma_machine::Page;
 
-/// The place of the page of a frame. It is looked for at `near` first, where the pages of a load's
-/// next bytes mostly are.
+/// Returns the place of the page of a frame. The page at `near` is tried first, because the next bytes of a
+/// load are mostly there.
 pub(crate) fn page_of(pages: &[Page], frame: u64, near: usize) -> usize
     requires { list_any (λ f. frame == f) (frames_of pages.now) ≡ true }
     ensures inside { result < length pages.now }

@@ -15,10 +15,10 @@ use crate::lookup::page_of;
 use busdma_machine::{Pa, Page, Segment};
 use phys_memory::LanePages;
 
-/// Reads the bytes of a load from `off` on, as many as `out` has, at their bus addresses.
+/// Reads bytes of a load at their bus addresses, from the byte `off` on, until `out` is full.
 ///
-/// The segments are those of the load, in the order of its bytes. `pages` are the bounce pages that
-/// the load's map lends for the access, in any order.
+/// `segments` are those of the load, in the order of its bytes. `pages` are the bounce pages that the load's
+/// map lends for the access, in any order.
 pub fn bus_read(segments: &[Segment], off: u64, out: &mut [u8], memory: &LanePages, pages: &[Page])
     requires range { off + length out.old ≤ segments_bytes segments.now }
     requires there { AllByRecursion (IsThere memory.now.memory (frames_of pages.now))
@@ -39,7 +39,7 @@ pub fn bus_read(segments: &[Segment], off: u64, out: &mut [u8], memory: &LanePag
     }
 }
 
-/// Reads bytes that lie in one frame. Gives the place of the page that is likely the next.
+/// Reads bytes that lie in one frame, and returns the place of the page that is likely to be next.
 fn read_in_frame(at: Pa, out: &mut [u8], memory: &LanePages, pages: &[Page], near: usize) -> usize
     requires inside { at.0 % 4096 + length out.old ≤ 4096 }
     requires there { IsThere memory.now.memory (frames_of pages.now) at.0 }

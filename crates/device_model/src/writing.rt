@@ -15,11 +15,11 @@ use crate::lookup::page_of;
 use busdma_machine::{Pa, Page, Segment};
 use phys_memory::LanePages;
 
-/// Writes bytes at the bus addresses of a load's bytes, from its byte `off` on.
+/// Writes bytes at the bus addresses of a load, from its byte `off` on.
 ///
-/// The segments are those of the load, in the order of its bytes. `pages` are the bounce pages that
-/// the load's map lends for the access, in any order. A byte that has a place in a page is written
-/// there alone, and the driver's buffer stays as it is until the load is synced.
+/// `segments` are those of the load, in the order of its bytes. `pages` are the bounce pages that the load's
+/// map lends for the access, in any order. A bounced byte is written only in its page, and the driver's
+/// buffer stays as it is until the load is synced.
 pub fn bus_write(
     segments: &[Segment],
     off: u64,
@@ -50,7 +50,7 @@ pub fn bus_write(
     }
 }
 
-/// Writes bytes that lie in one frame. Gives the place of the page that is likely the next.
+/// Writes bytes that lie in one frame, and returns the place of the page that is likely to be next.
 fn write_in_frame(
     at: Pa,
     bytes: &[u8],

@@ -1,4 +1,4 @@
--- Bits of pages: more of them have those of a segment still.
+-- Bits of pages: with more bits set, those of a segment are still set.
 use Rattle.std.proofs.Common.{◌≡◌, ℕ, ◌-◌, ◌^◌, ◌<◌, ◌∙◌, max, bit_or, arith}
 use Rattle.std.proofs.lemmas.Nat.Bits.{bit_at-lt, bit_at_or, bit_at_ones}
 use Rattle.std.specs.Int.{bit_at}
@@ -28,6 +28,6 @@ HasPages-added a b s is = record {
       (bit_at-lt a (page_bit addr));
 }
 
--- all bits are those of any segment
+-- if all bits are set, those of any segment are
 pub every-page : (s : Segment) → HasPages (2 ^ 64 - 1) s
 every-page s = record { bits = λ addr low high. bit_at_ones 64 (page_bit addr) (omega arith) }

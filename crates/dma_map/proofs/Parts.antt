@@ -1,4 +1,4 @@
--- Where a range of bus addresses lies in segments that are cut in two, and why a part of them is passed.
+-- Where a range of bus addresses lies in segments that are cut in two, and why a part of them is skipped.
 use Rattle.std.proofs.Common.{◌≡◌, ℕ, zero, suc, ◌+◌, ◌-◌, ◌^◌, ◌<◌, ◌≤◌, ◌∙◌, Bool, true, false, ◌&&◌, nat_le, nat_lt, List, [], ◌∷◌, ◌++◌}
 use Rattle.std.proofs.Common.{Option, Some, None, refl, ap, sym, subst, arith, take, drop, min, take-append-drop, unwrap_or}
 use Rattle.std.proofs.Common.{if◌then◌else◌}
@@ -22,7 +22,7 @@ bytes-append xs ys = sum_by-append (λ (s : Segment). s.len) xs ys
 pub bytes-cut : (n : ℕ) (ss : List Segment) → byte_count (take n ss) + byte_count (drop n ss) ≡ byte_count ss
 bytes-cut n ss = sym (bytes-append (take n ss) (drop n ss)) ∙ ap byte_count (take-append-drop n ss)
 
--- where no segment holds the range, it has no place
+-- if no segment holds the range, it has no place
 unheld : (addr len : ℕ) (ss : List Segment) → All (λ s. holds addr len s ≡ false) ss → place_of addr len ss ≡ None
 unheld addr len [] off = refl
 unheld addr len (s ∷ ss) off =
@@ -52,7 +52,7 @@ begins-before addr len least end ss between h =
     unheld addr len ss (All-weaker (IsBetween least end) (λ s. holds addr len s ≡ false)
     (λ s is. not-held addr len s (λ low high. omega (arith, h, low, is.begins))) ss between)
 
--- a range that ends behind all segments
+-- a range that ends after all segments
 pub ends-behind : (addr len least end : ℕ) (ss : List Segment) → All (IsBetween least end) ss →
     end < min (addr + len) (2 ^ 64 - 1) → place_of addr len ss ≡ None
 ends-behind addr len least end ss between h =
@@ -66,7 +66,7 @@ in-no-page addr len pages ss has some f =
     unheld addr len ss (All-weaker (HasPages pages) (λ s. holds addr len s ≡ false)
     (λ s is. not-held addr len s (λ low high. f (is.bits addr low (omega (arith, some, high))))) ss has)
 
--- how far into a load a place lies that is found behind two lists of its bytes
+-- how far into a load a place is that was found after two lists of its bytes
 moved : (o : Option ℕ) (a b : ℕ) →
     option_map (λ at. a + at) (option_map (λ at. b + at) o) ≡ option_map (λ at. a + b + at) o
 moved None a b = refl
@@ -92,7 +92,7 @@ in-front addr len at (s ∷ ss) ys e = by (λ p q. in-front addr len p ss ys q) 
     by f true e = e
     by f false e = later f (place_of addr len ss) refl e
 
--- a range without a place in the first of two lists has that in the second, behind the bytes of the first
+-- if a range has no place in the first of two lists, its place is in the second, after the bytes of the first
 behind : (addr len : ℕ) (xs ys : List Segment) → place_of addr len xs ≡ None →
     place_of addr len (xs ++ ys) ≡ option_map (λ at. byte_count xs + at) (place_of addr len ys)
 behind addr len [] ys e = nothing (place_of addr len ys)
@@ -124,7 +124,7 @@ behind addr len (s ∷ ss) ys e = by (λ q. behind addr len ss ys q) (holds addr
     by f true e = absurd (cc)
     by f false e = later f (place_of addr len ss) refl e
 
--- where a load has its first place of a range behind some bytes, that place is in the next part, or behind that part
+-- if a load has its first place of a range after some bytes, that place is in the next part or after it
 pub found-in-part : (addr len before n at : ℕ) (all rest : List Segment) →
     place_of addr len all ≡ option_map (λ p. before + p) (place_of addr len rest) →
     place_of addr len (take n rest) ≡ Some at → place_of addr len all ≡ Some (before + at)
@@ -177,12 +177,12 @@ place-within addr len at (s ∷ ss) e = by (λ p q. place-within addr len p ss q
         omega (arith, high, is, bytes)
     by f false h e = later f (place_of addr len ss) refl e
 
--- the bytes of the next part, of a load whose bytes have a `u64`
+-- the bytes of the next part, of a load whose number of bytes fits in a `u64`
 pub part-bytes : (n before : ℕ) (all rest : List Segment) (p : Part) → byte_count all < 2 ^ 64 →
     before + byte_count rest ≡ byte_count all → IsPart (take n rest) p → p.bytes ≡ byte_count (take n rest)
 part-bytes n before all rest p short e is = is.bytes (omega (arith, short, e, bytes-cut n rest))
 
--- the bus address of a byte of the first of two lists, and of one behind it
+-- the bus address of a byte of the first of two lists, and of a byte after the first
 in-front-address : (off len : ℕ) (xs ys : List Segment) → off < byte_count xs →
     address_of off len (xs ++ ys) ≡ address_of off len xs
 in-front-address off len [] ys h = absurd (omega (arith, h))
@@ -233,7 +233,7 @@ pub address-behind-part : (off len n : ℕ) (ss : List Segment) → byte_count (
 address-behind-part off len n ss h =
     ap (address_of off len) (sym (take-append-drop n ss)) ∙ behind-address off len (take n ss) (drop n ss) h
 
--- what is behind a part ends low where all do
+-- if all segments end low, so do those after a part
 pub low-behind : (n : ℕ) (ss : List Segment) → AllByRecursion EndsLow ss → AllByRecursion EndsLow (drop n ss)
 low-behind zero ss h = h
 low-behind (suc n) [] h = h

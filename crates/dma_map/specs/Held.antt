@@ -1,10 +1,10 @@
--- How a map holds what contracts see of it.
+-- How a map stores what contracts see of it.
 use Rattle.dma_map.specs.declared.map.Held.{Held}
 use Rattle.dma_map.specs.declared.map.Held.TheVariants.{Idle, Waiting, Loaded, Lent, Returning}
 use Rattle.busdma_machine.specs.Machine.PageList.{frames_of}
 use Rattle.dma_map.specs.MapView.{Stage, idle, waiting, loaded, lent, returning}
 
--- what it holds, by what is stored
+-- what contracts see of what a map stores
 abbrev pub stage_of : {C : Type 0} → Held C → Stage C
 stage_of Idle = idle
 stage_of (Waiting at callback room) = waiting at callback room

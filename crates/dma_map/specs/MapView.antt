@@ -28,13 +28,13 @@ pub record MapView (C : Type 0) : Type 0 where
   pub tried : Bool
   pub stage : Stage C
 
--- where a map is left that gave these pages away to be released: there is something to come back, or there is not
+-- the stage of a map that gave these pages away to be released: returning, or idle if there are no pages
 abbrev pub left_by : {C : Type 0} → List FrameBytes → Stage C
 left_by [] = idle
 left_by (p ∷ ps) = returning
 
 module _ {C : Type 0} where
-  -- the state that a caller is told
+  -- the state of a map that holds this
   abbrev pub state_of : Stage C → MapState
   state_of idle = Idle
   state_of (waiting at callback room) = Waiting
@@ -42,7 +42,7 @@ module _ {C : Type 0} where
   state_of (lent bounced segments frames) = Loaded
   state_of returning = Returning
 
-  -- the load that waits
+  -- the load that waits, if one does
   abbrev pub waiting_load : Stage C → Option (ℕ × C × LoadRoom)
   waiting_load idle = None
   waiting_load (waiting at callback room) = Some (at, callback, room)
@@ -50,7 +50,7 @@ module _ {C : Type 0} where
   waiting_load (lent bounced segments frames) = None
   waiting_load returning = None
 
-  -- the bounced chunks of a load that has its segments
+  -- the bounced chunks of a map's load, or none if it has no load that ended
   abbrev pub chunks_of : Stage C → List Chunk
   chunks_of idle = []
   chunks_of (waiting at callback room) = []
@@ -58,7 +58,7 @@ module _ {C : Type 0} where
   chunks_of (lent bounced segments frames) = bounced
   chunks_of returning = []
 
-  -- its segments
+  -- the segments of a map's load, or none if it has no load that ended
   abbrev pub segments_of : Stage C → List Segment
   segments_of idle = []
   segments_of (waiting at callback room) = []
@@ -66,7 +66,7 @@ module _ {C : Type 0} where
   segments_of (lent bounced segments frames) = segments
   segments_of returning = []
 
-  -- its bounce pages, where the map has them
+  -- the bounce pages of a map's load, if the map has them
   abbrev pub pages_of : Stage C → Option RoomyPages
   pages_of idle = None
   pages_of (waiting at callback room) = None
@@ -74,7 +74,7 @@ module _ {C : Type 0} where
   pages_of (lent bounced segments frames) = None
   pages_of returning = None
 
-  -- the frames of its bounce pages, while these are lent out
+  -- the frames of a map's bounce pages, while these are lent out
   abbrev pub lent_frames : Stage C → Option (List ℕ)
   lent_frames idle = None
   lent_frames (waiting at callback room) = None
@@ -82,10 +82,10 @@ module _ {C : Type 0} where
   lent_frames (lent bounced segments frames) = Some frames
   lent_frames returning = None
 
-  -- the same load with these pages
+  -- a map's load with these pages
   abbrev pub with_pages : RoomyPages → Stage C → Stage C
   with_pages pages stage = loaded (chunks_of stage) (segments_of stage) pages
 
-  -- the same load while these pages are lent out
+  -- a map's load while these pages are lent out
   abbrev pub without_pages : List FrameBytes → Stage C → Stage C
   without_pages pages stage = lent (chunks_of stage) (segments_of stage) (frames_of pages)

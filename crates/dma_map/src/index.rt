@@ -1,4 +1,4 @@
-//! What a load keeps of many segments, so that a look for a range passes those that cannot have it.
+//! What a load keeps of many segments, so that a search for a range skips those that cannot have it.
 
 ghost use Rattle.std.specs.Prelude.{◌≡◌, ◌^◌, ◌<◌};
 ghost use Rattle.std.specs.List.{AllByRecursion};
@@ -10,10 +10,10 @@ ghost use Rattle.dma_map.specs.Parts.{IsIndexed, part_len};
 use crate::part::Part;
 use busdma_base::{Pa, Segment};
 
-/// How many parts the segments of a load are cut into.
+/// The number of parts that the segments of a load are cut into.
 pub const PARTS: usize = 16;
 
-/// What is known of all segments of a load, and of parts of them that follow one another.
+/// What is known of all segments of a load, and of each part of them, in order.
 #[derive(Clone, Copy)]
 pub struct Index {
     pub whole: Part,
@@ -21,7 +21,7 @@ pub struct Index {
 }
 
 impl Index {
-    /// What is known of these segments.
+    /// Returns what is known of these segments.
     pub fn of(segments: &[Segment]) -> Index
         ensures { IsIndexed segments.now result }
     {
@@ -37,8 +37,8 @@ impl Index {
         Index { whole, parts }
     }
 
-    /// The place in the load of the `len` bytes from the bus address `addr` on, in the first segment that has all of
-    /// them, or None where none has.
+    /// Returns the offset in the load, in bytes, of the `len` bytes from the bus address `addr` on, in the
+    /// first segment that has all of them, or `None` if no segment has all of them.
     pub fn find(&self, segments: &[Segment], addr: u64, len: u64) -> Option<u64>
         requires indexed { IsIndexed segments.now self.now }
         requires short { byte_count segments.now < 2 ^ 64 }
@@ -63,8 +63,8 @@ impl Index {
         None
     }
 
-    /// The bus address of the byte `off` of the load, or None where the segment that has the byte does not have all of
-    /// the `len` bytes from there on, or where no segment has it.
+    /// Returns the bus address of the byte `off` of the load. Returns `None` if no segment has the byte, or
+    /// if its segment does not have all of the `len` bytes from there on.
     pub fn address_of(&self, segments: &[Segment], off: u64, len: u64) -> Option<Pa>
         requires indexed { IsIndexed segments.now self.now }
         requires short { byte_count segments.now < 2 ^ 64 }
@@ -86,7 +86,7 @@ impl Index {
     }
 }
 
-/// How many segments a part of these has, but for the last that has some.
+/// Returns how many segments a part of these has. The last part that has any can have fewer.
 fn part_len(segments: &[Segment]) -> usize
     ensures { result ≡ part_len segments.now }
 {

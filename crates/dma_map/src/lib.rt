@@ -1,4 +1,4 @@
-//! Maps of loads, and their callbacks: after bus_dma(9).
+//! Maps of loads, and the callbacks of loads, after `bus_dma(9)`.
 #![tactic(auto)]
 
 mod callback;

@@ -1,4 +1,4 @@
-//! A map: what a driver loads buffers with.
+//! A map: the object by which a driver loads buffers.
 
 ghost use Rattle.std.specs.Prelude.{◌≡◌, ◌^◌, ◌<◌, true, false, Some, None};
 ghost use Rattle.std.specs.List.{AllByRecursion};
@@ -19,15 +19,15 @@ use std::marker::Model;
 use std::mem;
 use std::snapshot::Snapshot;
 
-/// What a load left in its map beside its pages.
+/// What a load left in its map apart from its pages.
 #[derive(Drop)]
 struct Load {
     bounced: ChunkList,
     segments: LoadSegments,
 }
 
-/// What a map holds in each of its states. While its pages are lent out, the map remembers them for
-/// contracts alone.
+/// What a map holds in each of its states. While its pages are lent out, the map remembers them only for
+/// contracts.
 #[derive(Drop)]
 enum Held<C> {
     Idle,
@@ -47,7 +47,7 @@ enum Held<C> {
     Returning,
 }
 
-/// A map of a tag, with what its load left there: after bus_dmamap_create(9). No call takes memory.
+/// A map of a tag, with what its load left there, after `bus_dmamap_create(9)`. No call takes memory.
 #[derive(Drop)]
 pub struct DmaMap<C: Callback> {
     id: MapId,
@@ -72,8 +72,7 @@ impl<C: Callback> Model for DmaMap<C> {
 }
 
 impl<C: Callback> DmaMap<C> {
-    /// An idle map. `zone` is where its bounce pages come from, and None where its tag never
-    /// bounces.
+    /// Makes an idle map. `zone` is the zone of its bounce pages, or `None` if its tag never bounces.
     pub fn new(id: MapId, zone: Option<ZoneId>) -> DmaMap<C>
         ensures { result ≡ record { id = id; zone = zone; tried = false; stage = idle } }
     {
@@ -85,21 +84,21 @@ impl<C: Callback> DmaMap<C> {
         }
     }
 
-    /// The map's name.
+    /// Returns the map's name.
     pub fn id(&self) -> MapId
         ensures { result ≡ self.now.id }
     {
         self.id
     }
 
-    /// The zone of the map's bounce pages.
+    /// Returns the zone of the map's bounce pages, or `None` if its tag never bounces.
     pub fn zone(&self) -> Option<ZoneId>
         ensures { result ≡ self.now.zone }
     {
         self.zone
     }
 
-    /// Where the map is. A map whose pages are lent out is Loaded.
+    /// Returns the state of the map. A map whose pages are lent out is `Loaded`.
     pub fn state(&self) -> MapState
         ensures { result ≡ state_of self.now.stage }
     {
@@ -111,14 +110,14 @@ impl<C: Callback> DmaMap<C> {
         }
     }
 
-    /// Whether a load of the map has called or stored a callback.
+    /// Returns whether a load of the map has called or stored a callback.
     pub fn tried(&self) -> bool
         ensures { result ≡ self.now.tried }
     {
         self.tried
     }
 
-    /// Notes a load that ended in EINVAL or ENOMEM.
+    /// Notes a load that ended in `EINVAL` or `ENOMEM`.
     pub fn note_tried(&mut self)
         requires { state_of self.old.stage ≡ Idle }
         ensures { self.new ≡ record self.old { tried = true } }
@@ -126,8 +125,8 @@ impl<C: Callback> DmaMap<C> {
         self.tried = true;
     }
 
-    /// Keeps the callback of a load that waits for bounce pages, with the place of the load in the
-    /// script and the room that its completion uses.
+    /// Keeps the callback of a load that waits for bounce pages, with the load's place in the script and the
+    /// room that its completion uses. The map is then `Waiting`.
     pub fn wait(&mut self, load_at: u32, callback: C, room: LoadRoom)
         requires { state_of self.old.stage ≡ Idle }
         ensures { self.new ≡ record self.old { tried = true; stage = waiting load_at callback room } }
@@ -140,7 +139,8 @@ impl<C: Callback> DmaMap<C> {
         };
     }
 
-    /// Takes the load that waits out of the map, with its callback.
+    /// Removes the load that waits, and returns its place in the script, its callback and its room. The map
+    /// is then `Idle`.
     pub fn take_waiting(&mut self) -> (u32, C, LoadRoom)
         requires { state_of self.old.stage ≡ Waiting }
         ensures taken { waiting_load self.old.stage ≡ Some result }
@@ -156,9 +156,8 @@ impl<C: Callback> DmaMap<C> {
         }
     }
 
-    /// Stores what a load ended with: its bounced chunks, its segments and its bounce pages, each in
-    /// the order of the load's bytes. After EFBIG there are no segments, and `unload` gives the
-    /// pages back.
+    /// Stores what a load ended with: its bounced chunks, its segments and its bounce pages, each in the
+    /// order of the load's bytes. After `EFBIG` there are no segments, and `unload` gives the pages back.
     pub fn finish(&mut self, bounced: ChunkList, segments: SegmentList, pages: PageList)
         requires { state_of self.old.stage ≡ Idle }
         ensures { self.new ≡ record self.old { tried = true; stage = loaded bounced segments pages } }
@@ -173,7 +172,7 @@ impl<C: Callback> DmaMap<C> {
         };
     }
 
-    /// The bounced chunks that `finish` stored; none where the map is not Loaded.
+    /// Returns the bounced chunks that `finish` stored, or an empty slice if the map is not `Loaded`.
     pub fn chunks(&self) -> &[Chunk]
         ensures { result.now ≡ chunks_of self.now.stage }
     {
@@ -183,7 +182,7 @@ impl<C: Callback> DmaMap<C> {
         }
     }
 
-    /// The segments that `finish` stored; none where the map is not Loaded.
+    /// Returns the segments that `finish` stored, or an empty slice if the map is not `Loaded`.
     pub fn segments(&self) -> &[Segment]
         ensures { result.now ≡ segments_of self.now.stage }
     {
@@ -193,9 +192,9 @@ impl<C: Callback> DmaMap<C> {
         }
     }
 
-    /// The place in the load of the `len` bytes from the bus address `addr` on, in the first of these
-    /// segments that has all of them, or None where none has. A load whose segments all lie elsewhere
-    /// is told at once.
+    /// Returns the offset in the load, in bytes, of the `len` bytes from the bus address `addr` on, in the
+    /// first segment that has all of them, or `None` if no segment has all of them. If the load has many
+    /// segments and all lie elsewhere, no segment is looked at.
     pub fn find(&self, addr: u64, len: u64) -> Option<u64>
         requires { byte_count (segments_of self.now.stage) < 2 ^ 64 }
         ensures { result ≡ place_of addr len (segments_of self.now.stage) }
@@ -206,9 +205,9 @@ impl<C: Callback> DmaMap<C> {
         }
     }
 
-    /// The bus address of the byte `off` of the load, or None where the one of these segments that has
-    /// the byte does not have all of the `len` bytes from there on, or where none has it. None of them
-    /// that has a byte ends above 2^64.
+    /// Returns the bus address of the byte `off` of the load. Returns `None` if no segment has the byte, or
+    /// if its segment does not have all of the `len` bytes from there on. No segment that has a byte ends
+    /// above 2^64.
     pub fn address_of(&self, off: u64, len: u64) -> Option<Pa>
         requires short { byte_count (segments_of self.now.stage) < 2 ^ 64 }
         requires low { AllByRecursion EndsLow (segments_of self.now.stage) }
@@ -222,7 +221,7 @@ impl<C: Callback> DmaMap<C> {
         }
     }
 
-    /// Lends the bounce pages out, to be given back by `restore_pages`.
+    /// Lends the bounce pages out, until `restore_pages` gives them back.
     pub fn lend_pages(&mut self) -> PageList
         requires loaded { state_of self.old.stage ≡ Loaded }
         requires unlent { lent_frames self.old.stage ≡ None }
@@ -241,7 +240,7 @@ impl<C: Callback> DmaMap<C> {
         }
     }
 
-    /// Takes the lent pages back: the same frames in the same order.
+    /// Takes the lent pages back: the same frames in the same order. Their bytes can have changed.
     pub fn restore_pages(&mut self, pages: PageList)
         requires { lent_frames self.old.stage ≡ Some (frames_of pages.items) }
         ensures { self.new ≡ record self.old { stage = with_pages pages self.old.stage } }
@@ -252,7 +251,8 @@ impl<C: Callback> DmaMap<C> {
         }
     }
 
-    /// Ends the load, and gives its bounce pages away to be released, in the order of `finish`.
+    /// Ends the load, and gives its bounce pages away to be released, in the order of `finish`. The map is
+    /// `Returning` until they are released, or `Idle` if there are none. After `bus_dmamap_unload(9)`.
     pub fn unload(&mut self) -> PageList
         requires loaded { state_of self.old.stage ≡ Loaded }
         requires unlent { lent_frames self.old.stage ≡ None }
@@ -270,7 +270,7 @@ impl<C: Callback> DmaMap<C> {
         }
     }
 
-    /// Notes that the last page was released.
+    /// Notes that the last page was released. The map is then `Idle`.
     pub fn returned(&mut self)
         requires { state_of self.old.stage ≡ Returning }
         ensures { self.new ≡ record self.old { stage = idle } }

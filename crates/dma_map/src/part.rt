@@ -1,4 +1,4 @@
-//! A part of the segments of a load, and what is known of it without a look at them.
+//! A part of the segments of a load, and what is known of it without a look at its segments.
 
 ghost use Rattle.std.specs.Prelude.{◌≡◌, List, false, None};
 ghost use Rattle.busdma_rules.specs.Rings.Ranges.{place_of};
@@ -6,8 +6,10 @@ ghost use Rattle.dma_map.specs.Pages.{HasPages, page_bit};
 
 use busdma_base::Segment;
 
-/// Of segments that follow one another in a load: how many bytes they have, between which two bus addresses they lie,
-/// and in which pages. A number above the greatest `u64` is kept as that. A page is kept as one bit of 64, by its number
+/// What is known of segments that follow one another in a load: how many bytes they have, between which two
+/// bus addresses they lie, and in which pages.
+///
+/// A number above the greatest `u64` is kept as the greatest. A page is kept as one bit of 64, by its number
 /// modulo 64.
 #[derive(Clone, Copy)]
 pub struct Part {
@@ -29,7 +31,7 @@ impl Part {
         pages: 0,
     };
 
-    /// What is known of these segments.
+    /// Returns what is known of these segments.
     pub fn of(segments: &[Segment]) -> Part
         ensures { IsPart segments.now result }
     {
@@ -43,7 +45,7 @@ impl Part {
         part
     }
 
-    /// Whether one segment may have the `len` bytes from the bus address `addr` on. Where it says no, none has.
+    /// Returns `false` only if none of the segments has the `len` bytes from the bus address `addr` on.
     pub fn may_have(self, addr: u64, len: u64) -> bool
         ensures { (segments : List Segment) → IsPart segments self → result ≡ false → place_of addr len segments ≡ None }
     {
@@ -54,7 +56,8 @@ impl Part {
     }
 }
 
-/// The bits of the pages in which a segment has bytes: all of them where it leaves its page.
+/// Returns the bits of the pages in which a segment has bytes, or all bits if the segment is in more than one
+/// page.
 fn pages_of(segment: &Segment) -> u64
     ensures { HasPages result segment.now }
 {
@@ -65,7 +68,7 @@ fn pages_of(segment: &Segment) -> u64
     }
 }
 
-/// The place of the bit for the page of an address.
+/// Returns the place of the bit for the page of an address.
 fn page_bit(addr: u64) -> u64
     ensures { result ≡ page_bit addr }
 {

@@ -1,16 +1,16 @@
-//! The room of a load that waits.
+//! The room of a load that waits for pages.
 
 use busdma_base::{ChunkRoom, Pa, RoomyList, SegmentRoom};
 
-/// The empty lists that a load fills where it is completed without memory.
+/// The empty lists that a waiting load fills when it is completed, so that its completion takes no memory.
 #[derive(Debug, Drop)]
 pub struct LoadRoom {
-    /// For the segments that the map keeps.
+    /// Room for the segments that the map keeps.
     pub list: SegmentRoom,
-    /// For their copy in the entry of the journal.
+    /// Room for the copy of the segments in the journal's entry.
     pub shown: SegmentRoom,
-    /// For the bounced chunks that the map keeps.
+    /// Room for the bounced chunks that the map keeps.
     pub bounced: ChunkRoom,
-    /// For the physical addresses of its pages, while the segments are built.
+    /// Room for the physical addresses of the load's pages, while the segments are built.
     pub addresses: RoomyList<Pa>,
 }

@@ -10,8 +10,8 @@ use crate::index::{Index, PARTS};
 use busdma_base::{Pa, Segment, SegmentList};
 use std::marker::Model;
 
-/// The segments of a load, in the order of its bytes. Beside them stands their index, but not where they are so few
-/// that a look at each is as fast.
+/// The segments of a load, in the order of its bytes, with an index of them. There is no index if the
+/// segments are so few that a search through all of them is as fast.
 #[derive(Drop)]
 pub struct LoadSegments {
     list: SegmentList,
@@ -32,7 +32,7 @@ impl Model for LoadSegments {
 }
 
 impl LoadSegments {
-    /// These segments.
+    /// Keeps these segments, and makes an index of them if they are many.
     pub fn new(list: SegmentList) -> LoadSegments
         ensures { result ≡ list }
     {
@@ -44,15 +44,15 @@ impl LoadSegments {
         LoadSegments { list, index }
     }
 
-    /// The segments.
+    /// Returns the segments, in the order of the load's bytes.
     pub fn as_slice(&self) -> &[Segment]
         ensures { result.now ≡ self.now }
     {
         self.list.as_slice()
     }
 
-    /// The place in the load of the `len` bytes from the bus address `addr` on, in the first segment that has all of
-    /// them, or None where none has.
+    /// Returns the offset in the load, in bytes, of the `len` bytes from the bus address `addr` on, in the
+    /// first segment that has all of them, or `None` if no segment has all of them.
     pub fn find(&self, addr: u64, len: u64) -> Option<u64>
         requires { byte_count self.now < 2 ^ 64 }
         ensures { result ≡ place_of addr len self.now }
@@ -63,8 +63,8 @@ impl LoadSegments {
         }
     }
 
-    /// The bus address of the byte `off` of the load, or None where the segment that has the byte does not have all of
-    /// the `len` bytes from there on, or where no segment has it.
+    /// Returns the bus address of the byte `off` of the load. Returns `None` if no segment has the byte, or
+    /// if its segment does not have all of the `len` bytes from there on.
     pub fn address_of(&self, off: u64, len: u64) -> Option<Pa>
         requires short { byte_count self.now < 2 ^ 64 }
         requires low { AllByRecursion EndsLow self.now }

@@ -1,14 +1,14 @@
 //! The states of a map.
 
-/// Where a map stands with its loads.
+/// What a map is doing with its loads.
 #[derive(Clone, Copy, Debug, PartialEq, Eq)]
 pub enum MapState {
-    /// It has no load.
+    /// The map has no load.
     Idle,
-    /// Its load waits for bounce pages, and it keeps the load's callback.
+    /// The map's load waits for bounce pages, and the map keeps the load's callback.
     Waiting,
-    /// It has what its load ended with, as `finish` stored it: the segments, or after EFBIG none.
+    /// The map has what its load ended with, as `finish` stored it: the segments, or none after `EFBIG`.
     Loaded,
-    /// It was unloaded, and bounce pages of its load are still to be released.
+    /// The map was unloaded, and bounce pages of its load are still to be released.
     Returning,
 }

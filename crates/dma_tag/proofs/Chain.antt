@@ -72,7 +72,7 @@ narrowest_one s = record {
 pub own_one : (s : TagLimits) → IsOwn s (rounded s)
 own_one s = record { maxsize = refl; nsegments = refl; maxsegsz = refl; flags = refl }
 
--- a child makes a longer chain
+-- a chain with one more child
 pub narrowest_child : (chain : List TagLimits) (t s : TagLimits) → IsNarrowest chain t →
     IsNarrowest (chain ++ s ∷ []) (inherit t (rounded s))
 narrowest_child chain t s h = record {
@@ -97,7 +97,7 @@ narrowest_child chain t s h = record {
 pub own_child : (t s : TagLimits) → IsOwn s (inherit t (rounded s))
 own_child t s = record { maxsize = refl; nsegments = refl; maxsegsz = refl; flags = refl }
 
--- what a making without parent made
+-- what was made without a parent
 pub made_first : (s t : TagLimits) → effective None s ≡ Some t → rounded s ≡ t
 made_first s t = go (is_accepted s)
   where
@@ -105,7 +105,7 @@ made_first s t = go (is_accepted s)
     go true e = cc
     go false e = cc
 
--- what a making below a parent made
+-- what was made below a parent
 pub made_child : (parent s t : TagLimits) → effective (Some parent) s ≡ Some t → inherit parent (rounded s) ≡ t
 made_child parent s t = go (is_accepted s)
   where
@@ -114,7 +114,7 @@ made_child parent s t = go (is_accepted s)
     go true e = cc
     go false e = cc
 
--- what a chain of accepted limits has come to
+-- the last tag of a chain of accepted limits
 pub record IsChainEnd (first : TagLimits) (rest : List TagLimits) (t : TagLimits) : Type 0 where
   pub narrowest : IsNarrowest (first ∷ rest) t
   pub own : IsOwn (last_of first rest) t
@@ -144,7 +144,7 @@ chain_push first rest t s child h made accepted =
       accepted = All-push IsAccepted (first ∷ rest) s h.accepted accepted;
     })
 
--- one more tag is made below the last of the chain so far
+-- one more tag is made below the last tag of the chain so far
 pub chain_more : (first : TagLimits) (rest : List TagLimits) (i : ℕ) (d t child : TagLimits) → i < length rest →
     IsChainEnd first (take i rest) t → effective (Some t) (get_or rest i d) ≡ Some child →
     IsAccepted (get_or rest i d) → IsChainEnd first (take (i + 1) rest) child

@@ -13,19 +13,19 @@ pub record IsLeast (xs : List ℕ) (x : ℕ) : Type 0 where
   pub within : Contains xs x
   pub bound : All (λ y. x ≤ y) xs
 
--- The boundary is the least that is not 0, or 0 where each is.
+-- The boundary is the least of those that are not 0, or 0 if all are 0.
 pub record IsLeastBoundary (xs : List ℕ) (x : ℕ) : Type 0 where
   pub within : x ≢ 0 → Contains xs x
   pub bound : All (λ y. y ≢ 0 → (x ≢ 0) × (x ≤ y)) xs
 
--- What a tag takes of these limits and of those of its parents.
+-- The tag's alignment, boundary, lowaddr and highaddr are each the strictest in the chain.
 pub record IsNarrowest (chain : List TagLimits) (t : TagLimits) : Type 0 where
   pub alignment : IsGreatest (map (λ s. s.alignment) chain) t.alignment
   pub boundary : IsLeastBoundary (map (λ s. s.boundary) chain) t.boundary
   pub lowaddr : IsLeast (map (λ s. frame_end s.lowaddr.0) chain) t.lowaddr.0
   pub highaddr : IsGreatest (map (λ s. frame_end s.highaddr.0) chain) t.highaddr.0
 
--- What a tag takes of its own limits alone.
+-- The limits that a tag takes only from its own arguments: sizes, number of segments, and flags.
 pub record IsOwn (s t : TagLimits) : Type 0 where
   pub maxsize : t.maxsize ≡ s.maxsize
   pub nsegments : t.nsegments ≡ s.nsegments

@@ -1,11 +1,11 @@
-//! The one refusal of `Tag::create` and `Tag::create_chain`.
+//! The error of `Tag::create` and `Tag::create_chain`.
 
 ghost use Rattle.std.specs.Prelude.{Some, codes};
 
 use std::error::Error;
 use std::fmt;
 
-/// The arguments of a tag are refused: EINVAL of bus_dma_tag_create(9).
+/// The arguments of a tag are refused: `EINVAL` of `bus_dma_tag_create(9)`.
 #[derive(Clone, Copy, Debug, PartialEq, Eq)]
 pub struct Einval;
 

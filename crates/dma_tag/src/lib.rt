@@ -1,4 +1,4 @@
-//! Tags of bus_dma(9), and the sets of flags that its calls take.
+//! Tags of `bus_dma(9)`, and the sets of flags that its calls take.
 #![tactic(auto)]
 
 mod einval;

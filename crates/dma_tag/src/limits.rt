@@ -9,7 +9,7 @@ use busdma_machine::{PAGE_SIZE, Pa, TagLimits};
 /// The smallest boundary that is not 0, in bytes.
 const LEAST_BOUNDARY: u64 = 16;
 
-/// The limits of a tag without parent, or none where they are refused.
+/// Returns the rounded limits of a tag without parent, or `None` if they are refused.
 pub(crate) fn normal(spec: TagLimits) -> Option<TagLimits>
     ensures normal { result ≡ tag.normal spec }
     ensures effective { IfSome result IsEffective }
@@ -26,7 +26,7 @@ pub(crate) fn normal(spec: TagLimits) -> Option<TagLimits>
     })
 }
 
-/// The limits of a child, narrowed by those of its parent.
+/// Returns the limits of a child, narrowed by those of its parent.
 pub(crate) fn inherit(parent: &TagLimits, child: &TagLimits) -> TagLimits
     requires parent { IsEffective parent.now }
     requires child { IsEffective child.now }

@@ -5,13 +5,13 @@ ghost use Rattle.busdma_rules.specs.Tags.LoadFlags.{load_table};
 
 use bitflags::{Flag, Flags, bitflag_items};
 
-/// A set of the flags of bus_dmamap_load(9). The bits are this project's own.
+/// A set of the flags of `bus_dmamap_load(9)`. The bits are this project's own.
 #[derive(Clone, Copy, Debug, PartialEq, Eq)]
 pub struct LoadFlags(pub u32);
 
 bitflag_items! {
     impl LoadFlags: u32 {
-        /// The load is refused where it would have to wait for pages.
+        /// The load is refused with `ENOMEM` if it would have to wait for bounce pages.
         const NOWAIT = 1;
     }
 }

@@ -5,17 +5,17 @@ ghost use Rattle.busdma_rules.specs.Tags.MemFlags.{mem_table};
 
 use bitflags::{Flag, Flags, bitflag_items};
 
-/// A set of the flags of bus_dmamem_alloc(9). The bits are this project's own.
+/// A set of the flags of `bus_dmamem_alloc(9)`. The bits are this project's own.
 #[derive(Clone, Copy, Debug, PartialEq, Eq)]
 pub struct MemFlags(pub u32);
 
 bitflag_items! {
     impl MemFlags: u32 {
-        /// The memory is not waited for, which changes nothing.
+        /// The allocation does not wait for memory. No allocation ever waits, so the flag changes nothing.
         const NOWAIT = 1;
-        /// The memory begins with zeros.
+        /// The memory is filled with zeros.
         const ZERO = 2;
-        /// The driver and the device see the same bytes with no sync.
+        /// The driver and the device see the same bytes without a sync.
         const COHERENT = 4;
     }
 }

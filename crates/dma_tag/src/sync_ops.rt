@@ -5,7 +5,7 @@ ghost use Rattle.busdma_rules.specs.Tags.SyncOps.{sync_table, has_pre, has_post,
 
 use bitflags::{Flag, Flags, bitflag_items};
 
-/// A set of the operations of bus_dmamap_sync(9). The bits are this project's own.
+/// A set of the operations of `bus_dmamap_sync(9)`. The bits are this project's own.
 #[derive(Clone, Copy, Debug, PartialEq, Eq)]
 pub struct SyncOps(pub u32);
 
@@ -45,21 +45,21 @@ impl Flags for SyncOps {
 }
 
 impl SyncOps {
-    /// Whether the set has a PRE operation.
+    /// Returns whether the set has a PRE operation.
     pub fn has_pre(self) -> bool
         ensures { result ≡ has_pre self.0 }
     {
         self.contains(SyncOps::PREREAD) || self.contains(SyncOps::PREWRITE)
     }
 
-    /// Whether the set has a POST operation.
+    /// Returns whether the set has a POST operation.
     pub fn has_post(self) -> bool
         ensures { result ≡ has_post self.0 }
     {
         self.contains(SyncOps::POSTREAD) || self.contains(SyncOps::POSTWRITE)
     }
 
-    /// Whether the set has a PRE and a POST operation, which no sync may have.
+    /// Returns whether the set has both a PRE and a POST operation, which no sync is allowed to have.
     pub fn is_mixed(self) -> bool
         ensures { result ≡ is_mixed self.0 }
     {

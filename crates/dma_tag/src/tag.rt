@@ -1,4 +1,4 @@
-//! Tags: what a device asks of the addresses that it is given.
+//! Tags: what a device requires of the addresses that it is given.
 
 ghost use Rattle.std.specs.Prelude.{◌≡◌, ◌↔◌, ◌∷◌, All, IsErr, IsOk, IsNone, IfOk, Some};
 ghost use Rattle.std.specs.Option.{option_copied};
@@ -10,8 +10,8 @@ use crate::limits::{inherit, normal};
 use busdma_machine::{PAGE_SIZE, Pa, TagLimits};
 use std::marker::Model;
 
-/// A tag of bus_dma(9), seen by contracts as its effective limits: its own, narrowed by those of
-/// its parents.
+/// A tag of `bus_dma(9)`. Contracts see it as its effective limits: its own, narrowed by those of its
+/// parents.
 #[derive(Debug, Drop)]
 pub struct Tag {
     limits: TagLimits,
@@ -29,12 +29,15 @@ impl Model for Tag {
 }
 
 impl Tag {
-    /// Makes a tag of these limits, below a parent where there is one, after
-    /// bus_dma_tag_create(9). It takes no memory, and what becomes of the parent does not bear on
-    /// it.
+    /// Makes a tag of these limits, below `parent` if there is one.
     ///
-    /// It is refused where the alignment is no power of two from 1 to 4096, where the boundary is
-    /// neither 0 nor a power of two of at least 16, and where `maxsegsz` is 0.
+    /// It takes no memory, and the tag does not depend on its parent afterwards. After
+    /// `bus_dma_tag_create(9)`.
+    ///
+    /// # Errors
+    ///
+    /// `Einval` if the alignment is not a power of two from 1 to 4096, if the boundary is neither 0 nor a
+    /// power of two of at least 16, or if `maxsegsz` is 0.
     pub fn create(parent: Option<&Tag>, spec: &TagLimits) -> Result<Tag, Einval>
         ensures made { IfOk result (λ t. effective (option_copied parent.entry) spec.now ≡ Some t) }
         ensures effective { IfOk result IsEffective }
@@ -49,8 +52,12 @@ impl Tag {
         Ok(Tag { limits })
     }
 
-    /// Makes the last tag of a chain, in which each is the child of the one before it. It is
-    /// refused where one of them is.
+    /// Makes the last tag of a chain in which each tag is the child of the one before it. This project's own
+    /// rule.
+    ///
+    /// # Errors
+    ///
+    /// `Einval` if the limits of one of the tags are refused as in `create`.
     pub fn create_chain(first: &TagLimits, rest: &[TagLimits]) -> Result<Tag, Einval>
         ensures narrowest { IfOk result (IsNarrowest (first.now ∷ rest.now)) }
         ensures own { IfOk result (IsOwn (last_of first.now rest.now)) }
@@ -63,8 +70,7 @@ impl Tag {
         Ok(tag)
     }
 
-    /// The tag's effective limits, in which `lowaddr` and `highaddr` are each the last byte of a
-    /// frame.
+    /// Returns the tag's effective limits. Their `lowaddr` and `highaddr` are each the last byte of a frame.
     pub fn limits(&self) -> &TagLimits
         ensures limits { result.now ≡ self.now }
         ensures effective { IsEffective self.now }
@@ -72,15 +78,15 @@ impl Tag {
         &self.limits
     }
 
-    /// Whether the bus address lies in the window that the device cannot reach: above `lowaddr`, up
-    /// to `highaddr`.
+    /// Returns whether the address lies in the window that the device cannot reach: above `lowaddr`, and not
+    /// above `highaddr`.
     pub fn excluded(&self, pa: Pa) -> bool
         ensures { result ≡ excluded self.now pa.0 }
     {
         self.limits.lowaddr < pa && pa <= self.limits.highaddr
     }
 
-    /// Whether some address could need a bounce page, in a machine whose frames have numbers below
+    /// Returns whether some address could need a bounce page, on a machine whose frames have numbers below
     /// `maxmem`.
     pub fn could_bounce(&self, maxmem: u64) -> bool
         ensures { result ≡ could_bounce self.now maxmem }
@@ -88,7 +94,7 @@ impl Tag {
         self.limits.lowaddr.0 / PAGE_SIZE < maxmem || self.limits.alignment > 1
     }
 
-    /// Whether the address needs a bounce page, in a machine whose frames have numbers below
+    /// Returns whether the address needs a bounce page, on a machine whose frames have numbers below
     /// `maxmem`.
     pub fn needs_bounce(&self, maxmem: u64, pa: Pa) -> bool
         ensures { result ≡ needs_bounce self.now maxmem pa.0 }

@@ -5,13 +5,13 @@ ghost use Rattle.busdma_machine.specs.Tags.TagFlags.{tag_table};
 
 use bitflags::{Flag, Flags, bitflag_items};
 
-/// A set of the flags of bus_dma_tag_create(9). The bits are this project's own.
+/// A set of the flags of `bus_dma_tag_create(9)`. The bits are this project's own.
 #[derive(Clone, Copy, Debug, PartialEq, Eq)]
 pub struct TagFlags(pub u32);
 
 bitflag_items! {
     impl TagFlags: u32 {
-        /// Where the tag could bounce, its making brings its zone the whole pages of maxsize, less those that it has.
+        /// If the tag could bounce, its creation asks its zone to grow to `maxsize / 4096` pages.
         const ALLOCNOW = 1;
         /// A bounced byte keeps its offset in its page.
         const KEEP_PG_OFFSET = 2;

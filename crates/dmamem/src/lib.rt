@@ -1,4 +1,4 @@
-//! Memory that a driver and its device share: after bus_dmamem_alloc(9).
+//! Memory that a driver and its device share, after `bus_dmamem_alloc(9)`.
 #![tactic(auto)]
 
 mod memory;

@@ -1,4 +1,4 @@
--- A whole page is written over another.
+-- All bytes of a page are overwritten.
 use Rattle.std.proofs.Common.{◌≡◌, ℕ, ◌+◌, ◌++◌, List, length, ap, ◌∙◌, arith}
 use Rattle.std.proofs.lemmas.List.{append-nil, drop_all}
 use Rattle.busdma_machine.specs.Machine.Page.{overwritten}

@@ -1,4 +1,4 @@
--- Counts of a list, where what passes a test stands in front.
+-- Counts of a list in which the elements that pass a test come first.
 use Rattle.std.proofs.Common.{◌≡◌, ℕ, zero, suc, ◌+◌, ◌≤◌, Bool, true, false, cond, List, [], ◌∷◌, map, length, refl}
 use Rattle.std.proofs.Common.{ap, arith}
 use Rattle.std.specs.List.{count_by, AllWithin}

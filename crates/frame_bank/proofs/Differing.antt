@@ -5,7 +5,7 @@ use Rattle.std.proofs.lemmas.Bool.{and_parts, or_parts, eqb-false, not-true}
 use Rattle.std.proofs.lemmas.List.Elements.{All-nil, All-cons}
 use Rattle.std.proofs.lemmas.List.Kept.{AllPairs-cons}
 
--- no number stands twice
+-- no number occurs twice
 abbrev pub all_differ : List ℕ → Bool
 all_differ [] = true
 all_differ (x ∷ xs) = not (list_any (eqb x) xs) && all_differ xs

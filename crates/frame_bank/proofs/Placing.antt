@@ -14,7 +14,7 @@ use Rattle.frame_bank.specs.FrameBank.{Bank, free_frames, fresh_page, put_page, 
 use Rattle.frame_bank.proofs.Counted.{weight, count_by-cons, count_by-map, count_by-front}
 use Rattle.frame_bank.proofs.Rising.{AreRising, above_lower}
 
--- where the page goes first, and where it goes behind the first page
+-- the page goes first, or it goes after the first page
 put-first : (p q : FrameBytes) (qs : List FrameBytes) → p.frame < q.frame → put_page p (q ∷ qs) ≡ p ∷ q ∷ qs
 put-first p q qs l = rw (lt-ltb p.frame q.frame l) refl
 

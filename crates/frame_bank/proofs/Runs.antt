@@ -42,7 +42,7 @@ follow-short (suc n) a [] l = refl
 follow-short (suc n) a (g ∷ gs) l =
     and_right (eqb g a) (follow n (a + 4096) gs) (follow-short n (a + 4096) gs (omega arith))
 
--- rising frames follow one another where the last has the number that it then must have
+-- rising frames follow one another if the last has the number that it then must have
 pub follow-last : (n f a : ℕ) (ps : List FrameBytes) (d : FrameBytes) → a ≡ 4096 * f → AreRising ps → AreFrom f ps →
     n < length ps → follow (suc n) a (page_addresses ps) ≡ eqb (get_or ps n d).frame (f + n)
 follow-last n f a [] d e h from l = absurd (omega arith)
@@ -69,7 +69,7 @@ pub address_at : (ps : List FrameBytes) (at : ℕ) → at < length ps →
     get_or (page_addresses ps) at 0 ≡ 4096 * (get_or ps at no_page).frame
 address_at ps at l = get_or-map page_address ps at no_page 0 l
 
--- from a place on, count frames follow one another where the last of them has the number that it then must have
+-- from a place on, count frames follow one another if the last of them has the number that it then must have
 pub follow-at : (count at : ℕ) (ps : List FrameBytes) (p q : FrameBytes) → IsRising (page_addresses ps) →
     at < length ps → 0 < count → count ≤ length ps - at →
     p ≡ get_or ps at p → q ≡ get_or ps (at + count - 1) q →
@@ -106,7 +106,7 @@ begins_run-at len boundary limit at fs l =
     ∙ ap (λ gs. follow (frames_for len) a gs
     && (leb (a + 4096 * frames_for len) (limit + 1) && crosses_none len boundary a)) (sym e)
 
--- the same where the frames follow one another, by the first page and the last
+-- the test of a run of frames that follow one another, by its first page and its last
 pub begins_run-ends : (len boundary limit count at : ℕ) (ps : List FrameBytes) (p q : FrameBytes) →
     IsRising (page_addresses ps) → at < length ps → count ≡ frames_for len → 0 < count →
     follow count (get_or (page_addresses ps) at 0) (drop at (page_addresses ps)) ≡ true →
@@ -132,7 +132,7 @@ begins_run-ends len boundary limit count at ps p q rising inside is some follows
     ∙ ap (λ a. leb (a + 4096 * count) (limit + 1) && crosses_none len boundary a) a_is
     ∙ ap (λ v. v && crosses_none len boundary (page_address p)) end
 
--- the lowest run of what is left of a list, where it begins here and where it does not
+-- the lowest run of the rest of a list, if it begins at a place and if it does not
 pub lowest_run-here : (len boundary limit at : ℕ) (fs : List ℕ) → at < length fs →
     begins_run len boundary limit (drop at fs) ≡ true →
     lowest_run len boundary limit (drop at fs) ≡ Some (get_or fs at 0)

@@ -43,7 +43,7 @@ module _ {X : Type 0} where
       take n (drop at xs ++ take at xs) ≡ take n (drop at xs)
   turned_front xs at n l = take-append-le n (drop at xs) (take at xs) (omega (arith, length-drop at xs))
 
-  -- what a filter and its opposite leave where nothing passes, and of two lists
+  -- what a filter and its opposite keep if no element passes, and what they keep of two lists
   filter_none : (t : X → Bool) (xs : List X) → All (λ x. t x ≡ false) xs →
       (filter t xs ≡ []) × (filter (λ x. not (t x)) xs ≡ xs)
   filter_none t [] h = (refl, refl)
@@ -64,7 +64,7 @@ module _ {X : Type 0} where
         | false ↦ filter_append t xs ys
       ])
 
--- a filter of addresses is that of the pages
+-- a filter of the addresses of pages is the same filter of the pages
 pub filter-page_addresses : (t : ℕ → Bool) (ps : List FrameBytes) →
     filter t (page_addresses ps) ≡ page_addresses (filter (λ p. t (page_address p)) ps)
 filter-page_addresses t [] = refl
@@ -151,7 +151,7 @@ taken_at n at ps rising inside t =
       placed = behind.placed;
     }
 
--- the same from the test that the code makes
+-- the pages of a run that passes the test of the code
 pub begun_at : (len boundary limit at : ℕ) (ps : List FrameBytes) → IsRising (page_addresses ps) → at < length ps →
     begins_run len boundary limit (drop at (page_addresses ps)) ≡ true →
     TakenAt (get_or (page_addresses ps) at 0) (frames_for len) at ps
@@ -162,7 +162,7 @@ begun_at len boundary limit at ps rising inside t =
     (leb (a + 4096 * frames_for len) (limit + 1) && crosses_none len boundary a)
     (sym (begins_run-at len boundary limit at (page_addresses ps) (simp length-map inside)) ∙ t)).0
 
--- pages stay rising without a part
+-- pages still rise after a part of them is removed
 pub rising_without : (ps : List FrameBytes) (at j : ℕ) → at ≤ j → AreRising ps → AreRising (take at ps ++ drop j ps)
 rising_without ps zero j l h = rising_drop j ps h
 rising_without ps (suc at) zero l h = absurd (omega arith)

@@ -5,12 +5,12 @@ use Rattle.frame_bank.specs.declared.frame.State.{State}
 use Rattle.frame_bank.specs.declared.frame.State.TheVariants.{Fresh, Back}
 use Rattle.frame_bank.specs.FrameBank.{fresh_page}
 
--- the frame with the bytes of a new bank, or with those that it came back with
+-- the page of a free frame: with the bytes of a new bank, or with those that it came back with
 abbrev pub page_of : State → FrameBytes
 page_of (Fresh number) = fresh_page number
 page_of (Back page) = page
 
--- its number has 30 bits
+-- the number of a free frame is below 2^30
 abbrev pub IsNumbered : State → Type 0
 IsNumbered (Fresh number) = number < 2 ^ 30
 IsNumbered (Back page) = page.frame < 2 ^ 30

@@ -19,7 +19,7 @@ use std::alloc::{AllocError, Global};
 use std::collections::VecDeque;
 use std::marker::Model;
 
-/// The free frames, and room for those that were taken and may come back.
+/// The free frames in rising order, with room for every frame that was taken and may come back.
 #[derive(Drop)]
 pub struct FrameBank {
     free: VecDeque<Frame>,
@@ -40,8 +40,13 @@ impl Model for FrameBank {
 }
 
 impl FrameBank {
-    /// A bank of these frames, given by their numbers, in any order. Each byte of them is 0xA5. They take
-    /// memory when they first leave the bank.
+    /// Makes a bank of these frames, given by their numbers, in any order.
+    ///
+    /// Each byte of a frame is 0xA5. A frame takes memory for its bytes only when it first leaves the bank.
+    ///
+    /// # Errors
+    ///
+    /// `AllocError` if memory runs out.
     pub fn of_frames(alloc: Global, frames: &[u64]) -> Result<FrameBank, AllocError>
         requires differ { AllPairs (λ f g. f ≢ g) frames.now }
         requires numbered { All (λ f. f < 2 ^ 30) frames.now }
@@ -62,8 +67,11 @@ impl FrameBank {
         Ok(bank)
     }
 
-    /// Takes so many of the lowest frames out, in order. Where memory runs out, the bank stays as it
-    /// was.
+    /// Takes the `count` lowest frames out of the bank, and returns them as pages in rising order.
+    ///
+    /// # Errors
+    ///
+    /// `AllocError` if memory runs out. The bank is then unchanged.
     pub fn take_lowest(&mut self, alloc: Global, count: usize) -> Result<PageList, AllocError>
         requires { count ≤ length self.old.pages }
         ensures pages { IfOk result (λ l. l.items ≡ take count self.old.pages) }
@@ -75,10 +83,15 @@ impl FrameBank {
         Ok(pages)
     }
 
-    /// Takes out the lowest frames that follow one another, lie at or below an address, and whose
-    /// first `len` bytes cross no multiple of the boundary, where 0 is none: as many as have `len`
-    /// bytes, and one for no byte. None where there is no such run. Then, and where memory runs out,
-    /// the bank stays as it was.
+    /// Takes the lowest run of frames for `len` bytes out of the bank, and returns its pages in order.
+    ///
+    /// The frames follow one another and lie at or below `limit`, and their first `len` bytes cross no
+    /// multiple of `boundary`, which is 0 if there is no such limit. The run has as many frames as `len`
+    /// bytes need, and at least one. Returns `None` if there is no such run; the bank is then unchanged.
+    ///
+    /// # Errors
+    ///
+    /// `AllocError` if memory runs out. The bank is then unchanged.
     pub fn take_run(
         &mut self,
         alloc: Global,
@@ -119,7 +132,7 @@ impl FrameBank {
         Ok(Some(pages))
     }
 
-    /// The number of free frames at or below an address.
+    /// Returns the number of free frames that lie completely at or below a physical address.
     pub fn count_below(&self, limit: Pa) -> u32
         ensures count { result ≡ frames_below limit.0 (free_frames self.now) }
         ensures sound { IsBank self.now }
@@ -128,7 +141,7 @@ impl FrameBank {
             .partition_point(|page| run::lies_below(page, limit)) as u32
     }
 
-    /// Takes a frame back, with the bytes that it holds, to its place in the order of frames.
+    /// Takes a frame back, with the bytes that it holds, and puts it in its place in rising order.
     pub fn give(&mut self, page: Page)
         requires room { length self.old.pages < self.old.room }
         requires apart { count_by (λ p. p.frame == page.frame) self.old.pages ≡ 0 }
@@ -139,7 +152,7 @@ impl FrameBank {
         self.put(Frame::back(page));
     }
 
-    /// Puts a frame to its place in the order of frames.
+    /// Puts a frame in its place in rising order.
     fn put(&mut self, frame: Frame)
         requires room { length self.old.pages < self.old.room }
         requires apart { count_by (λ p. p.frame == frame.frame) self.old.pages ≡ 0 }
@@ -154,7 +167,7 @@ impl FrameBank {
     }
 }
 
-/// Pages of so many frames from a place on, in order.
+/// Returns `count` pages with the frames and bytes from a place in the queue on, in order.
 fn pages_at(
     free: &VecDeque<Frame>,
     alloc: Global,
@@ -171,7 +184,7 @@ fn pages_at(
     Ok(pages)
 }
 
-/// Lets the first so many frames of a queue go.
+/// Removes the first `count` frames of a queue.
 fn drop_first(free: &mut VecDeque<Frame>, count: usize)
     ensures left { free.new.items ≡ drop count free.old.items }
     ensures capacity { deque_capacity free.new ≡ deque_capacity free.old }

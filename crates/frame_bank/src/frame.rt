@@ -1,4 +1,4 @@
-//! A free frame, which takes memory only for bytes that it got.
+//! A free frame, which takes memory for its bytes only if they are not those of a new bank.
 
 ghost use Rattle.std.specs.Prelude.{◌≡◌, ◌^◌, ◌<◌, IfOk, nat_le};
 ghost use Rattle.busdma_machine.specs.Machine.PageList.{page_address};
@@ -11,7 +11,7 @@ use std::marker::Model;
 /// The byte that fills the free frames of a new bank.
 const FILL: u8 = 0xa5;
 
-/// Whether a frame was out of the bank.
+/// Whether a frame has been outside the bank.
 #[derive(Drop)]
 pub enum State {
     /// The frame of this number has not left the bank.
@@ -38,7 +38,7 @@ impl Model for Frame {
 }
 
 impl Frame {
-    /// The frame of this number, which has not left the bank.
+    /// Returns the frame of this number, which has not left the bank.
     pub fn fresh(number: u64) -> Frame
         requires { number < 2 ^ 30 }
         ensures { result ≡ fresh_page number }
@@ -48,7 +48,7 @@ impl Frame {
         }
     }
 
-    /// The frame of a page that came back.
+    /// Returns the frame of a page that came back.
     pub fn back(page: Page) -> Frame
         ensures { result ≡ page }
     {
@@ -57,7 +57,7 @@ impl Frame {
         }
     }
 
-    /// The number of the frame.
+    /// Returns the number of the frame.
     pub fn frame(&self) -> u64
         ensures number { result ≡ self.now.frame }
         ensures below { result < 2 ^ 30 }
@@ -68,14 +68,18 @@ impl Frame {
         }
     }
 
-    /// The physical address of the first byte of the frame.
+    /// Returns the physical address of the first byte of the frame.
     pub fn address(&self) -> Pa
         ensures { result ≡ record { 0 = page_address self.now } }
     {
         Pa(self.frame() * 4096)
     }
 
-    /// A page of the frame with its bytes. The bank then lets the frame go.
+    /// Returns a page with the number and the bytes of the frame. The bank then drops the frame.
+    ///
+    /// # Errors
+    ///
+    /// `AllocError` if memory runs out.
     pub fn page(&self, alloc: Global) -> Result<Page, AllocError>
         ensures { IfOk result (λ page. page ≡ self.now) }
     {
@@ -86,7 +90,7 @@ impl Frame {
     }
 }
 
-/// The page of a frame of a new bank.
+/// Returns the page of a frame of a new bank.
 fn new_page(alloc: Global, number: u64) -> Result<Page, AllocError>
     requires { number < 2 ^ 30 }
     ensures { IfOk result (λ page. page ≡ fresh_page number) }
@@ -95,7 +99,7 @@ fn new_page(alloc: Global, number: u64) -> Result<Page, AllocError>
     Ok(page)
 }
 
-/// A page of the same frame with the same bytes.
+/// Returns a page of the same frame with the same bytes.
 fn copy_of(alloc: Global, page: &Page) -> Result<Page, AllocError>
     ensures { IfOk result (λ copy. copy ≡ page.now) }
 {

@@ -1,4 +1,4 @@
-//! The free frames of the machine.
+//! The free frames of the machine, as owned pages.
 #![tactic(auto)]
 
 mod bank;

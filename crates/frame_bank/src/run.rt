@@ -10,8 +10,8 @@ use crate::frame::Frame;
 use busdma_machine::Pa;
 use std::collections::VecDeque;
 
-/// A wish for memory: `len` bytes that cross no multiple of the boundary, where 0 is none, in
-/// frames at or below the limit.
+/// A request for memory: `len` bytes that cross no multiple of the boundary, in frames at or below the limit.
+/// A boundary of 0 is none.
 #[derive(Clone, Copy)]
 pub struct Wish {
     pub len: u64,
@@ -19,28 +19,29 @@ pub struct Wish {
     pub limit: Pa,
 }
 
-/// The number of frames for so many bytes, at least one.
+/// Returns the number of frames that `len` bytes need, at least one.
 pub fn frames_for(len: u64) -> usize
     ensures { result ≡ frames_for len }
 {
     len.div_ceil(4096).max(1) as usize
 }
 
-/// Whether the last byte of a page lies at or below an address.
+/// Returns whether the last byte of a frame lies at or below a physical address.
 pub fn lies_below(page: &Frame, limit: Pa) -> bool
     ensures { result ≡ nat_le (page_address page.now + 4095) limit.0 }
 {
     page.address().0 + 4095 <= limit.0
 }
 
-/// Whether so many bytes from an address on cross no multiple of the boundary.
+/// Returns whether the `len` bytes from an address on cross no multiple of the boundary. A boundary of 0 is
+/// none.
 fn crosses_none(len: u64, boundary: u64, first: u64) -> bool
     ensures { result ≡ crosses_none len boundary first }
 {
     boundary == 0 || len <= boundary - first % boundary
 }
 
-/// Whether `count` frames from a place on follow one another.
+/// Returns whether there are `count` frames from a place on that follow one another.
 fn follow(free: &VecDeque<Frame>, at: usize, count: usize) -> bool
     requires rising { IsRising (page_addresses free.now.items) }
     requires inside { at < length free.now.items }
@@ -52,7 +53,7 @@ fn follow(free: &VecDeque<Frame>, at: usize, count: usize) -> bool
         && free[at + count - 1].frame() == free[at].frame() + (count - 1) as u64
 }
 
-/// Whether the frames from a place on begin with those of a wish.
+/// Returns whether the frames from a place on begin with a run that meets the request.
 fn begins_run(free: &VecDeque<Frame>, at: usize, wish: Wish) -> bool
     requires rising { IsRising (page_addresses free.now.items) }
     requires inside { at < length free.now.items }
@@ -67,7 +68,8 @@ fn begins_run(free: &VecDeque<Frame>, at: usize, wish: Wish) -> bool
     lies_below(&free[at + count - 1], wish.limit) && crosses_none(wish.len, wish.boundary, first)
 }
 
-/// The place of the lowest frame from which on a wish can be met.
+/// Returns the place of the lowest frame at which a run that meets the request begins, or `None` if there is
+/// none.
 pub fn run_at(free: &VecDeque<Frame>, wish: Wish) -> Option<usize>
     requires { IsRising (page_addresses free.now.items) }
     ensures { let frames = page_addresses free.now.items in

@@ -1,4 +1,4 @@
--- A front of a stream asks no more than the whole.
+-- A front of a stream needs no more than the stream.
 use Rattle.std.proofs.Common.{◌≡◌, ℕ, ◌+◌, ◌≤◌, List, ◌++◌, length, ap, sym, ◌∙◌, arith, append_assoc, length-append}
 use Rattle.busdma_machine.specs.declared.machine.chunk.Part.{Part}
 use Rattle.busdma_machine.specs.declared.tags.tag.TagLimits.{TagLimits}
@@ -15,7 +15,7 @@ use Rattle.iommu_load.specs.Gathering.{after, ended, pieces_of_runs, ungathered}
 use Rattle.iommu_load.proofs.Gathering.{after_append, after_page, ended_append, gathered_pieces, run_pieces}
 use Rattle.iommu_load.proofs.Gathering.{runs_append, stream_pieces}
 
--- it takes no more pages
+-- a front takes no more pages
 front_frames : (first : ℕ) (xs ys : List Part) → IsStream (xs ++ ys) →
     length (stream_frames xs) ≤ length (stream_frames (xs ++ ys))
 front_frames first xs ys h =
@@ -38,7 +38,7 @@ IsInDevicePages-front first xs ys h =
       pages = omega (arith, front_frames first xs ys h.stream);
     }
 
--- the pieces of a stream, where those of a front are known
+-- the pieces of a stream, if those of a front are known
 whole_pieces : (t : TagLimits) (first : ℕ) (xs ys : List Part) → IsStream (xs ++ ys) →
     device_pieces t first (xs ++ ys)
     ≡ pieces_of_runs t (ended (ungathered first) xs)
@@ -55,7 +55,7 @@ whole_pieces t first xs ys h =
     ∙ (append_assoc (pieces_of_runs t (ended u xs)) (pieces_of_runs t (ended s ys)) (run_pieces t (after s ys).run)
     ∙ ap (λ ps. pieces_of_runs t (ended u xs) ++ ps) (gathered_pieces t s 0 ys)))))
 
--- and has no more pieces
+-- a front has no more pieces
 front_pieces : (t : TagLimits) (first : ℕ) (xs ys : List Part) → IsEffective t → IsStream (xs ++ ys) →
     length (device_pieces t first xs) ≤ length (device_pieces t first (xs ++ ys))
 front_pieces t first xs ys eff h =

@@ -25,7 +25,7 @@ use Rattle.busdma_rules.proofs.Iommu.Carrying.{ends}
 abbrev pub run_bytes : List Segment → ℕ
 run_bytes runs = sum_by (λ r. r.len) runs
 
--- ---- parts behind parts
+-- ---- parts after parts
 
 pub after_append : (s : Gatherer) (xs ys : List Part) → after s (xs ++ ys) ≡ after (after s xs) ys
 after_append s [] ys = refl

@@ -1,4 +1,4 @@
-//! Segments of a stream in device pages, in one pass.
+//! The segments of a stream in device pages, built in one pass.
 
 ghost use Rattle.std.specs.Prelude.{◌≡◌, ◌+◌, ◌≤◌, ◌<◌, ◌^◌, ◌++◌, [], length, min, true, List, MatchBool, IfSome};
 ghost use Rattle.std.specs.Iterator.{Drains, IsFinite};
@@ -13,10 +13,13 @@ use busdma_machine::{Part, Segment, SegmentRoom};
 use dma_tag::Tag;
 use segment_build::add_pieces;
 
-/// Builds the segments of a stream of at most 1,048,576 bytes, whose extents stand in the device pages from `first` on,
-/// in one pass, into an empty list that has room for the smaller of the pieces and the tag's `nsegments`: it takes no
-/// memory. It answers whether the segments are few enough, and leaves the list empty, with its room, where they are
-/// not. That the room of a whole stream is enough for its fronts is the law `device_fronts_ask_no_more`.
+/// Builds the segments of a stream of at most 1,048,576 bytes into the empty list `list`, in one pass, and
+/// returns whether the tag allows so many.
+///
+/// The extents of the stream are in the device pages from `first` on, one page for each extent. If there are
+/// too many segments, the list is empty again and keeps its room. It needs room for the smaller of the number
+/// of pieces and the tag's `nsegments`, so no memory is taken. Room for a stream is enough for its fronts, by
+/// the law `device_fronts_ask_no_more`.
 pub fn build_device<I: Iterator<Item = Part>>(
     tag: &Tag,
     first: u64,
@@ -30,7 +33,7 @@ pub fn build_device<I: Iterator<Item = Part>>(
         × MatchBool result (IsDeviceBuilt tag.now first ps list.new.items)
         (DeviceOverflows tag.now first ps × (list.new.items ≡ [])) }
 
-    // The list keeps the room that it had, beside what it holds.
+    // The list keeps the room that it had, apart from what it holds.
     ensures room { list.old.spare ≤ list.new.spare + length list.new.items }
 {
     let mut gatherer = Gatherer::new(first);
@@ -46,7 +49,7 @@ pub fn build_device<I: Iterator<Item = Part>>(
     few
 }
 
-// Adds the pieces of the next run, where there is one and the segments are few enough so far.
+// Adds the pieces of the next run, if there is one and the segments are still few enough.
 fn add_next(tag: &Tag, list: &mut SegmentRoom, few: bool, next: Option<Segment>) -> bool
     requires fits { IfSome next (λ run. run.addr.0 + run.len ≤ 2 ^ 64) }
     requires so_far { (pieces : List Piece) × AreSoFar tag.now pieces list.old.items few

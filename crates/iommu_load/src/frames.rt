@@ -10,8 +10,12 @@ ghost use Rattle.iommu_load.specs.DeviceStreams.{stream_frames};
 use busdma_machine::{PAGE_SIZE, Part};
 use std::alloc::{AllocError, Global};
 
-/// The frames that the entries of a stream touch, one for each extent, in order: what `Iommu::enter` asks for. A part
-/// that cannot be reached touches none.
+/// Returns the numbers of the frames that a stream touches, one for each extent, in order. They are the
+/// frames that `Iommu::enter` takes. A part that cannot be reached touches no frame.
+///
+/// # Errors
+///
+/// `AllocError` if memory runs out.
 pub fn frames_of<I: Iterator<Item = Part>>(alloc: Global, parts: I) -> Result<Vec<u64>, AllocError>
     requires can { I.can_next parts }
     requires ends { IsFinite (I.remaining parts) }

@@ -1,4 +1,4 @@
-//! How the extents of an entry are gathered to one run of device addresses.
+//! How the extents of an entry are gathered into one run of device addresses.
 
 ghost use Rattle.std.specs.Prelude.{◌≡◌, ◌+◌, ◌≤◌, ◌<◌, ◌^◌};
 ghost use Rattle.busdma_machine.specs.Machine.Entry.{IsPart, part_bytes};
@@ -8,8 +8,8 @@ use busdma_machine::{PAGE_SIZE, Pa, Part, Segment};
 
 /// What is known between two extents of a load.
 ///
-/// `page` is the device page of the next extent, and `run` the device addresses of the last entry so far. Before the
-/// first extent it has no byte.
+/// `page` is the device page of the next extent. `run` is the run of device addresses of the last entry so
+/// far, which has no byte before the first extent.
 #[derive(Clone, Copy)]
 pub(crate) struct Gatherer {
     page: u64,
@@ -17,7 +17,7 @@ pub(crate) struct Gatherer {
 }
 
 impl Gatherer {
-    /// Before the first extent, whose device page is this.
+    /// Returns what is known before the first extent, whose device page is `first`.
     pub(crate) fn new(first: u64) -> Gatherer
         ensures { result ≡ ungathered first }
     {
@@ -30,7 +30,7 @@ impl Gatherer {
         }
     }
 
-    /// Takes the next part, and gives the run that it ends.
+    /// Takes the next part, and returns the run that it ends, if it ends one.
     pub(crate) fn take(&mut self, part: Part) -> Option<Segment>
         requires part { IsPart part }
         requires paged { (after_part self.old part).page ≤ 2 ^ 52 }

@@ -16,8 +16,8 @@ ghost use Rattle.iommu_load.specs.DeviceStreams.{DeviceFrontsAskNoMore};
 use busdma_machine::Entry;
 use dma_tag::Tag;
 
-/// The bytes of the segments of a load, as the device finds them through its IOMMU, are the bytes of
-/// the load, in order; and the segments obey the tag, where they are few enough.
+/// The bytes that the device finds through its IOMMU at a load's segments are the bytes of the load, in
+/// order. If the segments are few enough, they obey the tag.
 pub fn device_segments_are_the_load(tag: &Tag, entries: &[Entry])
     requires entries { AllByRecursion IsEntry entries.now }
     ensures bytes { (s : Space) (first : ℕ) → IsSpace s → 1 ≤ length (load_frames entries.now) →
@@ -34,8 +34,8 @@ pub fn device_segments_are_the_load(tag: &Tag, entries: &[Entry])
     tag.limits();
 }
 
-/// A front of a stream is a stream, takes no more device pages than the whole, and has no more pieces: what
-/// `measure_device` says of a stream is enough for what `build_device` asks of each of its fronts.
+/// A front of a stream is a stream itself, takes no more device pages and has no more pieces. So what
+/// `measure_device` returns for a stream is enough room for `build_device` with each of its fronts.
 pub fn device_fronts_ask_no_more(tag: &Tag, first: u64)
     ensures { DeviceFrontsAskNoMore tag.now first }
 {

@@ -1,4 +1,4 @@
-//! Loads in the pages of a device behind an IOMMU.
+//! Loads in the device pages of a device behind an IOMMU.
 #![tactic(auto)]
 
 mod built;

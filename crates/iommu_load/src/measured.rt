@@ -13,8 +13,10 @@ use busdma_machine::{Part, Segment};
 use dma_tag::Tag;
 use segment_build::count_pieces;
 
-/// The number of pieces of a stream of at most 1,048,576 bytes whose extents stand in the device pages from `first` on,
-/// without memory. These pages lie below 2^52, so that each device address has 64 bits.
+/// Returns the number of pieces of a stream of at most 1,048,576 bytes. Takes no memory.
+///
+/// The extents of the stream are in the device pages from `first` on, one page for each extent. These pages
+/// lie below 2^52, so each device address fits in 64 bits.
 pub fn measure_device<I: Iterator<Item = Part>>(tag: &Tag, first: u64, parts: I) -> u64
     requires can { I.can_next parts }
     requires ends { IsFinite (I.remaining parts) }
@@ -29,7 +31,7 @@ pub fn measure_device<I: Iterator<Item = Part>>(tag: &Tag, first: u64, parts: I)
     pieces + count_pieces(tag, gatherer.run)
 }
 
-// The number of pieces of the next run, where there is one.
+// Returns the number of pieces of the next run, or 0 if there is none.
 fn pieces_of_next(tag: &Tag, next: Option<Segment>) -> u64
     requires fits { IfSome next (λ run. run.addr.0 + run.len ≤ 2 ^ 64) }
     ensures count { result ≡ length (pieces_of_runs tag.now (option_to_list next)) }

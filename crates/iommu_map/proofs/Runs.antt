@@ -124,14 +124,14 @@ gap-bound low high k (r ∷ rs) h l =
       | false ↦ gap-bound (end_of r) high k rs h.1 h.0.reached
     ])
 
--- a run that begins before the first of these runs stands before all
+-- a run that begins before the first of these runs comes before all of them
 pub put-here : (r : DeviceRun) (rs : List DeviceRun) (i : ℕ) (d : DeviceRun) → i < length rs →
     r.first < (slice_index_or rs i d).first → put_run r (drop i rs) ≡ r ∷ drop i rs
 put-here r [] i d l m = absurd (omega arith)
 put-here r (q ∷ qs) zero d l m = rw (lt-ltb r.first q.first m) refl
 put-here r (q ∷ qs) (suc i) d l m = put-here r qs i d (omega arith) m
 
--- a run that begins behind the first of these runs stands in its place among the others
+-- a run that begins after the first of these runs has its place among the others
 pub put-next : (r : DeviceRun) (rs : List DeviceRun) (i : ℕ) (d : DeviceRun) → i < length rs →
     (slice_index_or rs i d).first ≤ r.first → take i rs ++ put_run r (drop i rs)
     ≡ take (suc i) rs ++ put_run r (drop (suc i) rs)
@@ -163,7 +163,7 @@ get-past [] i l = refl
 get-past (r ∷ rs) zero l = absurd (omega arith)
 get-past (r ∷ rs) (suc i) l = get-past rs i (omega arith)
 
--- the run at the place of a page ends behind the page
+-- the run at the place of a page does not end before the page
 pub ends-past : (p : ℕ) (rs : List DeviceRun) (r : DeviceRun) → slice_get rs (place_of p rs) ≡ Some r → p < end_of r
 ends-past p [] r e = absurd (cc)
 ends-past p (q ∷ rs) r e =

@@ -1,4 +1,4 @@
-//! The address space of one IOMMU tag.
+//! The device address space of one IOMMU tag.
 
 ghost use Rattle.std.specs.Prelude.{◌≡◌, ◌+◌, ◌/◌, ◌^◌, ◌<◌, ◌≤◌, ◌==◌, true, [], length, Some, None, List};
 ghost use Rattle.std.specs.Prelude.{IfOk, IfSome, OnErr, ℕ};
@@ -14,7 +14,7 @@ use busdma_machine::Pa;
 use std::alloc::{AllocError, Global};
 use std::marker::Model;
 
-/// The live runs of a tag's device pages, rising, and how many pages the device reaches.
+/// The live runs of device pages of a tag, in rising order, and the number of pages that the device reaches.
 #[derive(Drop)]
 pub struct Iommu {
     pages: u64,
@@ -31,7 +31,7 @@ impl Model for Iommu {
     ghost invariant = { λ i. IsSpace (record { pages = i.pages; runs = i.runs.items }) };
 }
 
-/// Where a run finds room: its place among the live runs, and its first page.
+/// A gap that has room for a run: the run's place among the live runs, and its first page.
 #[derive(Clone, Copy)]
 struct Gap {
     at: usize,
@@ -39,8 +39,8 @@ struct Gap {
 }
 
 impl Iommu {
-    /// The space of a device that reaches the addresses up to `lowaddr`, with no live run. Of a page
-    /// that lies above `lowaddr` in part it reaches nothing.
+    /// Makes the space of a device that reaches the addresses up to `lowaddr`, without live runs. A page that
+    /// lies above `lowaddr` even in part is not reached.
     pub fn new(alloc: Global, lowaddr: Pa) -> Iommu
         ensures { result ≡ record { pages = (lowaddr.0 + 1) / 4096; runs = [] } }
     {
@@ -50,7 +50,7 @@ impl Iommu {
         }
     }
 
-    /// The first gap before, between or behind the live runs that has so many pages.
+    /// Returns the first gap before, between or after the live runs that has `count` pages.
     fn gap(&self, count: u64) -> Gap
         requires some { 1 ≤ count }
         requires few { count ≤ 2 ^ 63 }
@@ -74,7 +74,8 @@ impl Iommu {
         }
     }
 
-    /// The place of the first live run that does not end before a page.
+    /// Returns the place of the first live run that does not end before a page, or the number of live runs if
+    /// all do.
     fn place_of(&self, page: u64) -> usize
         ensures is { result ≡ place_of page self.now.runs }
         ensures bound { result ≤ length self.now.runs }
@@ -82,8 +83,11 @@ impl Iommu {
         self.runs.partition_point(|run| run.end() <= page)
     }
 
-    /// The least first page of so many pages that may be taken: what `enter` answers for as many frames. So a caller may
-    /// know the device addresses of a load before it takes the run.
+    /// Returns the least first page of `count` free pages that follow one another, or `None` if there is no
+    /// room.
+    ///
+    /// It is the page that `enter` returns for as many frames, so a caller can know the device addresses of a
+    /// load before it takes the run.
     pub fn first_free(&self, count: u64) -> Option<u64>
         requires some { 1 ≤ count }
         requires few { count ≤ 2 ^ 63 }
@@ -95,9 +99,15 @@ impl Iommu {
         if end <= self.pages { Some(first) } else { None }
     }
 
-    /// Takes the run with the least first page for these frames, in order, and tells that page: page
-    /// 0 is never taken, and no page of a live run. None where there is no such run. Then, and where
-    /// memory runs out, the space stays as it was.
+    /// Maps these frames, given by their numbers, in order, to a new live run, and returns the run's first
+    /// page.
+    ///
+    /// The page is the least possible. Page 0 and the pages of live runs are never taken. Returns `None` if
+    /// there is no room; the space is then unchanged.
+    ///
+    /// # Errors
+    ///
+    /// `AllocError` if memory runs out. The space is then unchanged.
     pub fn enter(&mut self, alloc: Global, frames: &[u64]) -> Result<Option<u64>, AllocError>
         requires some { 0 < length frames.now }
         requires numbered { All (λ f. f < 2 ^ 30) frames.now }
@@ -115,7 +125,7 @@ impl Iommu {
         Ok(Some(gap.first))
     }
 
-    /// Ends the live run that begins at a page.
+    /// Ends the live run whose first page is `first`.
     pub fn leave(&mut self, first: u64)
         requires { is_live self.old first ≡ true }
         ensures { self.new ≡ run_unmapped first self.old }
@@ -124,7 +134,7 @@ impl Iommu {
         self.runs.remove(at);
     }
 
-    /// The physical address of the byte at a device address. None where no live run has its page.
+    /// Returns the physical address of the byte at a device address, or `None` if no live run has its page.
     pub fn translate(&self, dev: u64) -> Option<Pa>
         ensures is { option_map (λ (pa : Address). pa.0) result ≡ translated self.now dev }
         ensures sound { IsSpace self.now }

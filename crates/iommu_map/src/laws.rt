@@ -16,8 +16,8 @@ pub fn runs_share_no_page(iommu: &Iommu)
     iommu.translate(0);
 }
 
-/// A run that is entered is live, and so is each that was; its pages stand for its frames, and every
-/// other page for what it stood for. Ended at once, it leaves the space as it was.
+/// A new run is live, and so is each run that was live before. The pages of the new run map to its frames,
+/// and every other page maps to what it did before. If the new run is ended at once, the space is as it was.
 pub fn entered_runs_take_their_own_pages()
     ensures live { (s : Space) (frames : List ℕ) (first : ℕ) → is_live (entered (Some first) frames s) first ≡ true }
     ensures there { (s : Space) (frames : List ℕ) (first : ℕ) →
@@ -34,14 +34,14 @@ pub fn entered_runs_take_their_own_pages()
         first_free s (length frames) ≡ Some first → left first (entered (Some first) frames s) ≡ s }
 {}
 
-/// The pages of a run that is entered were no live run's, so that its first page was none's.
+/// No page of a new run belongs to a run that was live before, so no live run had the new run's first page.
 pub fn entered_runs_are_new()
     ensures { (s : Space) (frames : List ℕ) (first p : ℕ) (r : DeviceRun) → IsSpace s → 1 ≤ length frames →
         first_free s (length frames) ≡ Some first → Contains s.runs r →
         has_page p (record { first = first; frames = frames }) ≡ true → has_page p r ≡ false }
 {}
 
-/// A run that ends takes its own pages alone: every other page stands for what it stood for, and each run
+/// A run that ends releases only its own pages. Every other page maps to what it did before, and each run
 /// that begins elsewhere stays live.
 pub fn ended_runs_take_their_own_pages()
     ensures others { (s : Space) (p : ℕ) (r : DeviceRun) → IsSpace s → Contains s.runs r → has_page p r ≡ false →

@@ -21,7 +21,7 @@ both : (a b : Bool) → T a → T b → T (a && b)
 both true b p q = q
 both false b p q = absurd p
 
--- numbers compare as they stand
+-- a smaller number compares as less
 earlier : (x y : ℕ) → x < y → T (is_lt (nat_cmp x y))
 earlier x y h = rw (lt-ltb x y h) tt
 
@@ -46,7 +46,7 @@ nothing_more (k ∷ keys) zero = refl
 nothing_more (k ∷ keys) (suc place) = nothing_more keys place
 
 module _ {X : Type 0} where
-  -- the entries of later places come behind
+  -- the entries of later places come after those of earlier places
   later_entries : (x first : ℕ) (values : List (Option X)) → x < first →
       T (below_all nat_cmp x (entries_from first values))
   later_entries x first [] h = tt
@@ -68,7 +68,7 @@ module _ {X : Type 0} where
   none_before q first (Some v ∷ rest) h =
       rw (other_key q first (omega arith)) (none_before q (first + 1) rest (omega arith))
 
-  -- a place is found with the value that stands there
+  -- a place is found with the value that it has
   find-entries_from : (first at : ℕ) (values : List (Option X)) →
       find nat_cmp (first + at) (entries_from first values) ≡ get_or values at None
   find-entries_from first at [] = refl
@@ -85,7 +85,7 @@ module _ {X : Type 0} where
       rw shift (find-entries_from (first + 1) at rest) in
       rw (other_key (first + suc at) first (omega arith)) later
 
-  -- where no slot has a value, nothing is under any key
+  -- if no slot has a value, nothing is under any key
   nothing_under : (slots : List (Option X)) (key : ℕ) → count_by is_some slots ≡ 0 → get_or slots key None ≡ None
   nothing_under [] key none = refl
   nothing_under (None ∷ rest) zero none = refl
@@ -101,7 +101,7 @@ module _ {X : Type 0} where
   no_entries first (Some key ∷ keys) slab none =
       rw (nothing_under slab.slots key none) (no_entries (first + 1) keys slab none)
 
-  -- the table has at a place the value under the key that stands there
+  -- the table has at a place the value under the key that is kept for the place
   pub get-by_place : (keys : List (Option ℕ)) (slab : Slab X) (place : ℕ) →
       get (by_place keys slab) place ≡ value_under slab (get_or keys place None)
   get-by_place keys slab place =
@@ -110,7 +110,7 @@ module _ {X : Type 0} where
       ∙ rw zero-add at found
       ∙ get_or-map (value_under slab) keys place None
 
-  -- so it finds what is under the key, where the view is known by another name
+  -- so it finds what is under the key, if the view is known by another name
   pub found_at : (keys : List (Option ℕ)) (slab : Slab X) (seen : FinMap nat_cmp X) (place : ℕ) (key : Option ℕ) →
       by_place keys slab ≡ seen → key ≡ get_or keys place None → get seen place ≡ value_under slab key
   found_at keys slab seen place key is stands =
@@ -122,7 +122,7 @@ module _ {X : Type 0} where
       same_map nat_cmp_total nat_cmp-IsAntisymmetric _ _ (λ q. get-by_place (replicate n None) slab q
       ∙ ap (value_under slab) (nothing_at n q) ∙ sym (get-empty nat_cmp q))
 
-  -- where all keys but one keep what they had, so do all places but those with that key
+  -- if all keys but one keep what they had, so do all places but those with that key
   value_kept : (old new : Slab X) (key : ℕ) → ((other : ℕ) → other ≢ key → under new other ≡ under old other) →
       (at : Option ℕ) → at ≢ Some key → value_under new at ≡ value_under old at
   value_kept old new key others None apart = refl
@@ -154,7 +154,7 @@ module _ {X : Type 0} where
 pub place_below : (keys : List (Option ℕ)) (place key : ℕ) → get_or keys place None ≡ Some key → place < length keys
 place_below keys place key stands = grind (arith, get_or_past)
 
--- a key that stands at a place after a write was written there, or stood there
+-- a key that is kept for a place after a write was written there, or was kept there before
 written : (keys : List (Option ℕ)) (place : ℕ) (key : Option ℕ) (at found : ℕ) → place < length keys →
     get_or (set keys place key) at None ≡ Some found →
     ((at ≡ place) × (key ≡ Some found)) ⊎ ((at ≢ place) × (get_or keys at None ≡ Some found))

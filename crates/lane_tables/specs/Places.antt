@@ -5,7 +5,7 @@ use Rattle.std.specs.FinMap as map
 use Rattle.std.specs.Borrow.{Bor}
 use Rattle.std.specs.Coded.{Coded, code_by, coded×, coded_ℕ}
 
--- the value at each place that has one, how many places there are, and how many values may still be put
+-- the value at each place that has one, how many places there are, and how many more values there is room for
 pub record Places (T : Type 0) : Type 0 where
   pub map : map.FinMap nat_cmp T
   pub places : ℕ
@@ -21,6 +21,6 @@ places_code {T} code =
     (λ p. record { map = p.0; places = p.1.0; spare = p.1.1 })
     (λ _. refl)
 
--- a place and the value behind a reference
+-- a place with the value that a reference points to
 abbrev pub shown : {T : Type 0} → ℕ × Bor T → ℕ × T
 shown p = (p.0, p.1.now)

@@ -1,4 +1,4 @@
--- What stands in a driver's return queue.
+-- The pages of a driver's return queue.
 use Rattle.std.specs.Prelude.{Bool, ◌&&◌, ◌==◌, List, map}
 use Rattle.std.specs.List.{list_any}
 use Rattle.busdma_machine.specs.declared.name.MapId.{MapId}
@@ -6,7 +6,7 @@ use Rattle.busdma_machine.specs.declared.name.ZoneId.{ZoneId}
 use Rattle.busdma_machine.specs.Machine.Page.{FrameBytes}
 use Rattle.lane_tables.specs.declared.queued.QueuedPage.{QueuedPage}
 
--- pages of a map, in order
+-- pages of a map in the return queue, in order
 abbrev pub queued_pages : MapId → ZoneId → List FrameBytes → List QueuedPage
 queued_pages m zone pages = map (λ page. record { map = m; zone = zone; page = page }) pages
 

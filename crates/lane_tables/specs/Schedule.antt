@@ -3,8 +3,8 @@ use Rattle.std.specs.Prelude.{ℕ, List}
 use Rattle.busdma_base.specs.declared.scenarios.queued.QueuedItem.{QueuedItem}
 use Rattle.lane_tables.specs.declared.queued.QueuedPage.{QueuedPage}
 
--- the place of the next operation, the length of the script, the transfer queue and the return
--- queue, how many items may still be pushed, and how many pages are promised a place
+-- an agenda: the place of the next operation, the length of the script, the transfer queue and the return queue, how
+-- many items can still be pushed, and how many pages are promised a place
 pub record Schedule : Type 0 where
   pub place : ℕ
   pub length : ℕ

@@ -15,11 +15,11 @@ use std::alloc::{AllocError, Global};
 use std::collections::VecDeque;
 use std::marker::Model;
 
-/// What a driver has yet to do: the place of its next operation, the items that its device has to
-/// transfer, and the pages that its maps give back.
+/// What a driver has yet to do: the place of its next operation, the items that its device has to transfer,
+/// and the pages that its maps give back.
 ///
-/// The transfer queue has room for all items of the script before any of them is pushed. The return
-/// queue has room for the pages that are promised a place.
+/// The transfer queue has room for all items of the script before any of them is pushed. The return queue has
+/// room for the pages that are promised a place.
 #[derive(Drop)]
 pub struct Agenda {
     place: u32,
@@ -54,7 +54,7 @@ impl Model for Agenda {
     } };
 }
 
-// How many items a script has.
+// Returns how many items a script has.
 fn script_items(script: &[Op]) -> usize
     requires { steps_of script.now ≤ steps_limit }
     ensures value { result ≡ script_items script.now }
@@ -96,7 +96,7 @@ fn push_pages(queue: &mut VecDeque<QueuedPage>, map: MapId, zone: ZoneId, pages:
     }
 }
 
-// Whether some page of the queue is the map's.
+// Returns whether some page of the queue is the map's.
 fn has_page(queue: &VecDeque<QueuedPage>, map: MapId) -> bool
     ensures { result ≡ has_page map queue.now.items }
 {
@@ -104,7 +104,11 @@ fn has_page(queue: &VecDeque<QueuedPage>, map: MapId) -> bool
 }
 
 impl Agenda {
-    /// The agenda of a driver that has done nothing.
+    /// Makes the agenda of a driver that has done nothing.
+    ///
+    /// # Errors
+    ///
+    /// `AllocError` if memory runs out.
     pub fn new(alloc: Global, driver: &Driver) -> Result<Agenda, AllocError>
         requires { steps_of driver.now.script ≤ steps_limit }
         ensures { IfOk result (λ a. a ≡ record {
@@ -128,14 +132,14 @@ impl Agenda {
         })
     }
 
-    /// The place in the script of the next operation.
+    /// Returns the place in the script of the next operation.
     pub fn place(&self) -> u32
         ensures { result ≡ self.now.place }
     {
         self.place
     }
 
-    /// Goes on to the next operation.
+    /// Moves on to the next operation.
     pub fn advance(&mut self)
         requires { self.old.place < self.old.length }
         ensures { self.new ≡ record self.old { place = self.old.place + 1 } }
@@ -143,7 +147,12 @@ impl Agenda {
         self.place += 1;
     }
 
-    /// Makes the script longer by one operation, which has so many items: the transfer queue has room for them too.
+    /// Makes the script longer by one operation that has `items` items, and makes room for them in the
+    /// transfer queue.
+    ///
+    /// # Errors
+    ///
+    /// `AllocError` if memory runs out. The agenda is then unchanged.
     pub fn extend(&mut self, items: usize) -> Result<(), AllocError>
         ensures ok { OnOk result (self.new
             ≡ record self.old { length = self.old.length + 1; room = self.old.room + items }) }
@@ -163,7 +172,7 @@ impl Agenda {
         Ok(())
     }
 
-    /// Makes the script shorter by its last operation, which is not yet done. The room stays.
+    /// Makes the script shorter by its last operation, which is not yet done. The room for its items is kept.
     pub fn retract(&mut self)
         requires { self.old.place < self.old.length }
         ensures { self.new ≡ record self.old { length = self.old.length - 1 } }
@@ -171,7 +180,8 @@ impl Agenda {
         self.script_len -= 1;
     }
 
-    /// Appends the items of the load at a place to the transfer queue, in order; they use the room.
+    /// Appends the items of the load at a place in the script to the transfer queue, in order. They use its
+    /// room.
     pub fn push_items(&mut self, load_at: u32, items: ItemList)
         requires { length items ≤ self.old.room }
         ensures { self.new ≡ record self.old {
@@ -184,15 +194,15 @@ impl Agenda {
         push_all(&mut self.queue, load_at, items);
     }
 
-    /// The first item of the transfer queue, or None where it is empty.
+    /// Returns the first item of the transfer queue, or `None` if the queue is empty.
     pub fn first(&self) -> Option<&QueuedItem>
         ensures { option_copied result ≡ slice_get self.now.queue 0 }
     {
         self.queue.front()
     }
 
-    /// Takes the first item out of the transfer queue, or answers None where it is empty. The room
-    /// of the item is there again.
+    /// Removes the first item of the transfer queue and returns it, or returns `None` if the queue is empty.
+    /// The item's room is free again.
     pub fn pop(&mut self) -> Option<QueuedItem>
         ensures item { IfSome result (λ item. self.old.queue ≡ item ∷ self.new.queue) }
         ensures rest { OnSome result (self.new
@@ -205,7 +215,7 @@ impl Agenda {
         Some(item)
     }
 
-    /// Puts an item at the head of the transfer queue, which it left; it uses the room that it left there.
+    /// Puts an item back at the head of the transfer queue. It uses the room that it left there.
     pub fn put_back(&mut self, item: QueuedItem)
         requires { 1 ≤ self.old.room }
         ensures { self.new ≡ record self.old { queue = item ∷ self.old.queue; room = self.old.room - 1 } }
@@ -214,7 +224,7 @@ impl Agenda {
         self.queue.push_front_reserved(item);
     }
 
-    /// Whether an item of the transfer queue names the map that was made at a place.
+    /// Returns whether an item of the transfer queue names the map that was made at a place in the script.
     pub fn names(&self, made_at: u32) -> bool
         ensures { result ≡ queue_names made_at self.now.queue }
     {
@@ -223,14 +233,18 @@ impl Agenda {
             .any(|queued| item_names(&queued.item, made_at))
     }
 
-    /// How many pages are promised a place in the return queue.
+    /// Returns how many pages are promised a place in the return queue.
     pub fn promised(&self) -> u32
         ensures { result ≡ self.now.promised }
     {
         self.promised
     }
 
-    /// Promises so many further pages a place in the return queue.
+    /// Promises `pages` more pages a place in the return queue.
+    ///
+    /// # Errors
+    ///
+    /// `AllocError` if memory runs out. The agenda is then unchanged.
     pub fn promise(&mut self, alloc: Global, pages: u32) -> Result<(), AllocError>
         requires { self.old.promised + pages < 2 ^ 32 }
         ensures ok { OnOk result (self.new ≡ record self.old { promised = self.old.promised + pages }) }
@@ -242,7 +256,7 @@ impl Agenda {
         Ok(())
     }
 
-    /// Takes the promise of so many pages back.
+    /// Takes back the promise for `pages` pages.
     pub fn unpromise(&mut self, pages: u32)
         requires { pages ≤ self.old.promised }
         ensures { self.new ≡ record self.old { promised = self.old.promised - pages } }
@@ -250,7 +264,7 @@ impl Agenda {
         self.promised -= pages;
     }
 
-    /// Appends the pages of a map to the return queue, in order; they use as many promises.
+    /// Appends the pages of a map to the return queue, in order. They use as many promises.
     pub fn push_returns(&mut self, map: MapId, zone: ZoneId, pages: PageList)
         requires { length pages.items ≤ self.old.promised }
         ensures { self.new ≡ record self.old {
@@ -263,14 +277,14 @@ impl Agenda {
         push_pages(&mut self.returns, map, zone, pages);
     }
 
-    /// Whether a page stands in the return queue.
+    /// Returns whether a page is in the return queue.
     pub fn has_return(&self) -> bool
         ensures { result ≡ is_some (slice_get self.now.returns 0) }
     {
         self.returns.front().is_some()
     }
 
-    /// Takes the first page out of the return queue, or answers None where it is empty.
+    /// Removes the first page of the return queue and returns it, or returns `None` if the queue is empty.
     pub fn pop_return(&mut self) -> Option<Returned>
         ensures page { IfSome result (λ r.
             self.old.returns ≡ record { map = r.map; zone = r.zone; page = r.page } ∷ self.new.returns) }

@@ -1,5 +1,4 @@
-//! The tables of a driver: values by the place in the script that made them, and the place and
-//! queues of its work.
+//! The tables of a driver: values by the place in the script that made them, and the agenda with its queues.
 #![tactic(auto)]
 
 mod agenda;

@@ -13,10 +13,10 @@ use slab::Slab;
 use std::alloc::{AllocError, Global};
 use std::marker::Model;
 
-/// A table of values by script place.
+/// A table of values by their place in the script.
 ///
-/// Its index has room for all places from the start; `spare` is how many values may still be put
-/// without memory.
+/// Its index has room for all places from the start. `spare` is how many values can still be put without
+/// memory.
 #[derive(Drop)]
 pub struct PlaceTable<T> {
     keys: Vec<Option<usize>>,
@@ -43,14 +43,14 @@ impl<T> Model for PlaceTable<T> {
     ghost invariant = { λ t. IsKept t.keys.items t.values };
 }
 
-// The key that stands at a place.
+// Returns the key that is kept for a place.
 fn key_at(keys: &[Option<usize>], place: u32) -> Option<usize>
     ensures { result ≡ slice_index_or keys.now place None }
 {
     *keys.get(place as usize)?
 }
 
-// The value under a key, where there is one.
+// Returns the value under a key, if there is one.
 fn value_under<T>(values: &Slab<T>, key: Option<usize>) -> Option<&T>
     ensures { option_copied result ≡ value_under values.now key }
 {
@@ -61,7 +61,11 @@ impl<T> PlaceTable<T> {
     ghost use Rattle.std.specs.Borrow.{sem};
     ghost use Rattle.lane_tables.specs.Lends.{lends_get};
 
-    /// An empty table for the places below `places`.
+    /// Makes an empty table for the places below `places`.
+    ///
+    /// # Errors
+    ///
+    /// `AllocError` if memory runs out.
     pub fn new(alloc: Global, places: u32) -> Result<PlaceTable<T>, AllocError>
         ensures { IfOk result (λ t. t ≡ record { map = map.empty; places = places; spare = 0 }) }
     {
@@ -71,7 +75,11 @@ impl<T> PlaceTable<T> {
         })
     }
 
-    /// Makes the script longer by one place, which holds nothing.
+    /// Makes the script longer by one place, which has no value.
+    ///
+    /// # Errors
+    ///
+    /// `AllocError` if memory runs out. The table is then unchanged.
     pub fn extend(&mut self) -> Result<(), AllocError>
         ensures ok { OnOk result (self.new ≡ record self.old { places = self.old.places + 1 }) }
         ensures err { OnErr result (self.new ≡ self.old) }
@@ -83,7 +91,11 @@ impl<T> PlaceTable<T> {
         Ok(())
     }
 
-    /// Makes room for one more value, where there is none; where there is some, it takes no memory.
+    /// Makes room for one more value, if there is no room yet.
+    ///
+    /// # Errors
+    ///
+    /// `AllocError` if there is no room yet and memory runs out. The values and places are then unchanged.
     pub fn reserve(&mut self, alloc: Global) -> Result<(), AllocError>
         ensures room { OnOk result (1 ≤ self.new.spare) }
         ensures succeeds { 1 ≤ self.old.spare → IsOk result }
@@ -93,7 +105,7 @@ impl<T> PlaceTable<T> {
         self.values.reserve(1)
     }
 
-    /// Puts a value at a place, which uses one of the spare room.
+    /// Puts a value at a place that has none, which uses the room of one value.
     pub fn put(&mut self, place: u32, value: T)
         requires room { 1 ≤ self.old.spare }
         requires in_script { place < self.old.places }
@@ -104,14 +116,14 @@ impl<T> PlaceTable<T> {
         self.keys[place as usize] = Some(self.values.insert_reserved(value));
     }
 
-    /// The value at a place, or None where it holds nothing.
+    /// Returns the value at a place, or `None` if the place has no value.
     pub fn get(&self, place: u32) -> Option<&T>
         ensures { option_copied result ≡ map.get self.now.map place }
     {
         value_under(&self.values, key_at(&self.keys, place))
     }
 
-    /// The value at a place for writing, or None where it holds nothing.
+    /// Returns the value at a place for writing, or `None` if the place has no value.
     pub fn get_mut(&mut self, place: u32) -> Option<&mut T>
         ensures* writes_back { sem 𝓛 (lends_get T.row self.entry place result) }
         ensures value { option_copied_mut result ≡ map.get self.old.map place }
@@ -122,12 +134,12 @@ impl<T> PlaceTable<T> {
         }
     }
 
-    /// The places that hold a value, each with its value, in the order of places.
+    /// Iterates over the places that have a value, each with its value, in rising order of places.
     pub fn iter(&self) -> Iter<'_, T>
         ensures rest { result ≡ map.entries self.now.map }
         ensures runs { ShowsInOrder (shown {T = T}) }
     {
-        // Where there is no value, no place is looked at.
+        // A table without values is ended at once, without a look at its places.
         if self.values.is_empty() {
             return Iter {
                 keys: &[],
@@ -142,8 +154,8 @@ impl<T> PlaceTable<T> {
         }
     }
 
-    /// Takes the value at a place out, or answers None where it holds nothing. Its room is spare
-    /// again.
+    /// Removes the value at a place and returns it, or returns `None` if the place has no value. The value's
+    /// room is spare again.
     pub fn take(&mut self, place: u32) -> Option<T>
         ensures value { result ≡ map.get self.old.map place }
         ensures taken { OnSome result (self.new
@@ -157,7 +169,8 @@ impl<T> PlaceTable<T> {
     }
 }
 
-/// The places that hold a value, each with its value, seen as the list of those that are left.
+/// An iterator over the places that have a value, each with its value. Contracts see it as the list of those
+/// left.
 #[derive(Drop)]
 pub struct Iter<'a, T> {
     keys: &'a [Option<usize>],

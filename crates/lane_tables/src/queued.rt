@@ -1,11 +1,11 @@
-//! What stands in a driver's return queue.
+//! The pages of a driver's return queue.
 
 ghost use Rattle.std.specs.Prelude.{◌≡◌};
 ghost use Rattle.busdma_base.specs.Scenarios.Queues.{item_names};
 
 use busdma_base::{Item, MapId, NameKind, Page, ZoneId};
 
-/// A page of the return queue, which its map held and its zone gets back.
+/// A page of the return queue: its map held it, and its zone gets it back.
 #[derive(Debug, Drop)]
 pub struct QueuedPage {
     pub map: MapId,
@@ -13,7 +13,7 @@ pub struct QueuedPage {
     pub page: Page,
 }
 
-/// A page that left the return queue; `last` tells that no further page of its map is there.
+/// A page that left the return queue. `last` is whether no further page of its map is in the queue.
 #[derive(Debug, Drop)]
 pub struct Returned {
     pub map: MapId,
@@ -22,7 +22,7 @@ pub struct Returned {
     pub last: bool,
 }
 
-// Whether an item names the map that was made at a place.
+// Returns whether an item names the map that was made at a place.
 pub(crate) fn item_names(item: &Item, made_at: u32) -> bool
     ensures { result ≡ item_names made_at item.now }
 {

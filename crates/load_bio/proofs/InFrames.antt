@@ -23,7 +23,7 @@ first_page f fs page none = record {
   past = λ i h k. absurd (omega arith);
 }
 
--- the bytes behind the first frame are those of the others
+-- the bytes after the first frame are those of the others
 behind_first : (f : ℕ) (fs : List ℕ) (k : ℕ) → in_frames (f ∷ fs) (4096 + k) ≡ in_frames fs k
 behind_first f fs k =
     let number : (4096 + k) / 4096 ≡ suc (k / 4096) = omega arith in

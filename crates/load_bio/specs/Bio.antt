@@ -14,22 +14,22 @@ use Rattle.busdma_rules.specs.Memory.BioFrames.{AreFrames}
 use Rattle.load_bio.specs.Frames.{LiesInOneOf}
 use Rattle.busdma_rules.specs.Memory.Bios.{bio_translation, is_rounded}
 
--- an unmapped bio begins in its first frame, and its frames have numbers below 2^30
+-- a bio that is not mapped begins in its first frame, and its frames have numbers below 2^30
 abbrev pub IsBio : Bio → Type 0
 IsBio (Mapped span) = Unit {0}
 IsBio (Vector spans) = Unit {0}
 IsBio (Unmapped frames off len) = (off < 4096) × AreFrames frames
 
--- an extent lies in a frame of the driver's memory, or of an unmapped bio in one of its frames
+-- an extent lies in a frame of the driver's memory, or for an unmapped bio in one of the bio's frames
 abbrev pub LiesInBio : Memory → Bio → Extent → Type 0
 LiesInBio m (Mapped span) e = LiesIn m e
 LiesInBio m (Vector spans) e = LiesIn m e
 LiesInBio m (Unmapped frames off len) e = LiesInOneOf frames e
 
--- the walk over a bio of a driver with this translation
+-- the walk over a driver's bio with this translation
 abbrev pub bio_walk : Translation → Bio → Entries
 bio_walk t bio = spans_walk (is_rounded bio) (bio_translation t bio) (bio_spans bio)
 
--- its stream
+-- the stream of a driver's bio with this translation
 abbrev pub bio_stream : Translation → Bio → List Part
 bio_stream t bio = spans_stream (is_rounded bio) (bio_translation t bio) (bio_spans bio)

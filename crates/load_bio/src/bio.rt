@@ -1,4 +1,4 @@
-//! The walk over a bio, as entries and as a stream.
+//! The walk over a bio, as entries and as a stream of parts.
 
 ghost use Rattle.std.specs.Prelude.{◌≡◌, ◌^◌, ◌<◌, ◌≤◌, IfOk, List, map};
 ghost use Rattle.std.specs.Iterator.{HoldsAlong, YieldsFirst, item_count};
@@ -20,8 +20,9 @@ use phys_memory::{Entries, FlatParts, LanePages, VectorParts};
 use std::alloc::{AllocError, Global};
 use std::marker::Model;
 
-/// The parts of a bio, in order: the extents of each of its entries, the first of which opens it, up to
-/// the first byte that cannot be reached, and then `Unmapped` with the offset of that byte in the
+/// The parts of a bio, in order: the extents of its entries. The first extent of an entry opens it.
+///
+/// At the first byte that cannot be reached, the last part is `Unmapped` with the offset of that byte in the
 /// bio.
 #[derive(Drop)]
 pub struct BioParts<'a> {
@@ -63,10 +64,16 @@ impl<'a> Iterator for BioParts<'a> {
     }
 }
 
-/// The entries of a bio of a driver, in order, or the offset in the bio of the first byte that cannot be
-/// reached. A mapped bio is one entry, or none where it has no byte; a vector is one for each span that
-/// has a byte. An unmapped bio is as a mapped one, but not rounded, and the bytes past its last frame
-/// cannot be reached.
+/// Returns the entries of a driver's bio, in order, or the offset in the bio of the first byte that cannot be
+/// reached.
+///
+/// A mapped bio has one entry, or none if it has no byte. A vector has one entry for each span that has a
+/// byte. An unmapped bio is walked like a mapped one, but its entry is not rounded, and the bytes past its
+/// last frame cannot be reached. After `bus_dmamap_load_bio` of `bus_dma(9)`.
+///
+/// # Errors
+///
+/// `AllocError` if memory runs out.
 pub fn walk(alloc: Global, memory: &LanePages, bio: &Bio) -> Result<Entries, AllocError>
     requires bio { IsBio bio.now }
     requires bytes { span_bytes (bio_spans bio.now) < 2 ^ 64 }
@@ -86,7 +93,8 @@ pub fn walk(alloc: Global, memory: &LanePages, bio: &Bio) -> Result<Entries, All
     }
 }
 
-/// The parts of a bio of a driver, which are those of the entries where all bytes can be reached.
+/// Returns the parts of a driver's bio. If all bytes can be reached, they are the parts of the entries of
+/// `walk`.
 pub fn parts<'a>(memory: &'a LanePages, bio: &'a Bio) -> BioParts<'a>
     requires bio { IsBio bio.now }
     requires bytes { span_bytes (bio_spans bio.now) < 2 ^ 64 }
@@ -104,7 +112,7 @@ pub fn parts<'a>(memory: &'a LanePages, bio: &'a Bio) -> BioParts<'a>
     }
 }
 
-/// The parts of a span of a driver, which are those of a bio that is mapped there.
+/// Returns the parts of a span of a driver, which are those of a bio that is mapped there.
 pub fn parts_of_span(memory: &LanePages, span: Span) -> BioParts<'_>
     ensures parts { result ≡ bio_stream (physical memory.now.memory) (Mapped span) }
     ensures walk { IfAll (bio_walk (physical memory.now.memory) (Mapped span)) (λ es. result ≡ parts_of es) }
@@ -117,7 +125,7 @@ pub fn parts_of_span(memory: &LanePages, span: Span) -> BioParts<'_>
     }
 }
 
-/// The parts of spans of a driver, which are those of a bio that is the vector of them.
+/// Returns the parts of the spans of a driver, in order, which are those of a bio that is the vector of them.
 pub fn parts_of_spans<'a>(memory: &'a LanePages, spans: &'a [Span]) -> BioParts<'a>
     requires { span_bytes spans.now < 2 ^ 64 }
     ensures parts { result ≡ bio_stream (physical memory.now.memory) (Vector spans.now) }
@@ -131,8 +139,8 @@ pub fn parts_of_spans<'a>(memory: &'a LanePages, spans: &'a [Span]) -> BioParts<
     }
 }
 
-/// The parts of `len` bytes of frames, from `off` in the first on, which are those of a bio that is not
-/// mapped, whatever a driver reaches.
+/// Returns the parts of `len` bytes of frames, from the byte `off` of the first frame on, which are those of
+/// an unmapped bio. They do not depend on what a driver reaches. The frames are given by their numbers.
 pub fn parts_of_frames(frames: &[u64], off: u64, len: u64) -> BioParts<'_>
     requires off { off < 4096 }
     requires frames { AreFrames frames.now }

@@ -1,4 +1,4 @@
-//! The entry of bytes of frames that are not mapped.
+//! The entries of the bytes of an unmapped bio.
 
 ghost use Rattle.std.specs.Prelude.{◌≡◌, ◌<◌, false, IfOk};
 ghost use Rattle.busdma_machine.specs.Machine.Spans.{one_span};
@@ -10,8 +10,9 @@ use busdma_machine::{Entry, EntryList, ExtentList, Part};
 use phys_memory::Entries;
 use std::alloc::{AllocError, Global};
 
-/// The entry of `len` bytes of frames, from `off` in the first on, where there is a byte; or the offset
-/// of the first byte past the last frame.
+/// Returns the entry of `len` bytes of frames, from the byte `off` of the first frame on, or no entry if
+/// there is no byte. If the frames are too short, it returns the offset of the first byte past the last
+/// frame.
 pub(crate) fn walk_frames(
     alloc: Global,
     frames: &[u64],

@@ -1,4 +1,4 @@
-//! The stream of bytes of frames that are not mapped.
+//! The stream of the bytes of an unmapped bio.
 
 ghost use Rattle.std.specs.Prelude.{◌≡◌, ℕ, ◌^◌, ◌<◌, ◌≤◌, false};
 ghost use Rattle.std.specs.Iterator.{YieldsFirst, item_count};
@@ -10,9 +10,10 @@ ghost use Rattle.busdma_rules.specs.Memory.BioFrames.{AreFrames, in_frames};
 use busdma_machine::{Extent, Pa, Part};
 use std::marker::Model;
 
-/// The parts of `left` bytes of frames, from `off` in the first on: one for each frame, up to the last
-/// byte, or to the end of the last frame and then `Unmapped` with the offset of the next byte. They
-/// are of one entry that is not rounded.
+/// The parts of `left` bytes of frames, from the byte `off` of the first frame on: one part for each frame.
+///
+/// If the frames are too short, the last part is `Unmapped` with the offset of the first byte past the last
+/// frame. The parts are of one entry that is not rounded.
 #[derive(Drop)]
 pub(crate) struct FrameParts<'a> {
     frames: &'a [u64],
@@ -70,7 +71,7 @@ impl<'a> Iterator for FrameParts<'a> {
     }
 }
 
-/// The parts of `len` bytes of frames, from `off` in the first on.
+/// Returns the parts of `len` bytes of frames, from the byte `off` of the first frame on.
 pub(crate) fn frame_parts(frames: &[u64], off: u64, len: u64) -> FrameParts<'_>
     requires off { off < 4096 }
     requires frames { AreFrames frames.now }

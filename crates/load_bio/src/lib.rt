@@ -1,5 +1,5 @@
-//! Loads of bios, after bus_dma(9)'s `bus_dmamap_load_bio`: mapped in one run or in several, or not
-//! mapped.
+//! Loads of bios, after `bus_dmamap_load_bio` of `bus_dma(9)`. A bio is mapped in one span, mapped in several
+//! spans, or not mapped.
 #![tactic(auto)]
 
 mod bio;

@@ -1,4 +1,4 @@
-//! The bytes of a chain: how many they are, and the walk over them, as entries and as a stream.
+//! The bytes of a chain: how many there are, and the walk over them, as entries and as a stream of parts.
 
 ghost use Rattle.std.specs.Prelude.{◌≡◌, ◌^◌, ◌<◌, ◌≤◌, IfOk, map};
 ghost use Rattle.std.specs.Iterator.{HoldsAlong, YieldsFirst};
@@ -14,12 +14,14 @@ use busdma_machine::Mbuf;
 use phys_memory::{Entries, LanePages, VectorParts};
 use std::alloc::{AllocError, Global};
 
-/// The parts of a chain, in order: the extents of each mbuf, the first of which opens its entry, up to
-/// the first byte that cannot be reached, and then `Unmapped` with the offset of that byte in the
-/// whole chain. An mbuf of length 0 gives nothing.
+/// The parts of a chain, in order: the extents of each mbuf that has a byte. The first extent of an mbuf
+/// opens its entry.
+///
+/// At the first byte that cannot be reached, the last part is `Unmapped` with the offset of that byte in the
+/// chain.
 pub type MbufParts<'a> = VectorParts<'a>;
 
-/// The number of bytes of a chain.
+/// Returns the number of bytes of a chain.
 pub fn total(chain: &[Mbuf]) -> u128
     ensures { result ≡ span_bytes chain.now }
 {
@@ -30,8 +32,14 @@ pub fn total(chain: &[Mbuf]) -> u128
     bytes
 }
 
-/// The entries of a chain of a driver, in order: one for each mbuf that has a byte, or the offset in
-/// the whole chain of the first byte that cannot be reached.
+/// Returns the entries of a driver's chain, in order: one for each mbuf that has a byte. If a byte cannot be
+/// reached, it returns the offset in the chain of the first such byte.
+///
+/// After `bus_dmamap_load_mbuf` of `bus_dma(9)`.
+///
+/// # Errors
+///
+/// `AllocError` if memory runs out.
 pub fn walk(alloc: Global, memory: &LanePages, chain: &[Mbuf]) -> Result<Entries, AllocError>
     requires { span_bytes chain.now < 2 ^ 64 }
     ensures walk { IfOk result (λ w. w ≡ vector_walk (physical memory.now.memory) chain.now) }
@@ -45,7 +53,8 @@ pub fn walk(alloc: Global, memory: &LanePages, chain: &[Mbuf]) -> Result<Entries
     memory.walk_vector(alloc, chain)
 }
 
-/// The parts of a chain of a driver, which are those of the entries where all bytes can be reached.
+/// Returns the parts of a driver's chain. If all bytes can be reached, they are the parts of the entries of
+/// `walk`.
 pub fn parts<'a>(memory: &'a LanePages, chain: &'a [Mbuf]) -> MbufParts<'a>
     requires { span_bytes chain.now < 2 ^ 64 }
     ensures parts { result ≡ vector (physical memory.now.memory) chain.now }

@@ -1,4 +1,4 @@
-//! Loads of mbuf chains, after bus_dma(9)'s `bus_dmamap_load_mbuf`. A chain is a vector of the
+//! Loads of mbuf chains, after `bus_dmamap_load_mbuf` of `bus_dma(9)`. A chain is a vector of spans of the
 //! driver's memory under another name.
 #![tactic(auto)]
 

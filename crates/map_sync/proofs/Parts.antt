@@ -22,7 +22,7 @@ part_append from to xs ys =
     ∙ take_append (to - from) (drop from xs) (drop (from - length xs) ys)
     ∙ ap (λ k. take (to - from) (drop from xs) ++ take k (drop (from - length xs) ys)) e
 
--- bytes that are put at some addresses, and others at others
+-- bytes that are put at some addresses, and others that are put at others
 pub put_both : (xs ys vs us : List ℕ) (w : Wire) → length xs ≡ length vs →
     put (xs ++ ys) (vs ++ us) w ≡ put ys us (put xs vs w)
 put_both [] ys [] us w h = refl

@@ -26,7 +26,7 @@ use Rattle.map_sync.specs.Ranges.{chunk_range, range_of_chunks}
 use Rattle.map_sync.proofs.Placing.{all_part, bounced_range, bus_frame, in_frames, range_buffers, range_buses}
 use Rattle.map_sync.proofs.Placing.{unbounced_range}
 
--- what stands at a place that a list of chunks does not have
+-- the chunk that is read at a place outside the list
 abbrev pub no_chunk : Chunk
 no_chunk =
     record { at = 0; first = record { pa = record { 0 = 0 }; len = 0 }; rest = None; bounced = false; page = None }
@@ -52,7 +52,7 @@ copied_more key from f w off len c cs =
     ∙ put_positions key from f (filter is_bounced (chunk_range off len c))
     (filter is_bounced (range_of_chunks off len cs)) w
 
--- the chunk at a place, and those behind it
+-- the chunk at a place, and those after it
 pub copied_at : (key from : Placed → ℕ) (f w now : Wire) (off len : ℕ) (cs : List Chunk) (i : ℕ) (d : Chunk) →
     i < length cs → now ≡ copied key from f (chunk_range off len (get_or cs i d)) w
     → copied key from f (range_of_chunks off len (drop (i + 1) cs)) now
@@ -99,7 +99,7 @@ held_skip m cs i d fs h e held =
     first c xs q z = rw (ap is_some q) at z
 
 -- ---- the page of a chunk, among the others
--- the frames of pages that changed their bytes alone
+-- the frames of pages of which only the bytes changed
 pub still_differ : (now old : List FrameBytes) → frames_of now ≡ frames_of old →
     AllPairs (λ f g. f ≢ g) (frames_of old) → AllPairs (λ f g. f ≢ g) (frames_of now)
 still_differ now old e h = subst (AllPairs (λ f g. f ≢ g)) (sym e) h
@@ -197,7 +197,7 @@ pub frames_written : (now old : List FrameBytes) (k : ℕ) (new d : FrameBytes) 
     new.frame ≡ (get_or now k d).frame → frames_of (set now k new) ≡ frames_of old
 frames_written now old k new d same e = map-set_same (λ (p : FrameBytes). p.frame) now k new d e ∙ same
 
--- a chunk is copied into the page that is the next
+-- a chunk is copied into the next page
 pub step_in : (m : Memory) (old now : List FrameBytes) (cs : List Chunk) (i : ℕ) (c : Chunk) (next : ℕ) (bus : Pa)
     (e new : FrameBytes) (off len from to : ℕ) → AreApart m (frames_of old) →
     frames_of now ≡ frames_of old → c.page ≡ Some bus
@@ -257,7 +257,7 @@ chunk_out m pages w0 now new k off len c bus apart h paged held away is =
     ∙ ap (λ ps. put (buffers ps) (map (with_bytes_of pages w0) (buses ps)) (with_bytes_of pages now))
     (sym (bounced_range m off len c bus _ paged held away))
 
--- a chunk is copied out of the page that is the next
+-- a chunk is copied out of the next page
 pub step_out : (m : Memory) (pages : List FrameBytes) (w0 now new : Wire) (cs : List Chunk) (i : ℕ) (c : Chunk)
     (next : ℕ) (bus : Pa) (e page : FrameBytes) (off len from to : ℕ) → page ≡ get_or pages next e →
     AreApart m (frames_of pages) → c.page ≡ Some bus

@@ -26,13 +26,13 @@ part_three from to g n xs ys zs e h =
     ∙ ap (λ ps. part from to xs ++ ps) (part_append (from - g) (to - g) ys zs
     ∙ ap (λ k. part (from - g) (to - g) ys ++ part (from - g - k) (to - g - k) zs) h)
 
--- nothing is bounced in a part of positions of which none is
+-- nothing is bounced in a part of positions that are not bounced
 none_in_part : (from to : ℕ) (ps : List Placed) → AllByRecursion (λ p. is_bounced p ≡ false) ps →
     filter is_bounced (part from to ps) ≡ []
 none_in_part from to ps h =
     filter_none (part from to ps) (all_take _ (to - from) (drop from ps) (all_drop _ from ps h))
 
--- one chunk, and those behind it
+-- one chunk, and those after it
 one_more : (place off len : ℕ) (ps : List Placed) (c : Chunk) (cs : List Chunk) → HasChunk place ps c
     → (let end = c.at + chunk_len c in
     filter is_bounced (part (off - end) (off + len - end) (drop (end - place) ps))

@@ -7,7 +7,7 @@ use Rattle.phys_memory.specs.Frames.{Lie}
 use Rattle.phys_memory.specs.Memory.{Memory}
 use Rattle.busdma_rules.specs.Segments.Trace.{bus_extent, chunk_extents}
 
--- the chunks that have a page
+-- the chunks that have a page, in order
 abbrev pub paged : List Chunk → List Chunk
 paged cs = filter (λ c. is_some c.page) cs
 

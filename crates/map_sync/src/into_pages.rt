@@ -16,11 +16,12 @@ ghost use Rattle.map_sync.specs.Ranges.{range_of_chunks};
 use busdma_machine::{Chunk, Extent, Pa, Page};
 use phys_memory::LanePages;
 
-/// Copies the bytes of a load at its places from `off` to `off + len - 1` from the driver's memory
-/// to their bus addresses, where they lie in chunks that have a page: what PREWRITE asks for.
+/// Copies the bytes of a load from `off` to `off + len - 1`, as far as they are in chunks with a page, from
+/// the driver's memory into their bounce pages. This is what `PREWRITE` does.
 ///
-/// The chunks are those of the load or its bounced ones alone. The i-th of them that has a page has
-/// the i-th of `pages`, and its bytes begin there at the bus address that `page` names.
+/// `chunks` are those of the load, or only its bounced ones. The i-th chunk that has a page has the i-th of
+/// `pages`, and its bytes begin there at the bus address that the chunk names. After `bus_dmamap_sync(9)`;
+/// the range is this project's own.
 pub fn copy_in(chunks: &[Chunk], off: u64, len: u64, memory: &LanePages, pages: &mut [Page])
     requires held { AllZip (IsHeld memory.now.memory) (paged chunks.now) (frames_of pages.old) }
     requires apart { AreApart memory.now.memory (frames_of pages.old) }
@@ -41,8 +42,8 @@ pub fn copy_in(chunks: &[Chunk], off: u64, len: u64, memory: &LanePages, pages: 
     }
 }
 
-/// Copies the bytes of a chunk from its byte `from` up to its byte `to`, or to its end, into its
-/// page, where they begin at a bus address.
+/// Copies the bytes of a chunk from its byte `from` up to its byte `to`, or to its end, into its page. `bus`
+/// is the bus address of the chunk's first byte.
 fn copy_chunk_in(chunk: &Chunk, bus: Pa, from: u64, to: u64, memory: &LanePages, page: &mut Page)
     requires buffer { Lie memory.now.memory (chunk_extents chunk.now) }
     requires bus { IsExtent (bus_extent chunk.now) }
@@ -62,7 +63,8 @@ fn copy_chunk_in(chunk: &Chunk, bus: Pa, from: u64, to: u64, memory: &LanePages,
     }
 }
 
-/// The same for one extent of a chunk.
+/// Copies the bytes of an extent from its byte `from` up to its byte `to`, or to its end, into a page. `bus`
+/// is the bus address of the extent's first byte.
 fn copy_extent_in(extent: Extent, bus: Pa, from: u64, to: u64, memory: &LanePages, page: &mut Page)
     requires extent { IsExtent extent }
     requires there { LiesIn memory.now.memory extent }

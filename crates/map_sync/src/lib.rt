@@ -1,7 +1,7 @@
 //! Copies between a driver's buffers and its bounce pages: what a sync of a range of a load does.
 //!
-//! After the x86 bounce code, which copies a whole load; the range is this project's own. No call
-//! takes memory.
+//! After the x86 bounce code, which copies a complete load; the range is this project's own. No call takes
+//! memory.
 #![tactic(auto)]
 
 mod into_pages;

@@ -16,12 +16,13 @@ ghost use Rattle.map_sync.specs.Ranges.{range_of_chunks};
 use busdma_machine::{Chunk, Extent, Pa, Page};
 use phys_memory::LanePages;
 
-/// Copies the bytes of a load at its places from `off` to `off + len - 1` back from their bus
-/// addresses into the driver's memory, where they lie in chunks that have a page: what POSTREAD
-/// asks for, whether or not the device wrote them.
+/// Copies the bytes of a load from `off` to `off + len - 1`, as far as they are in chunks with a page, from
+/// their bounce pages back into the driver's memory. This is what `POSTREAD` does, whether or not the device
+/// wrote the bytes.
 ///
-/// The chunks are those of the load or its bounced ones alone. The i-th of them that has a page has
-/// the i-th of `pages`, and its bytes begin there at the bus address that `page` names.
+/// `chunks` are those of the load, or only its bounced ones. The i-th chunk that has a page has the i-th of
+/// `pages`, and its bytes begin there at the bus address that the chunk names. After `bus_dmamap_sync(9)`;
+/// the range is this project's own.
 pub fn copy_out(chunks: &[Chunk], off: u64, len: u64, memory: &mut LanePages, pages: &[Page])
     requires held { AllZip (IsHeld memory.old.memory) (paged chunks.now) (frames_of pages.now) }
     requires apart { AreApart memory.old.memory (frames_of pages.now) }
@@ -43,8 +44,8 @@ pub fn copy_out(chunks: &[Chunk], off: u64, len: u64, memory: &mut LanePages, pa
     }
 }
 
-/// Copies the bytes of a chunk from its byte `from` up to its byte `to`, or to its end, back from
-/// its page, where they begin at a bus address.
+/// Copies the bytes of a chunk from its byte `from` up to its byte `to`, or to its end, out of its page.
+/// `bus` is the bus address of the chunk's first byte.
 fn copy_chunk_out(chunk: &Chunk, bus: Pa, from: u64, to: u64, memory: &mut LanePages, page: &Page)
     requires buffer { Lie memory.old.memory (chunk_extents chunk.now) }
     requires bus { IsExtent (bus_extent chunk.now) }
@@ -65,7 +66,8 @@ fn copy_chunk_out(chunk: &Chunk, bus: Pa, from: u64, to: u64, memory: &mut LaneP
     }
 }
 
-/// The same for one extent of a chunk.
+/// Copies the bytes of an extent from its byte `from` up to its byte `to`, or to its end, out of a page.
+/// `bus` is the bus address of the extent's first byte.
 fn copy_extent_out(extent: Extent, bus: Pa, from: u64, to: u64, memory: &mut LanePages, page: &Page)
     requires extent { IsExtent extent }
     requires there { LiesIn memory.old.memory extent }

@@ -69,7 +69,7 @@ put_on xs ys us vs w now e h is =
     (same_reads vs w then (all_imply (IsAway xs) (λ a. w a ≡ then a) (λ a p. put_away xs (map w us) w a p) vs h))
     ∙ sym (ap (λ (n : Wire). put ys (map n vs) n) is)
 
--- ---- a run, and what is left behind it
+-- ---- a run, and what is left after it
 pub split_run : (a n left : ℕ) (rest : List ℕ) → n ≤ left →
     take left (run_of a n ++ rest) ≡ run_of a n ++ take (left - n) rest
 split_run a n left rest h =
@@ -115,7 +115,7 @@ bytes_length (e ∷ es) =
     ∙ (λ i. length-run_of e.pa.0 e.len i + bytes_length es i)
     ∙ sym (sum_by-cons (λ (e : Extent). e.len) e es)
 
--- behind a run
+-- after a run
 pub drop_past : (n a : ℕ) (rest : List ℕ) → drop n (run_of a n ++ rest) ≡ rest
 drop_past zero a rest = refl
 drop_past (suc n) a rest = drop_past n (a + 1) rest

@@ -8,12 +8,12 @@ use Rattle.busdma_machine.specs.declared.machine.address.Va.{Va}
 use Rattle.busdma_machine.specs.Machine.Spans.{span_bytes}
 use Rattle.mbuf_defrag.specs.Plan.{front_of, plan}
 
--- nothing is left of no byte
+-- the front of no byte is empty
 pub front_none : (cs : List Va) → front_of 0 cs ≡ []
 front_none [] = refl
 front_none (c ∷ cs) = refl
 
--- where clusters are enough, their front has as many bytes as were asked for
+-- if there are enough clusters, their front has as many bytes as were asked for
 pub front_bytes : (n : ℕ) (cs : List Va) → n ≤ 4096 * length cs → span_bytes (front_of n cs) ≡ n
 front_bytes n [] h = omega (arith, h)
 front_bytes n (c ∷ cs) h = by (λ k. front_bytes (n - 4096) cs k) (n == 0) refl

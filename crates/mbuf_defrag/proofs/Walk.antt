@@ -9,11 +9,11 @@ use Rattle.phys_memory.proofs.Extents.{length-run_of}
 use Rattle.phys_memory.proofs.RunParts.{drop_append, drop_run, run_append}
 use Rattle.mbuf_defrag.specs.Walking.{BeginsLow, rest_from}
 
--- what stands at a place that a list of extents does not have
+-- the extent that is read at a place outside the list
 abbrev pub no_extent : Extent
 no_extent = record { pa = record { 0 = 0 }; len = 0 }
 
--- the bytes of an extent, and of those behind it
+-- the bytes of an extent, and of the extents after it
 bytes_more : (es : List Extent) (i : ℕ) → i < length es
     → addresses (drop i es) ≡ run_of (get_or es i no_extent).pa.0 (get_or es i no_extent).len ++ addresses (drop (i + 1) es)
 bytes_more es i h = ap addresses (drop_more es i no_extent h)
@@ -22,7 +22,7 @@ nothing_dropped : (k : ℕ) (xs : List ℕ) → xs ≡ [] → length (drop k xs)
 nothing_dropped zero xs e = ap length e
 nothing_dropped (suc k) xs e = ap (λ ys. length (drop (suc k) ys)) e
 
--- behind an extent
+-- after an extent
 pub past_extent : (es : List Extent) (i skip : ℕ) → i < length es → (get_or es i no_extent).len ≤ skip
     → rest_from es (i + 1) (skip - (get_or es i no_extent).len) ≡ rest_from es i skip
 past_extent es i skip h k =
@@ -34,7 +34,7 @@ past_extent es i skip h k =
     (drop_all skip run (omega (arith, count)))
     ∙ ap (λ n. drop (skip - n) (addresses (drop (i + 1) es))) count)
 
--- where a byte is left, so is its extent
+-- a byte that is left has an extent
 pub some_extent : (es : List Extent) (i skip : ℕ) → 0 < length (rest_from es i skip) → i < length es
 some_extent es i skip h = elim (cases_lt i (length es)) [
   | inl l ↦ l
@@ -55,7 +55,7 @@ within_extent es i skip h k =
     ap (drop skip) (bytes_more es i h) ∙ drop-append-le skip run (addresses (drop (i + 1) es)) fits
     ∙ ap (λ xs. xs ++ addresses (drop (i + 1) es)) (drop_run skip s.pa.0 s.len)
 
--- a run of an extent's bytes, and what is behind it
+-- a run of an extent's bytes, and what is after it
 pub next_run : (es : List Extent) (i skip n : ℕ) → i < length es → skip + n ≤ (get_or es i no_extent).len
     → rest_from es i skip ≡ run_of ((get_or es i no_extent).pa.0 + skip) n ++ rest_from es i (skip + n)
 next_run es i skip n h k =

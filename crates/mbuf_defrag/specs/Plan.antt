@@ -5,12 +5,12 @@ use Rattle.busdma_machine.specs.declared.machine.address.Span.{Span}
 use Rattle.busdma_machine.specs.declared.machine.address.Va.{Va}
 use Rattle.busdma_machine.specs.Machine.Spans.{span_bytes}
 
--- the first n bytes of clusters of 4096 bytes each, as a vector: whole clusters, and of the last as many as are left
+-- the first n bytes of clusters of 4096 bytes each, as spans in order; only the last span can be shorter than a cluster
 abbrev pub front_of : ℕ → List Va → List Span
 front_of n [] = []
 front_of n (c ∷ cs) = if n == 0 then [] else record { va = c; len = min n 4096 } ∷ front_of (n - 4096) cs
 
--- as many bytes of clusters as a chain has, where they are enough
+-- the first bytes of the clusters, as many as the chain has, or none if the clusters have too few
 abbrev pub plan : List Span → List Va → Option (List Span)
 plan chain clusters =
     if nat_lt (4096 * length clusters) (span_bytes chain) then None else Some (front_of (span_bytes chain) clusters)

@@ -5,20 +5,20 @@ use Rattle.busdma_machine.specs.Runs.{addresses}
 use Rattle.phys_memory.specs.Memory.{Memory, has_frame}
 use Rattle.mbuf_defrag.specs.declared.cursor.Cursor.{Cursor}
 
--- the addresses from a place in extents on
+-- the addresses of the bytes of extents, from a place in one of them on
 abbrev pub rest_from : List Extent → ℕ → ℕ → List ℕ
 rest_from extents index skip = drop skip (addresses (drop index extents))
 
--- those from a cursor's place on
+-- the addresses of the bytes from a cursor's place on
 abbrev pub rest_of : Cursor → List ℕ
 rest_of c = rest_from c.extents.now c.index c.skip
 
--- the byte at an address lies in a frame of the memory, which has a number below 2^30
+-- the address is below 2^42, and the memory has the frame that it lies in
 pub record IsThere (m : Memory) (a : ℕ) : Type 0 where
   pub numbered : a < 2 ^ 42
   pub found : has_frame m (a / 4096) ≡ true
 
--- the first of these addresses, if there is one, lies in a frame of a number below 2^30
+-- the first of these addresses, if there is one, lies in a frame with a number below 2^30
 abbrev pub BeginsLow : List ℕ → Type 0
 BeginsLow [] = Unit {0}
 BeginsLow (a ∷ rest) = a < 2 ^ 42

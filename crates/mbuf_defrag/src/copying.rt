@@ -1,4 +1,4 @@
-//! The copy of bytes from extents to extents of a driver's memory.
+//! The copy of bytes from extents to other extents of a driver's memory.
 
 ghost use Rattle.std.specs.Prelude.{◌≡◌, ◌≤◌, length, take, drop, map};
 ghost use Rattle.std.specs.List.{AllByRecursion};
@@ -14,7 +14,9 @@ use crate::cursor::Cursor;
 use busdma_machine::{Extent, Pa};
 use phys_memory::LanePages;
 
-/// Copies the bytes of extents to as many others, in order. Both lie in the memory, and share no byte.
+/// Copies the bytes of the extents `from` to the extents `to`, in order.
+///
+/// Both have as many bytes, lie in frames of the memory, and share no byte.
 pub fn copy(from: &[Extent], to: &[Extent], memory: &mut LanePages)
     requires from { Lie memory.old.memory from.now }
     requires to { Lie memory.old.memory to.now }
@@ -30,7 +32,7 @@ pub fn copy(from: &[Extent], to: &[Extent], memory: &mut LanePages)
     }
 }
 
-/// Copies the next bytes of a source into an extent, until it has all.
+/// Copies the next bytes of a source into an extent, until the extent is full.
 fn copy_into(source: &mut Cursor<'_>, target: Extent, memory: &mut LanePages)
     requires target { IsExtent target }
     requires lies { LiesIn memory.old.memory target }

@@ -1,4 +1,4 @@
-//! The way through the bytes of extents.
+//! A position that moves through the bytes of extents.
 
 ghost use Rattle.std.specs.Prelude.{◌≡◌, ◌<◌, ◌≤◌, ◌++◌, length};
 ghost use Rattle.busdma_machine.specs.Runs.{IsExtent, addresses, run_of};
@@ -6,7 +6,7 @@ ghost use Rattle.mbuf_defrag.specs.Walking.{BeginsLow, rest_of};
 
 use busdma_machine::{Extent, Pa};
 
-/// A place among the bytes of extents: so many bytes behind the begin of one of them.
+/// A position among the bytes of extents: a number of bytes after the start of one of them.
 #[derive(Drop)]
 pub(crate) struct Cursor<'a> {
     extents: &'a [Extent],
@@ -15,7 +15,7 @@ pub(crate) struct Cursor<'a> {
 }
 
 impl<'a> Cursor<'a> {
-    /// The place of the first byte.
+    /// Returns the position of the first byte.
     pub(crate) fn new(extents: &'a [Extent]) -> Cursor<'a>
         ensures { rest_of result ≡ addresses extents.now }
     {
@@ -26,8 +26,8 @@ impl<'a> Cursor<'a> {
         }
     }
 
-    /// The next bytes, at most so many, as far as they lie in one extent and in one frame. The place
-    /// moves behind them.
+    /// Returns the extent of the next bytes, at most `most`, that lie in one frame, and moves the position
+    /// past them.
     pub(crate) fn next(&mut self, most: u64) -> Extent
         requires some { 0 < most }
         requires left { 0 < length (rest_of self.old) }

@@ -8,8 +8,14 @@ use busdma_machine::{Mbuf, Span, SpanList, Va};
 use load_mbuf::total;
 use std::alloc::{AllocError, Global};
 
-/// As many bytes of clusters as a chain has, in order, as a vector; None where they are too few. A
-/// cluster is 4096 bytes from a virtual address on.
+/// Returns the first bytes of the clusters, as many as the chain has, as spans in order, or `None` if the
+/// clusters have too few bytes.
+///
+/// A cluster is the 4096 bytes from a virtual address on. After `m_defrag(9)`.
+///
+/// # Errors
+///
+/// `AllocError` if memory runs out.
 pub fn plan(alloc: Global, chain: &[Mbuf], clusters: &[Va]) -> Result<Option<SpanList>, AllocError>
     ensures plan { IfOk result (λ spans. spans ≡ plan chain.now clusters.now) }
     ensures bytes { IfOk result (λ spans. IfSome spans (λ v. span_bytes v ≡ span_bytes chain.now)) }

@@ -25,7 +25,7 @@ use Rattle.memory_load.specs.MemoryLoad.{run_entries, run_parts}
 
 -- ---- one part after the other
 
--- what stands behind the part of one frame begins a frame
+-- the bytes after the part of one frame begin a frame
 next_frame : (a n : ℕ) → (0 < n → a % 4096 ≡ 0) → BeginsFrame (run_of a n)
 next_frame a zero h = tt
 next_frame a (suc n) h = h (omega arith)

@@ -60,7 +60,7 @@ are_segments t first len segments few =
     one_segmentation (unaligned t) segments ps few.0 ∙ same_segments t ps
     ∙ ap (segmentation t) (pieces_are t first len)
 
--- where they are too many, so are those of the memory's load
+-- if the segments of the stream are too many, so are those of the memory's load
 pub are_many : (t : TagLimits) (first len : ℕ) →
     AreTooMany (unaligned t) (placed_pieces (unaligned t)
     (stream_chunks (unaligned t) 0 (run_parts true first len)) []) → t.nsegments < length (run_segments t first len)

@@ -40,12 +40,12 @@ unbounced t at (e ∷ es) =
     (within (length (entry_addresses e)) t e.rounded at (entry_addresses e))
     (unbounced t (at + byte_count e.parts) es)
 
--- there are none to count
+-- no chunk of unbounced chunks is counted
 pub none_bounced : (cs : List Chunk) → AllByRecursion IsUnbounced cs → bounced_of cs ≡ []
 none_bounced [] h = refl
 none_bounced (c ∷ cs) h = let own = h.0 in rw own (none_bounced cs h.1)
 
--- and none to place
+-- unbounced chunks need no page
 pub stay_placed : (keep : Bool) (cs : List Chunk) (pages : List Pa) → AllByRecursion IsUnbounced cs →
     placed keep cs pages ≡ cs
 stay_placed keep [] pages h = refl

@@ -1,4 +1,4 @@
--- The load of a memory: its bytes are one run of physical addresses, in whole frames that follow one another.
+-- The load of a memory: its bytes are one run of physical addresses, in frames that follow one another.
 use Rattle.std.specs.Prelude.{ℕ, Bool, true, List, []}
 use Rattle.busdma_machine.specs.declared.machine.address.Segment.{Segment}
 use Rattle.busdma_machine.specs.declared.machine.chunk.Chunk.{Chunk}
@@ -13,19 +13,20 @@ use Rattle.busdma_rules.specs.Segments.Building.{placed_pieces}
 use Rattle.busdma_rules.specs.Segments.Chunks.{chunks_of}
 use Rattle.busdma_rules.specs.Segments.Segmentation.{segmentation}
 
--- the entries of the `len` bytes from an address on: one that is rounded, or none where there is no byte
+-- the entries of the `len` bytes from a physical address on: one that is rounded, or none if there is no byte
 abbrev pub run_entries : ℕ → ℕ → List Entry
 run_entries first len = with_entry true (run_of first len) []
 
--- limits that ask for no alignment
+-- the same limits without an alignment
 abbrev pub unaligned : TagLimits → TagLimits
 unaligned t = record t { alignment = 1 }
 
--- the chunks of a memory's load: of a machine with no frame that is excluded, and with no alignment
+-- the chunks of a memory's load, of which none bounces: they are cut by limits without alignment, on a machine without
+-- frames above lowaddr
 abbrev pub run_chunks : TagLimits → ℕ → ℕ → List Chunk
 run_chunks t first len = chunks_of (unaligned t) 0 (run_entries first len)
 
--- their pieces, by the tag's own limits
+-- the pieces of a memory's load, by the tag's own limits
 abbrev pub run_pieces : TagLimits → ℕ → ℕ → List Segment
 run_pieces t first len = placed_pieces t (run_chunks t first len) []
 
@@ -33,7 +34,7 @@ run_pieces t first len = placed_pieces t (run_chunks t first len) []
 abbrev pub run_segments : TagLimits → ℕ → ℕ → List Segment
 run_segments t first len = segmentation t (run_pieces t first len)
 
--- What the private steps of the code do; no public clause cites it: the parts of the `len` bytes from an address on, of
--- which the first opens an entry or does not
+-- What the private steps of the code do; no public clause cites it: the parts of the `len` bytes from a physical
+-- address on, of which the first opens an entry or does not
 abbrev pub run_parts : Bool → ℕ → ℕ → List Part
 run_parts opens first len = extent_parts opens true (extents_of (run_of first len))

@@ -1,4 +1,4 @@
-//! How many segments a memory's load can have, and their build.
+//! How many pieces a memory's load has, and how its segments are built.
 
 ghost use Rattle.std.specs.Prelude.{◌≡◌, ◌+◌, ◌^◌, ◌<◌, ◌≤◌, [], length, min, true, false};
 ghost use Rattle.busdma_rules.specs.Segments.Building.{tag_placed};
@@ -11,8 +11,8 @@ use busdma_machine::{ChunkRoom, Pa, SegmentRoom};
 use dma_tag::Tag;
 use segment_build::{Measured, build_into, fronts_ask_no_more, measure};
 
-/// How many pieces the load has of the `len` bytes from the physical address `first` on, without memory. It has no more
-/// segments.
+/// Returns the number of pieces of the load of the `len` bytes from the physical address `first` on. The load
+/// has no more segments than pieces. Takes no memory.
 pub fn memory_pieces(tag: &Tag, first: Pa, len: u64) -> u64
     requires small { len ≤ 2 ^ 20 }
     requires inside { first.0 + len ≤ 2 ^ 42 }
@@ -24,10 +24,11 @@ pub fn memory_pieces(tag: &Tag, first: Pa, len: u64) -> u64
     }
 }
 
-/// Builds the segments of the load of the `len` bytes from the physical address `first` on into an empty list, which
-/// has room for the smaller of the pieces and the tag's `nsegments`: it takes no memory. It answers whether the
-/// segments are few enough, and leaves the list empty, with its room, where they are not. `bounced` is an empty list,
-/// and stays so.
+/// Builds the segments of the load of the `len` bytes from the physical address `first` on into the empty
+/// list `list`, and returns whether the tag allows so many.
+///
+/// If there are too many segments, the list is empty again and keeps its room. It needs room for the smaller
+/// of `memory_pieces` and the tag's `nsegments`, so no memory is taken. `bounced` is empty and stays so.
 pub fn build_memory(
     tag: &Tag,
     first: Pa,
@@ -52,7 +53,7 @@ pub fn build_memory(
     build_into(&unaligned, 0, run_parts(first, len), &[], list, bounced)
 }
 
-/// No chunk of a memory's load is bounced: a law.
+/// States the law that no chunk of a memory's load is bounced.
 pub fn no_chunk_bounces(tag: &Tag, first: Pa, len: u64)
     ensures need { need_of (run_chunks tag.now first.0 len) ≡ 0 }
     ensures bounced { bounced_of (tag_placed tag.now (run_chunks tag.now first.0 len) []) ≡ [] }

@@ -1,4 +1,4 @@
-//! The load of a dmamem memory through its own map.
+//! The load of a dmamem memory through its own map, after `bus_dma(9)`.
 #![tactic(auto)]
 
 mod building;

@@ -8,8 +8,8 @@ ghost use Rattle.memory_load.specs.MemoryLoad.{run_parts};
 use busdma_machine::{Extent, PAGE_SIZE, Pa, Part};
 use std::marker::Model;
 
-/// The parts of `left` bytes from the physical address `at` on: one for each frame. They are of one entry, which is
-/// rounded.
+/// The parts of `left` bytes from the physical address `at` on: one for each frame. They are of one entry,
+/// which is rounded.
 #[derive(Drop)]
 pub(crate) struct RunParts {
     at: u64,
@@ -56,7 +56,7 @@ impl Iterator for RunParts {
     }
 }
 
-/// The parts of the `len` bytes from a physical address on.
+/// Returns the parts of the `len` bytes from a physical address on.
 pub(crate) fn run_parts(first: Pa, len: u64) -> RunParts
     requires { first.0 + len ≤ 2 ^ 42 }
     ensures parts { result ≡ run_parts true first.0 len }

@@ -6,7 +6,7 @@ ghost use Rattle.memory_load.specs.MemoryLoad.{unaligned};
 use busdma_machine::TagLimits;
 use dma_tag::Tag;
 
-/// A tag of the same limits that asks for no alignment.
+/// Returns a tag of the same limits that requires no alignment.
 pub(crate) fn unaligned(tag: &Tag) -> Tag
     ensures { result ≡ unaligned tag.now }
 {
@@ -14,7 +14,7 @@ pub(crate) fn unaligned(tag: &Tag) -> Tag
         alignment: 1,
         ..*tag.limits()
     };
-    // The boundary comes from a parent, since a tag's own would cut its maxsegsz.
+    // The boundary comes from a parent, because a boundary of the tag's own would cut its maxsegsz.
     let parent = Tag::create(None, &limits).unwrap();
     let own = TagLimits {
         boundary: 0,

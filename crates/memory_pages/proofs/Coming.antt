@@ -1,4 +1,4 @@
--- Pages that come one behind the other.
+-- Pages that come one after the other.
 use Rattle.std.proofs.Common.{◌≡◌, ◌≢◌, ℕ, suc, ◌+◌, ◌-◌, ◌*◌, ◌/◌, ◌%◌, ◌^◌, ◌<◌, ◌≤◌, Bool, true, false, cond}
 use Rattle.std.proofs.Common.{◌==◌, ◌||◌, List, [], ◌∷◌, length, get_or, min, refl, sym, ap, ◌∙◌, subst}
 use Rattle.std.proofs.Common.{Option, Some, None, is_some, inl, inr, arith}
@@ -30,7 +30,7 @@ filled_frame false p = refl
 pub page_number : (f : ℕ) → virtual_of (4096 * f) / 4096 ≡ pages_end / 4096 + f
 page_number f = omega arith
 
--- where a frame is not there, its page is not
+-- if a frame is not there, its page is not there
 pub no_page : (m : Memory) (f : ℕ) → AreAtTheirFrames m → has_frame m f ≡ false →
     has_page m (virtual_of (4096 * f)) ≡ false
 no_page m f placed h = ap (λ v. is_some (get m.table v)) (page_number f)
@@ -78,7 +78,7 @@ none_put m first len clear all spare row room = record {
   room = room;
 }
 
--- pages behind a frame do not have it
+-- the pages after a frame do not have it
 behind : (clear : Bool) (ps : List FrameBytes) (address f : ℕ) →
     page_addresses ps ≡ frames_from (length ps) address → 4096 * f < address → IsNone (all_filled clear ps) f
 behind clear [] address f row lt = tt
@@ -93,7 +93,7 @@ behind clear (p ∷ ps) address f row lt =
         page_addresses ps ≡ frames_from (length ps) (address + 4096)
     tail e = cc
 
--- one page more
+-- one more page
 module _ (old new : Memory) (first len : ℕ) (clear : Bool) (all : List FrameBytes) (p : FrameBytes)
     (ps : List FrameBytes) (left spare : ℕ) (part : IsPart old new first len clear all (p ∷ ps) left spare) where
   address : 4096 * p.frame ≡ first + 4096 * part.done
@@ -228,7 +228,7 @@ still_placed old new first n len whole comes placed v r e high = at (is_page fir
         any_true true = refl
         any_true false = refl
 
--- no page stands where new frames come
+-- no virtual page has a row at which new frames come
 pub no_row : (m : Memory) (first n v : ℕ) → (0 < n → first % 4096 ≡ 0) → AreAtTheirFrames m → IsWithout m first n →
     is_page first n v ≡ true → get m.table v ≡ None
 no_row m first n v whole placed without h = at (get m.table v) refl
@@ -273,7 +273,7 @@ others_stay clear (p ∷ ps) first w a row h = elim (eqb_tells (a / 4096) (fille
         absurd (false≢true (sym h ∙ in_run_is first (suc (length ps)) a (omega arith) (omega arith)))
     out false e = refl
 
--- those of pages that are filled with 0 are 0
+-- the bytes of pages that are filled with 0 are 0
 pub zeros_come : (ps : List FrameBytes) (first : ℕ) (w : Wire) (a : ℕ) →
     page_addresses ps ≡ frames_from (length ps) first → in_run first (length ps) a ≡ true →
     with_bytes_of (all_filled true ps) w a ≡ 0

@@ -1,4 +1,4 @@
--- Pages that go, one behind the other.
+-- Pages that go, one after the other.
 use Rattle.std.proofs.Common.{◌≡◌, ℕ, zero, suc, ◌+◌, ◌*◌, ◌/◌, ◌%◌, ◌<◌, Bool, true, false, cond, List}
 use Rattle.std.proofs.Common.{[], ◌∷◌, ◌++◌, append_assoc, length, length-append, map, refl, sym, ap, ◌∙◌, subst}
 use Rattle.std.proofs.Common.{Option, Some, None, is_some, arith}
@@ -20,7 +20,7 @@ use Rattle.memory_pages.specs.Bytes.{page_of, pages_of}
 use Rattle.memory_pages.specs.Placed.{AreAtTheirFrames, Goes, HasFrames, IsAtItsFrame, frame_of, is_frame, is_page}
 use Rattle.memory_pages.proofs.Runs.{extend, in_run_end, in_run_hi, in_run_is, in_run_lo, in_run_none, in_run_page}
 
--- one frame more at the end
+-- one more frame at the end
 pub frames_more : (n first : ℕ) → frames_from (n + 1) first ≡ frames_from n first ++ (first + 4096 * n) ∷ []
 frames_more zero first = ap (λ a. a ∷ []) (omega arith)
 frames_more (suc n) first =
@@ -172,7 +172,7 @@ taken_addresses m (suc n) first whole =
     ap (λ a. a ∷ page_addresses (pages_of m (frames_from n (first + 4096)))) here
     ∙ ap (λ xs. first ∷ xs) (taken_addresses m n (first + 4096) (omega arith))
 
--- one page more is taken
+-- one more page is taken
 pub taken_more : (m : Memory) (i first : ℕ) (old : List FrameBytes) →
     (old ++ pages_of m (frames_from i first)) ++ page_of m (first + 4096 * i) ∷ []
     ≡ old ++ pages_of m (frames_from (i + 1) first)

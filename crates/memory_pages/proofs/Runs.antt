@@ -6,7 +6,7 @@ use Rattle.std.proofs.lemmas.Bool.Decides.{nat_tests}
 use Rattle.busdma_machine.specs.Bounce.Door.{IsRow}
 use Rattle.busdma_machine.specs.Bounce.MemoryRuns.{in_run, frames_from}
 
--- a row is told by its first frame and its length
+-- a row is determined by its first frame and its length
 pub row_is : (xs : List ℕ) → IsRow xs → xs ≡ frames_from (length xs) (get_or xs 0 0)
 row_is [] h = refl
 row_is (f ∷ []) h = refl
@@ -47,7 +47,7 @@ in_run_page base n a whole =
     let w : base % 4096 ≡ 0 = whole (omega arith) in
     in_run_is base n (4096 * (a / 4096)) (omega arith) (omega arith))
 
--- one number more of a run
+-- one more number of a run
 pub extend : {X : Type 0} (base i k v : ℕ) (new : X) (old : ℕ → X) (rest : X) → 4096 * k ≡ base + 4096 * i →
     new ≡ old k → cond (nat_eq v k) new (cond (in_run base i (4096 * v)) (old v) rest)
     ≡ cond (in_run base (i + 1) (4096 * v)) (old v) rest

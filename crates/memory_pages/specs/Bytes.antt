@@ -4,18 +4,18 @@ use Rattle.std.specs.FinMap.{get}
 use Rattle.busdma_machine.specs.Machine.Page.{FrameBytes}
 use Rattle.phys_memory.specs.Memory.{Memory}
 
--- a page with 0 in every byte, where that is asked, or as it is
+-- a page with 0 in every byte if it is to be cleared, and otherwise as it is
 abbrev pub filled : Bool → FrameBytes → FrameBytes
 filled clear p = if clear then record { frame = p.frame; bytes = replicate 4096 0 } else p
 
--- the same of pages
+-- pages with 0 in every byte if they are to be cleared, and otherwise as they are
 abbrev pub all_filled : Bool → List FrameBytes → List FrameBytes
 all_filled clear pages = map (filled clear) pages
 
--- the page of the frame at an address, with the bytes that a memory has of it
+-- the page of the frame at a physical address, with the bytes that a memory has of it
 abbrev pub page_of : Memory → ℕ → FrameBytes
 page_of m address = record { frame = address / 4096; bytes = unwrap_or (get m.frames (address / 4096)) [] }
 
--- those of frames
+-- the pages of the frames at several physical addresses, with the bytes that a memory has of them
 abbrev pub pages_of : Memory → List ℕ → List FrameBytes
 pages_of m addresses = map (page_of m) addresses

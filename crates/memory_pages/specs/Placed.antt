@@ -1,5 +1,5 @@
--- Where the frames of dmamem memories stand among the pages of a driver: each at the virtual address of its first
--- byte, one behind the other.
+-- The virtual addresses of the frames of dmamem memories among the pages of a driver: each frame is at a fixed distance
+-- from its physical address, so the frames of a memory follow one another.
 use Rattle.std.specs.Prelude.{◌≡◌, ℕ, ◌+◌, ◌-◌, ◌*◌, ◌/◌, ◌≤◌, min, Bool, true, false, ◌&&◌, ◌||◌, Option, Some, None}
 use Rattle.std.specs.Prelude.{if◌then◌else◌, nat_le, nat_lt}
 use Rattle.std.specs.FinMap.{get}
@@ -10,7 +10,7 @@ use Rattle.busdma_rules.specs.Memory.Memories.{virtual_of}
 use Rattle.phys_memory.specs.declared.reach.Reach.{Reach}
 use Rattle.phys_memory.specs.Memory.{Memory, has_frame}
 
--- a virtual page, by its number, is one of those of n frames from a physical address on
+-- a virtual page, by its number, is one of the pages of the n frames from a physical address on
 abbrev pub is_page : ℕ → ℕ → ℕ → Bool
 is_page first n v = in_run (virtual_of first) n (4096 * v)
 
@@ -22,7 +22,7 @@ is_frame first n f = in_run first n (4096 * f)
 abbrev pub is_byte : ℕ → ℕ → ℕ → Bool
 is_byte first len va = nat_le (virtual_of first) va && nat_lt va (virtual_of first + len)
 
--- the frame of a virtual page where memories lie
+-- the frame of a virtual page of a dmamem memory, both by number
 abbrev pub frame_of : ℕ → ℕ
 frame_of v = v - pages_end / 4096
 
@@ -30,37 +30,37 @@ frame_of v = v - pages_end / 4096
 abbrev pub row_of : ℕ → ℕ → ℕ → Reach
 row_of first len v = record { frame = frame_of v; reach = min 4096 (len - (4096 * v - virtual_of first)) }
 
--- a memory of `len` bytes stands in the n frames from a physical address on
+-- the n frames from a physical address on are at the virtual addresses of a memory of `len` bytes
 abbrev pub IsPlaced : Memory → ℕ → ℕ → ℕ → Type 0
 IsPlaced m first n len = (v : ℕ) → is_page first n v ≡ true → get m.table v ≡ Some (row_of first len v)
 
--- the frame that a virtual page has
+-- the frame of a virtual page, if the page has one
 abbrev pub frame_at : Memory → ℕ → Option ℕ
 frame_at m v = option_map (λ r. r.frame) (get m.table v)
 
--- the n frames from a physical address on stand at the virtual addresses of a memory's
+-- the virtual page of each of the n frames from a physical address on has that frame
 abbrev pub HasFrames : Memory → ℕ → ℕ → Type 0
 HasFrames m first n = (v : ℕ) → is_page first n v ≡ true → frame_at m v ≡ Some (frame_of v)
 
--- a virtual page has its own frame, which is there
+-- the row of a virtual page has the page's own frame, and the memory has that frame
 pub record IsAtItsFrame (m : Memory) (v : ℕ) (r : Reach) : Type 0 where
   pub own : v ≡ pages_end / 4096 + r.frame
   pub there : has_frame m r.frame ≡ true
 
--- so has each virtual page where memories lie
+-- each virtual page in the range of dmamem memories has its own frame, and the memory has that frame
 abbrev pub AreAtTheirFrames : Memory → Type 0
 AreAtTheirFrames m = (v : ℕ) (r : Reach) → get m.table v ≡ Some r → pages_end / 4096 ≤ v → IsAtItsFrame m v r
 
--- none of the n frames from a physical address on is there
+-- the memory has none of the n frames from a physical address on
 abbrev pub IsWithout : Memory → ℕ → ℕ → Type 0
 IsWithout m first n = (f : ℕ) → is_frame first n f ≡ true → has_frame m f ≡ false
 
--- n frames from a physical address on came, as those of a memory of `len` bytes
+-- the n frames from a physical address on came as those of a memory of `len` bytes, and no other frame came or went
 pub record Comes (old new : Memory) (first n len : ℕ) : Type 0 where
   pub rows : (v : ℕ) → get new.table v ≡ (if is_page first n v then Some (row_of first len v) else get old.table v)
   pub frames : (f : ℕ) → has_frame new f ≡ (is_frame first n f || has_frame old f)
 
--- n frames from a physical address on went
+-- the n frames from a physical address on went with their virtual pages, and all other frames and pages stayed
 pub record Goes (old new : Memory) (first n : ℕ) : Type 0 where
   pub rows : (v : ℕ) → get new.table v ≡ (if is_page first n v then None else get old.table v)
   pub frames : (f : ℕ) → get new.frames f ≡ (if is_frame first n f then None else get old.frames f)

@@ -1,5 +1,5 @@
-//! How the frames of dmamem memories come to a driver's memory and leave it: after bus_dmamem_alloc(9) and
-//! bus_dmamem_free(9).
+//! How the frames of dmamem memories come to a driver's memory and leave it, after `bus_dmamem_alloc(9)` and
+//! `bus_dmamem_free(9)`.
 #![tactic(auto)]
 
 mod pages;

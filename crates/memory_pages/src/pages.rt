@@ -1,4 +1,4 @@
-//! Pages that come to a memory and leave it.
+//! Pages that are put into a driver's memory and taken out of it.
 
 ghost use Rattle.std.specs.Prelude.{◌≡◌, ℕ, ◌+◌, ◌-◌, ◌*◌, ◌%◌, ◌^◌, ◌<◌, ◌≤◌, ◌++◌, Bool, true, false, Some, None};
 ghost use Rattle.std.specs.Prelude.{length, if◌then◌else◌, slice_index_or};
@@ -18,7 +18,7 @@ use phys_memory::LanePages;
 
 const ZEROS: [u8; 4096] = [0; 4096];
 
-/// The physical address of the first of pages that follow one another, or 0 where there is none.
+/// Returns the physical address of the first of pages that follow one another, or 0 if there are none.
 pub fn first_address(pages: &PageList) -> Pa
     requires { IsRow (page_addresses pages.now.items) }
     ensures first { result ≡ record { 0 = slice_index_or (page_addresses pages.now.items) 0 0 } }
@@ -27,8 +27,11 @@ pub fn first_address(pages: &PageList) -> Pa
     pages.first_address()
 }
 
-/// Puts the pages of a memory of `len` bytes one behind the other, the first of them at the virtual address of its
-/// frame. With `clear` their bytes become 0, else they stay. There is room for them.
+/// Puts the pages of a memory of `len` bytes into a driver's memory, each at the virtual address of its
+/// frame.
+///
+/// With `clear` their bytes become 0, and otherwise they keep their bytes. The driver's memory has room for
+/// them.
 pub fn put(memory: &mut LanePages, first: Pa, pages: PageList, len: u64, clear: bool)
     requires room { length pages.items ≤ memory.old.spare }
     requires row { page_addresses pages.items ≡ frames_from (length pages.items) first.0 }
@@ -54,7 +57,7 @@ pub fn put(memory: &mut LanePages, first: Pa, pages: PageList, len: u64, clear: 
     }
 }
 
-/// Puts one page at the virtual address of its frame, where there is none.
+/// Puts one page at the virtual address of its frame, at which there is no page yet.
 fn put_page(memory: &mut LanePages, mut page: Page, reach: u64, clear: bool)
     requires room { 0 < memory.old.spare }
     requires reach { reach ≤ 4096 }
@@ -70,7 +73,7 @@ fn put_page(memory: &mut LanePages, mut page: Page, reach: u64, clear: bool)
     memory.add_reserved(va_of(Pa(4096 * frame)), page, reach);
 }
 
-/// Fills a page with 0, where that is asked.
+/// Fills a page with 0 if `clear` is set.
 fn fill(page: &mut Page, clear: bool)
     ensures { page.new ≡ filled clear page.old }
 {
@@ -79,8 +82,8 @@ fn fill(page: &mut Page, clear: bool)
     }
 }
 
-/// Takes the pages of a memory out again, in order, with the bytes that they hold, and appends them to a list that has
-/// room for them.
+/// Takes `count` pages of a memory, from the physical address `first` on, out of a driver's memory. They are
+/// appended in order, with the bytes that they hold, to `pages`, which has room for them.
 pub fn take(memory: &mut LanePages, first: Pa, count: u32, pages: &mut PageList)
     requires room { length pages.old.items + count ≤ pages.old.room }
     requires whole { first.0 % 4096 ≡ 0 }

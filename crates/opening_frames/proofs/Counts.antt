@@ -1,4 +1,4 @@
--- How often a frame stands among those that no driver has.
+-- How often a frame occurs among those that no driver has.
 use Rattle.std.proofs.Common.{◌≡◌, ◌≢◌, ℕ, zero, suc, ◌+◌, ◌<◌, ◌≤◌, ◌==◌, ◌&&◌, ◌||◌, not, Bool, true, false, cond}
 use Rattle.std.proofs.Common.{max}
 use Rattle.std.proofs.Common.{List, [], ◌∷◌, ◌++◌, refl, sym, ap, ◌∙◌, arith, nat_le, ◌⊎◌, inl, inr}
@@ -259,7 +259,7 @@ frame-below (r ∷ frames) f h = by (is_in f r) refl (frame-below frames f) h
         omega (arith, high)
     by false e rest g = let low = rest g in omega (arith, low)
 
--- each number stands among the frames that no driver has, run by run, as often as among them rising
+-- each number occurs as often among the frames that no driver has run by run as among the same frames in rising order
 pub same-times : (s : Scenario) → EachAfter IsFrameRun [] s.frames → (n : ℕ) →
     times n (unowned s.drivers s.frames) ≡ times n (free_of s)
 same-times s each n = unowned-times n s.drivers [] s.frames each ∙ by (cases_lt n (maxmem_of s.frames))

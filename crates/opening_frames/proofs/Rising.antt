@@ -1,4 +1,4 @@
--- Lists of frames by how often each number stands in them.
+-- Lists of frames by how often each number occurs in them.
 use Rattle.std.proofs.Common.{◌≡◌, ◌≢◌, ℕ, ◌+◌, ◌<◌, ◌≤◌, ◌==◌, List, [], ◌∷◌, map}
 use Rattle.std.proofs.Common.{refl, sym, ap, ◌∙◌, arith, ◌⊎◌, inl, inr}
 use Rattle.std.specs.List.{All, AllPairs, count_by}
@@ -24,7 +24,7 @@ weight-same n f e = ap weight (eq-eqb f n e)
 pub weight-off : (n f : ℕ) → f ≢ n → weight (f == n) ≡ 0
 weight-off n f e = ap weight (ne_eqb f n e)
 
--- a number that none of a list is
+-- a number that is not in a list occurs 0 times in it
 pub times-none : (n : ℕ) (fs : List ℕ) → All (λ f. f ≢ n) fs → times n fs ≡ 0
 times-none n [] h = refl
 times-none n (f ∷ fs) h =
@@ -39,14 +39,14 @@ tail-rises : (f : ℕ) (fs : List ℕ) → IsRising (f ∷ fs) → IsRising fs
 tail-rises f [] h = tt
 tail-rises f (g ∷ gs) h = h.1
 
--- a number below the first of a rising list is none of it
+-- a number below the first of a rising list is not in it
 below-first : (n g : ℕ) (gs : List ℕ) → IsRising (g ∷ gs) → n < g → times n (g ∷ gs) ≡ 0
 below-first n g gs h l =
     let off : (x : ℕ) → n < x → x ≢ n = (λ x m e. absurd (omega (arith, m, e))) in
     times-none n (g ∷ gs) (All-cons (λ x. x ≢ n) g gs (off g l)
     (All-weaker (λ x. g < x) (λ x. x ≢ n) (λ x m. off x (omega (arith, m, l))) gs (above_first g gs h)))
 
--- two rising lists in which each number stands as often are one
+-- two rising lists in which each number occurs equally often are equal
 pub rising-same : (fs gs : List ℕ) → IsRising fs → IsRising gs → ((n : ℕ) → times n fs ≡ times n gs) → fs ≡ gs
 rising-same [] [] rf rg same = refl
 rising-same [] (g ∷ gs) rf rg same =
@@ -72,7 +72,7 @@ rising-same (f ∷ fs) (g ∷ gs) rf rg same =
         let e : f ≡ g = omega (arith, most, least) in
         ap (λ x. x ∷ fs) e ∙ ap (λ xs. g ∷ xs) (next (rest e))
 
--- numbers of which each stands once at most differ
+-- numbers that each occur at most once differ
 apart : (f : ℕ) (fs : List ℕ) → times f fs ≡ 0 → All (λ g. f ≢ g) fs
 apart f [] h = All-nil (λ g. f ≢ g)
 apart f (g ∷ gs) h =
@@ -89,7 +89,7 @@ differ (f ∷ fs) one =
 
 -- ---- the pages of a new bank
 
--- fresh pages of frames of which each stands once at most, put in one by one, rise
+-- fresh pages of frames that each occur at most once, put in one by one, rise
 times-fresh : (n : ℕ) (fs : List ℕ) →
     count_by (λ (p : FrameBytes). p.frame == n) (put_pages (map fresh_page fs) []) ≡ times n fs
 times-fresh n fs =
@@ -125,7 +125,7 @@ are-fresh (p ∷ ps) h =
     ap (λ x. x ∷ ps) (All-head IsFresh p ps h)
     ∙ ap (λ xs. fresh_page p.frame ∷ xs) (are-fresh ps (All-tail IsFresh p ps h))
 
--- fresh pages of frames, put in one by one, are those of a rising list in which each number stands as often
+-- fresh pages of frames, put in one by one, are those of a rising list in which each number occurs equally often
 pub put-sorted : (fs gs : List ℕ) → IsRising gs → ((n : ℕ) → times n fs ≤ 1) → ((n : ℕ) → times n fs ≡ times n gs) →
     put_pages (map fresh_page fs) [] ≡ map fresh_page gs
 put-sorted fs gs rising one same =

@@ -57,7 +57,7 @@ module _ (p : ℕ → Bool) (old before after : List ℕ) (a i : ℕ) (is : befo
       is ∙ ap (λ xs. old ++ xs)
       (sym (next ∙ ap (λ ys. filter p (run_of a i) ++ ys) none ∙ append-nil (filter p (run_of a i))))
 
--- the frames of one run more
+-- the frames of one more run
 pub next-run : (ds : List Driver) (runs : List FrameRun) (i : ℕ) (run : FrameRun) (before after : List ℕ) →
     i < length runs → before ≡ unowned ds (take i runs) → after ≡ before ++ unowned_in ds (get_or runs i run) →
     after ≡ unowned ds (take (i + 1) runs)
@@ -77,7 +77,7 @@ numbered-at before [] i d each lt = absurd (omega (arith, lt))
 numbered-at before (r ∷ runs) zero d each lt = each.0.numbered
 numbered-at before (r ∷ runs) (suc i) d each lt = numbered-at (before ++ r ∷ []) runs i d each.1 (omega (arith, lt))
 
--- the end of memory after one run more
+-- the end of memory after one more run
 pub next-end : (runs : List FrameRun) (i : ℕ) (d : FrameRun) (end most : ℕ) → i < length runs →
     max end (maxmem_of (drop i runs)) ≡ most →
     max (max ((get_or runs i d).first + (get_or runs i d).count) end) (maxmem_of (drop (i + 1) runs)) ≡ most

@@ -8,7 +8,7 @@ use Rattle.busdma_base.specs.declared.scenarios.scenario.Scenario.{Scenario}
 use Rattle.busdma_base.specs.Scenarios.Opening.{free_below, is_owned, maxmem_of}
 use Rattle.busdma_machine.specs.Runs.{run_of}
 
--- the frames of a scenario that no driver has, rising
+-- the frames of a scenario that no driver has, in rising order
 abbrev pub free_of : Scenario → List ℕ
 free_of s = free_below s (maxmem_of s.frames)
 
@@ -24,6 +24,6 @@ has_frame frame pages = list_any (is_frame_of frame) pages
 abbrev pub unowned_in : List Driver → FrameRun → List ℕ
 unowned_in drivers run = filter (λ f. not (is_owned drivers f)) (run_of run.first run.count)
 
--- those of runs, run by run
+-- the frames of all runs that no driver has, run by run
 abbrev pub unowned : List Driver → List FrameRun → List ℕ
 unowned drivers runs = flat_map (unowned_in drivers) runs

@@ -1,4 +1,4 @@
-//! The frames of the machine in which a scenario opens.
+//! The frames of the machine when a scenario opens.
 
 ghost use Rattle.std.specs.Prelude.{◌≡◌, ◌++◌, [], map, IfOk, OnOk};
 ghost use Rattle.busdma_base.specs.Scenarios.Opening as opens;
@@ -14,7 +14,8 @@ use busdma_base::{Driver, FrameRun, PageRun, Scenario};
 use frame_bank::FrameBank;
 use std::alloc::{AllocError, Global};
 
-/// Where the machine's frames end: the number of the highest frame plus one, or 0 without frames.
+/// Returns where the machine's frames end: the number of the highest frame plus one, or 0 if there are no
+/// frames.
 pub fn memory_end(runs: &[FrameRun]) -> u64
     requires { EachAfter IsFrameRun [] runs.now }
     ensures { result ≡ maxmem_of runs.now }
@@ -26,7 +27,11 @@ pub fn memory_end(runs: &[FrameRun]) -> u64
     end
 }
 
-/// The bank of the frames that no driver's pages have. Each byte of them is 0xA5.
+/// Makes the bank of the frames that no driver's pages have. Each byte of them is 0xA5.
+///
+/// # Errors
+///
+/// `AllocError` if memory runs out.
 pub fn free_bank(alloc: Global, scenario: &Scenario) -> Result<FrameBank, AllocError>
     requires { IsValid scenario.now }
     ensures pages { IfOk result (λ bank. bank.pages ≡ map fresh_page (free_of scenario.now)) }
@@ -36,7 +41,7 @@ pub fn free_bank(alloc: Global, scenario: &Scenario) -> Result<FrameBank, AllocE
     FrameBank::of_frames(alloc, &frames)
 }
 
-/// The numbers of the frames that no driver's pages have, run by run.
+/// Returns the numbers of the frames that no driver's pages have, run by run.
 fn unowned_frames(alloc: Global, scenario: &Scenario) -> Result<Vec<u64>, AllocError>
     requires { EachAfter IsFrameRun [] scenario.now.frames }
     ensures { IfOk result (λ frames. frames.items
@@ -49,7 +54,7 @@ fn unowned_frames(alloc: Global, scenario: &Scenario) -> Result<Vec<u64>, AllocE
     Ok(frames)
 }
 
-/// Adds the numbers of the frames of a run that no driver's pages have.
+/// Appends the numbers of the frames of a run that no driver's pages have.
 fn add_unowned(frames: &mut Vec<u64>, run: &FrameRun, drivers: &[Driver]) -> Result<(), AllocError>
     requires { IsNumbered run.now }
     ensures { OnOk result (frames.new.items ≡ frames.old.items ++ unowned_in drivers.now run.now) }
@@ -63,7 +68,7 @@ fn add_unowned(frames: &mut Vec<u64>, run: &FrameRun, drivers: &[Driver]) -> Res
     Ok(())
 }
 
-/// Whether some driver's pages have the frame.
+/// Returns whether some driver's pages have the frame.
 fn is_owned(drivers: &[Driver], frame: u64) -> bool
     ensures { result ≡ opens.is_owned drivers.now frame }
 {

@@ -1,5 +1,4 @@
-//! The frames of the machine in which a scenario opens: where they end, and the bank of those that
-//! no driver has.
+//! The frames of the machine when a scenario opens: where they end, and the bank of those that no driver has.
 #![tactic(auto)]
 
 mod frames;

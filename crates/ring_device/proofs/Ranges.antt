@@ -76,7 +76,7 @@ found_bytes addr len (s ∷ ss) at e = by (λ p q. found_bytes addr len ss p q) 
         ∙ ap (λ a. run_of a len) back
     by f false h e = later f (place_of addr len ss) refl e
 
--- the bus address of a range of a load is that of its bytes
+-- the bus address of a range of a load is the address of its bytes
 pub addressed_bytes : (off len : ℕ) (segments : List Segment) (pa : ℕ) → address_of off len segments ≡ Some pa →
     take len (drop off (bus_bytes segments)) ≡ run_of pa len
 addressed_bytes off len [] pa e = absurd (cc)

@@ -1,11 +1,11 @@
-//! Descriptors and their bytes.
+//! Descriptors and the bytes that hold them.
 
 ghost use Rattle.std.specs.Prelude.{◌≡◌};
 ghost use Rattle.busdma_rules.specs.Rings.Descriptors.{descriptor_bytes, descriptor_of};
 
 use busdma_rules::Descriptor;
 
-/// The descriptor that these bytes hold.
+/// Returns the descriptor that 16 bytes hold, with its numbers in little-endian order.
 pub fn descriptor_of(bytes: &[u8; 16]) -> Descriptor
     ensures descriptor { result ≡ descriptor_of bytes.now }
     ensures written_again { descriptor_bytes result ≡ bytes.now }
@@ -21,7 +21,7 @@ pub fn descriptor_of(bytes: &[u8; 16]) -> Descriptor
     }
 }
 
-/// The bytes that hold the descriptor, those of its numbers from the least on.
+/// Returns the 16 bytes that hold the descriptor, with its numbers in little-endian order.
 pub fn descriptor_bytes(descriptor: &Descriptor) -> [u8; 16]
     ensures bytes { result ≡ descriptor_bytes descriptor.now }
     ensures read_again { descriptor_of result ≡ descriptor.now }

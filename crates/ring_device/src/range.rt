@@ -10,9 +10,10 @@ ghost use Rattle.busdma_rules.specs.Rings.Ranges.{address_of, bus_bytes, byte_co
 
 use busdma_machine::{Pa, Segment};
 
-/// The place in a load of the `len` bytes from the bus address `addr` on, in the first of its
-/// segments that has all of them, or None where none has.
+/// Returns the offset in a load, in bytes, of the `len` bytes from the bus address `addr` on. They must all
+/// lie in one segment, and the first such segment counts. Returns `None` if no segment has all of them.
 ///
+/// `segments` are those of the load, in the order of its bytes. Sums of addresses do not wrap at 2^64.
 /// The segments are those of the load, in the order of its bytes. No address wraps at 2^64.
 pub fn find(segments: &[Segment], addr: u64, len: u64) -> Option<u64>
     requires { byte_count segments.now < 2 ^ 64 }
@@ -32,10 +33,10 @@ pub fn find(segments: &[Segment], addr: u64, len: u64) -> Option<u64>
     None
 }
 
-/// The bus address of the byte `off` of a load, or None where the segment that has the byte does not
-/// have all of the `len` bytes from there on, or where no segment has it.
+/// Returns the bus address of the byte `off` of a load. Returns `None` if no segment has the byte, or if its
+/// segment does not have all of the `len` bytes from there on.
 ///
-/// The segments are those of the load, in the order of its bytes, and none that has a byte ends above 2^64.
+/// `segments` are those of the load, in the order of its bytes. No segment that has a byte ends above 2^64.
 pub fn address_of(segments: &[Segment], off: u64, len: u64) -> Option<Pa>
     requires { AllByRecursion EndsLow segments.now }
     ensures address { option_map (λ pa. pa.0) result ≡ address_of off len segments.now }

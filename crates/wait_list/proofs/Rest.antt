@@ -1,4 +1,4 @@
--- What stays of a list of loads when the first leaves.
+-- What is left of a list of loads when the first is removed.
 use Rattle.std.proofs.Common.{◌≡◌, ℕ, ◌+◌, ◌≤◌, List, ◌∷◌, length, sym, ap, arith}
 use Rattle.std.specs.List.{All}
 use Rattle.std.proofs.lemmas.List.Elements.{All-tail, All-same}

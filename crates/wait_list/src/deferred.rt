@@ -2,8 +2,8 @@
 
 use busdma_machine::{Pa, PageList, Waiter};
 
-/// A load that was deferred, and the empty lists that its callback hands out: of pages, and of
-/// their physical addresses, each with room for all the pages that the load needs.
+/// A load that was deferred, with the empty lists that its callback hands out: one for its pages and one for
+/// their physical addresses. Each has room for all the pages that the load needs.
 #[derive(Drop)]
 pub struct Deferred {
     pub waiter: Waiter,

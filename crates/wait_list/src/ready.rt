@@ -10,8 +10,10 @@ use std::alloc::{AllocError, Global};
 use std::collections::VecDeque;
 use std::marker::Model;
 
-/// The maps whose loads are complete, in the order in which their callbacks are run, and spare
-/// room for those that wait.
+/// The maps whose loads are complete, in the order in which their callbacks run, with spare room for the maps
+/// that still wait.
+///
+/// After the `bounce_map_callbacklist` of `sys/x86/x86/busdma_bounce.c`.
 #[derive(Drop)]
 pub struct ReadyList {
     kept: VecDeque<Deferred>,
@@ -33,7 +35,7 @@ impl Model for ReadyList {
 }
 
 impl ReadyList {
-    /// An empty list.
+    /// Makes an empty list without spare room.
     pub fn new(alloc: Global) -> ReadyList
         ensures { result ≡ record { items = []; spare = 0 } }
     {
@@ -43,7 +45,11 @@ impl ReadyList {
         }
     }
 
-    /// Makes the spare room larger by one.
+    /// Adds spare room for one load.
+    ///
+    /// # Errors
+    ///
+    /// `AllocError` if memory runs out. The list is then unchanged.
     pub(crate) fn reserve_one(&mut self) -> Result<(), AllocError>
         ensures ok { OnOk result (self.new ≡ record self.old { spare = self.old.spare + 1 }) }
         ensures no_memory { OnErr result (self.new ≡ self.old) }
@@ -53,7 +59,7 @@ impl ReadyList {
         Ok(())
     }
 
-    /// Adds a load at the tail, which takes one of the spare room.
+    /// Appends a load at the tail, which uses one place of the spare room.
     pub(crate) fn push(&mut self, load: Deferred)
         requires room { 1 ≤ self.old.spare }
         requires lists { IsReserved load }
@@ -66,14 +72,15 @@ impl ReadyList {
         self.kept.push_back_reserved(load);
     }
 
-    /// The first map.
+    /// Returns the first map, or `None` if the list is empty.
     pub fn head(&self) -> Option<Waiter>
         ensures { result ≡ slice_get self.now.items 0 }
     {
         self.kept.front().map(|load| load.waiter)
     }
 
-    /// Takes the first map out. The spare room stays.
+    /// Removes the first map and returns it, or returns `None` if the list is empty. The spare room is
+    /// unchanged.
     pub fn pop_ready(&mut self) -> Option<Waiter>
         ensures some { IfSome result (λ w. self.old.items ≡ w ∷ self.new.items) }
         ensures none { IfNone result ((self.old.items ≡ []) × (self.new ≡ self.old)) }
@@ -82,8 +89,8 @@ impl ReadyList {
         self.kept.pop_front().map(|load| load.waiter)
     }
 
-    /// Takes the first load out, with its lists, where it is one of the lane's. The spare room
-    /// stays.
+    /// Removes the first load and returns it with its lists, if it is one of the lane's. Otherwise returns
+    /// `None`, and the list is unchanged. The spare room is unchanged in either case.
     pub fn pop_for(&mut self, lane: LaneId) -> Option<Deferred>
         ensures some { IfSome result (λ d. self.old.items ≡ d.waiter ∷ self.new.items) }
         ensures lane { IfSome result (λ d. d.waiter.map.lane.0 ≡ lane.0) }

@@ -10,15 +10,19 @@ use std::alloc::{AllocError, Global};
 use std::collections::VecDeque;
 use std::marker::Model;
 
-/// What the serving of a waiting list did: how many of the free pages it gave to the maps, and how
-/// many maps it moved to the callback list.
+/// What one serving of a waiting list did: how many free pages it gave to the maps, and how many maps it
+/// moved to the callback list.
 #[derive(Clone, Copy, Debug, PartialEq, Eq)]
 pub struct Served {
     pub taken: u32,
     pub moved: u32,
 }
 
-/// The maps that wait for pages of a zone, in the order of their waiting; each lacks some.
+/// The maps that wait for pages of a zone, in the order in which they began to wait. Each still lacks some
+/// pages.
+///
+/// After the `bounce_map_waitinglist` of `sys/x86/x86/busdma_bounce.c`; one list for each zone is this
+/// project's own.
 #[derive(Drop)]
 pub struct WaitList {
     kept: VecDeque<Deferred>,
@@ -37,7 +41,7 @@ impl Model for WaitList {
 }
 
 impl WaitList {
-    /// An empty list.
+    /// Makes an empty list.
     pub fn new(alloc: Global) -> WaitList
         ensures { result ≡ [] }
     {
@@ -46,8 +50,11 @@ impl WaitList {
         }
     }
 
-    /// A map joins the tail with `have` of the `need` pages, and the callback list gets spare room
-    /// for it.
+    /// Appends a map that has `have` of the `need` pages, and adds spare room for it to the callback list.
+    ///
+    /// # Errors
+    ///
+    /// `AllocError` if memory runs out. Both lists are then unchanged.
     pub fn join(
         &mut self,
         alloc: Global,
@@ -81,15 +88,15 @@ impl WaitList {
         Ok(())
     }
 
-    /// The map that has waited longest.
+    /// Returns the map that has waited longest, or `None` if no map waits.
     pub fn head(&self) -> Option<Waiter>
         ensures { result ≡ slice_get self.now 0 }
     {
         self.kept.front().map(|load| load.waiter)
     }
 
-    /// Gives free pages to the maps from the head on, and moves those that then lack none to the
-    /// tail of the callback list, up to the first that still lacks some.
+    /// Gives `free` pages to the maps, from the head on, and moves each map that then lacks none to the tail
+    /// of the callback list. It ends at the first map that still lacks some, which keeps what it got.
     pub fn serve(&mut self, free: u32, ready: &mut ReadyList) -> Served
         requires { length self.old ≤ ready.old.spare }
         ensures waits { self.new ≡ left_waiting free self.old }

@@ -4,7 +4,7 @@ use Rattle.std.specs.VecDeque.{deque_capacity}
 use Rattle.busdma_base.specs.Scenarios.Queues.{queued_items as queued, queued_from}
 use Rattle.lane_tables.proofs.agenda.push_all.Given as goal
 
--- what is pushed and what is left to push are all, and there is room for what is left
+-- what was pushed, followed by what is left to push, is everything, and there is room for what is left
 abbrev pub invariant-loop-item : goal.invariant-loop-item
 invariant-loop-item l = record {
   can_next : (goal.iterator-loop-item).can_next l.item-iterator;

@@ -4,7 +4,7 @@ use Rattle.std.specs.VecDeque.{deque_capacity}
 use Rattle.lane_tables.specs.Queues.{queued_pages}
 use Rattle.lane_tables.proofs.agenda.push_pages.Given as goal
 
--- what is pushed and what is left to push are all, and there is room for what is left
+-- what was pushed, followed by what is left to push, is everything, and there is room for what is left
 abbrev pub invariant-loop-page : goal.invariant-loop-page
 invariant-loop-page l = record {
   can_next : (goal.iterator-loop-page).can_next l.page-iterator;

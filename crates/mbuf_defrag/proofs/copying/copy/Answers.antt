@@ -31,7 +31,7 @@ loop-target-init c =
       spare = refl;
     }
 
--- the extent that is next, and those behind it
+-- the bytes of the next extent and of the extents after it
 next_bytes : (es : List Extent) (i : ℕ) → i < length es →
     addresses (drop i es) ≡ run_of (get_or es i no_extent).pa.0 (get_or es i no_extent).len ++ addresses (drop (i + 1) es)
 next_bytes es i h = ap addresses (drop_more es i no_extent h)

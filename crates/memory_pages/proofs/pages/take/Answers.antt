@@ -31,7 +31,7 @@ unwrap-page-requires c =
 only : {x y : FrameBytes} → Some x ≡ Some y → x ≡ y
 only e = cc
 
--- a page was pushed behind those that were taken
+-- a page was pushed after those that were taken
 pushed : (now old : RoomyPages) (xs : List FrameBytes) (p q : FrameBytes) →
     now ≡ record old { items = old.items ++ xs } →
     p ≡ q → ◌≡◌ {A = RoomyPages} (record { items = now.items ++ p ∷ []; room = now.room })

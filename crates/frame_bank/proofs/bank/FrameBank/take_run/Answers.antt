@@ -40,7 +40,7 @@ at_run c =
     begun_at c.args.len c.args.boundary c.args.limit.0 c.in-Some.at c.self.inside.free.items
     c.self.invariant.0.rising c.in-Some.ensures.0 c.in-Some.ensures.1
 
--- the pages that were taken, and those that stay
+-- the pages that were taken, and the pages that stay
 part : (c : goal.After-rotate_right) → c.in_ok-pages.pages.items
     ≡ take (frames_for c.args.len) (drop c.in-Some.at c.self.inside.free.items)
 part c = c.in_ok-pages.ensures
@@ -115,7 +115,7 @@ returns-clause-left c =
     (frames_for c.args.len) p)) b.pages) c.self.view_is
     ∙ ap (λ r. pages_left r (frames_for c.args.len) c.args.self.now.pages) (sym (lowest c))
 
--- the same of their addresses, by what is said of the pages
+-- the addresses of the pages that were taken, from what is said of the pages
 pub returns-clause-frames : goal.returns-clause-frames
 returns-clause-frames c =
     let items = c.self.inside.free.items in

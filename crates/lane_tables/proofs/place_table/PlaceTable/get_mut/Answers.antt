@@ -6,7 +6,7 @@ use Rattle.std.specs.Option.{ghost_name_of}
 use Rattle.lane_tables.proofs.SlotLemmas.{found_at, viewed-write}
 use Rattle.lane_tables.proofs.place_table.PlaceTable.get_mut.Goals as goal
 
--- what is lent under one name, and ends alike, is read alike
+-- two values that are lent under one name and end equal are read as equal
 read_alike : {D E : Type 0} (n : Option GName) (F G : E → D) (v w : D) → ((e : E) → F e ≡ G e) → v ≡ w →
     read_of n F v ≡ read_of n G w
 read_alike none F G v w same at_none = ap inr at_none

@@ -4,7 +4,7 @@ use Rattle.busdma_machine.specs.Bounce.Serving.{completed, left_waiting}
 use Rattle.wait_list.specs.Reserved.{IsWaiting}
 use Rattle.wait_list.proofs.waiting.WaitList.serve.Given as goal
 
--- what is left to do gives, with what was done, what all is to give
+-- what was done, followed by what is still to do, gives the complete result
 abbrev pub invariant-loop-load : goal.invariant-loop-load
 invariant-loop-load l =
     let waiters = map (λ d. d.waiter) l.self-inside.kept.items in
