@@ -1,6 +1,7 @@
 //! How drivers get their passes.
 
 ghost use Rattle.std.specs.Prelude.{◌≡◌, ◌+◌, ◌<◌, ◌≤◌, ◌^◌, IfOk, IfSome, length};
+ghost use Rattle.lane_threads.specs.Closing.{with_splits};
 ghost use Rattle.lane_run.specs.Seated.{AreFresh, AreSeated};
 
 use busdma_base::LaneId;
@@ -24,7 +25,8 @@ pub(crate) fn seat_lanes<'s, 'a, Rt: Wait>(
     requires names { length lanes.items < turnstile.now.names }
     requires few { turnstile.now.names < 2 ^ 32 }
     requires fresh { AreFresh first.old 0 lanes.items }
-    ensures same { IfOk result (λ r. IfSome r (λ _. first.new ≡ first.old)) }
+    ensures same { IfOk result (λ r. IfSome r (λ _. first.new ≡ with_splits first.new.splits first.old)) }
+    ensures splits { IfOk result (λ r. IfSome r (λ ws. first.new.splits ≡ first.old.splits + length ws.items)) }
     ensures seated { IfOk result (λ r. IfSome r (λ ws. AreSeated first.old lanes.entry.items ws.items)) }
 {
     let mut workers = Vec::new(alloc);

@@ -19,6 +19,7 @@ use Rattle.turnstile.specs.Start.{history_after, IsLawful}
 use Rattle.turnstile.specs.Pass.{own_calls, TakesIn, Closes}
 use Rattle.turnstile.proofs.Logs.{prefix_then, between, silent}
 use Rattle.lane_threads.specs.Closing.{LanePass, IsJoined, Joins, HasOwnCalls, OthersCame, ClosesAfter, hub_seen}
+use Rattle.lane_threads.specs.Closing.{with_splits}
 use Rattle.lane_threads.specs.Object.{IsLegalHistory, IsOfName}
 use Rattle.lane_threads.specs.PassDoor.{seen_from, seen}
 use Rattle.lane_threads.proofs.Turning.{at, passes as passes_to}
@@ -162,4 +163,28 @@ closed first all passes hub j c =
       others =
           All-weaker (IsWithin c.turns) (OthersCame first hub)
           (others_of first all hub c started) (first ∷ passes) within;
+    }
+
+-- what is known of the hub does not depend on how many passes were split off from the first one
+pub closed_same : (first last : LanePass) (passes : List LanePass) (hub : HubSeen) →
+    last ≡ with_splits last.splits first → ClosesAfter last passes hub → ClosesAfter first passes hub
+closed_same first last passes hub same closes =
+    let c : ClosesAfter (with_splits last.splits first) passes hub =
+    subst (λ (p : LanePass). ClosesAfter p passes hub) same closes in
+    let Own : LanePass → Type 0 = HasOwnCalls c.start.opening hub.history in
+    let Came : LanePass → Type 0 = OthersCame first hub in
+    record {
+      start = c.start;
+      started = c.started;
+      opening = c.opening;
+      legal = c.legal;
+      added = c.added;
+      begins = c.begins;
+      drivers = c.drivers;
+      own =
+          All-cons Own first passes (All-head Own (with_splits last.splits first) passes c.own)
+          (All-tail Own (with_splits last.splits first) passes c.own);
+      others =
+          All-cons Came first passes (All-head Came (with_splits last.splits first) passes c.others)
+          (All-tail Came (with_splits last.splits first) passes c.others);
     }

@@ -15,6 +15,10 @@ use Rattle.lane_threads.specs.PassDoor.{seen}
 abbrev pub LanePass : Type 0
 LanePass = PassView HoldEntry Account
 
+-- the pass, with this count of the passes that were split off from it
+abbrev pub with_splits : ℕ → LanePass → LanePass
+with_splits count pass = record pass { splits = count }
+
 -- a pass was joined to this one, which knows the turns of that pass, and that it ended after its calls
 pub record IsJoined (into pass : LanePass) : Type 0 where
   pub begins : IsPrefix pass.front into.front

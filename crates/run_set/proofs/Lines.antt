@@ -32,7 +32,7 @@ put_there at n a b old e p =
     ∙ ap (λ xs. xs ++ n ∷ reverse b) (sym (ap (take at) (sym e) ∙ take_at a (reverse b) at p))
     ∙ ap (λ xs. take at old ++ n ∷ xs) (sym (ap (drop at) (sym e) ∙ drop_at a (reverse b) at p))
 
--- the first numbers behind the place go
+-- the first numbers after the place go
 turned_part : (count : ℕ) (b : List ℕ) → count ≤ length b → drop count (reverse b) ≡ reverse (take (length b - count) b)
 turned_part count b p =
     let k : ℕ = length b - count in
@@ -48,7 +48,7 @@ taken_out at count a b old e p q =
     ap (λ xs. a ++ xs) (sym (turned_part count b q) ∙ ap (drop count) (sym behind) ∙ drop-drop count at old)
     ∙ ap (λ xs. xs ++ drop (at + count) old) (sym front)
 
--- two parts come to the place, and the first numbers behind it go
+-- two parts come to the place, and the first numbers after it go
 pub put_both : (at count : ℕ) (a b old first second : List ℕ) → stacked a b ≡ old → length a ≡ at → count ≤ length b →
     stacked ((a ++ first) ++ second) (take (length b - count) b)
     ≡ take at old ++ (first ++ (second ++ drop (at + count) old))
@@ -147,21 +147,21 @@ count_out xs i n d p =
     subst (λ k. count_le (take i xs ++ drop k xs) n + one_if (leb (get_or xs i d) n) ≡ count_le xs n) e
     (count_remove xs i n d p)
 
--- a number comes behind those that are at most as great
+-- a number comes after the numbers that are at most as great
 pub climbs_put : (es : List ℕ) (n at : ℕ) → Climbs 0 es → count_le es n ≡ at → Climbs 0 (take at es ++ n ∷ drop at es)
 climbs_put es n at h e =
     climbs_insert 0 es at n 0 h (omega arith)
     (λ k a b. counted_below 0 es n k 0 h (omega (arith, a, e)))
     (λ k a b. let x : n < get_or es k 0 = counted_above 0 es n k 0 h (omega (arith, a, e)) b in omega arith)
 
--- where a number is at most n, those before it are
+-- if a number is at most n, the numbers before it are too
 pub low_until : (es : List ℕ) → Climbs 0 es → (i n e : ℕ) → i < length es → get_or es i e ≤ n →
     (k d : ℕ) → k ≤ i → get_or es k d ≤ n
 low_until es h i n e p q k d r =
     let least : get_or es k d ≤ get_or es i d = climbs_nondecreasing 0 es h k i d r p in
     omega (arith, get_or_default es i d e p)
 
--- where a number is more than n, those behind it are
+-- if a number is more than n, the numbers after it are too
 pub high_from : (es : List ℕ) → Climbs 0 es → (i n e : ℕ) → n < get_or es i e →
     (k d : ℕ) → i ≤ k → k < length es → n < get_or es k d
 high_from es h i n e q k d r p =

@@ -71,7 +71,7 @@ to_above es c n hi p h f =
     rises_drop es c 0 hi (n + 1) (omega arith) h
     (λ k a b. let x : n < get_or es k 0 = f k 0 a b in omega arith)
 
--- edges in three parts: i of them below a run, those of it, and those behind the j-th
+-- edges in three parts: i edges below a run, the edges of the run, and the edges from the j-th on
 pub record Parts (es : List ℕ) (i j s e hi : ℕ) : Type 0 where
   pub ordered : i ≤ j
   pub small : j - i ≤ length (drop i es)
@@ -192,7 +192,7 @@ member-three : (a b c : List ℕ) (n : ℕ) (x y z : Bool) → member a n ≡ x 
     member (a ++ (b ++ c)) n ≡ differ x (differ y z)
 member-three a b c n x y z p q r = rw (member-append a, member-append b, p, q, r)
 
--- edges in three parts: those before the run, those of it, and those behind it
+-- edges in three parts: the edges before the run, the edges of the run, and the edges after it
 module _ (s e hi : ℕ) (before inside behind : List ℕ) (is_in : Bool) (p : s < e) (r : Rises 0 s before)
     (m : Rises s (e + 1) inside) (b : Rises (e + 1) hi behind) where
   abbrev odds : Bool

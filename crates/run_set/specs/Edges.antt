@@ -9,6 +9,7 @@ pub record Edges : Type 0 where
   pub edges : List ℕ
   pub room : ℕ
 
+-- edges as numbers and lists
 abbrev pub edges_code : Coded Edges
 edges_code =
     code_by (List ℕ × ℕ) (coded× (coded_list coded_ℕ) coded_ℕ) (λ s. (s.edges, s.room))
@@ -29,6 +30,7 @@ abbrev pub Rises : ℕ → ℕ → List ℕ → Type 0
 Rises lo hi [] = lo ≤ hi
 Rises lo hi (e ∷ es) = (lo ≤ e) × Rises (e + 1) hi es
 
+-- whether a number is odd
 abbrev pub odd : ℕ → Bool
 odd zero = false
 odd (suc n) = not (odd n)
@@ -38,7 +40,7 @@ pub record IsKept (es : List ℕ) : Type 0 where
   pub rise : Rises 0 (2 ^ 64) es
   pub finite : odd (length es) ≡ false
 
--- the edge, where it is wanted
+-- the edge, if it is wanted
 abbrev pub edge_if : Bool → ℕ → List ℕ
 edge_if true e = e ∷ []
 edge_if false e = []
@@ -57,8 +59,8 @@ IsFirst set is_in start end first =
     MatchOption first (NoneIn set is_in start end) (λ f. (start ≤ f) × (f < end)
     × (set f ≡ is_in) × NoneIn set is_in start f)
 
--- the edges lie in three parts: `below` of them below start, those behind these, up to the `to`-th, at end at the most,
--- and the others above end
+-- the edges lie in three parts: `below` edges below start, the next ones, up to the `to`-th, from start to end, and
+-- the others above end
 pub record IsSplit (es : List ℕ) (start end below to : ℕ) : Type 0 where
   pub small : below ≤ length es
   pub large : to ≤ length es

@@ -8,12 +8,13 @@ pub record Numbers : Type 0 where
   pub items : List ℕ
   pub room : ℕ
 
+-- the numbers and the room as lists and numbers
 abbrev pub numbers_code : Coded Numbers
 numbers_code =
     code_by (List ℕ × ℕ) (coded× (coded_list coded_ℕ) coded_ℕ) (λ s. (s.items, s.room))
     (λ p. record { items = p.0; room = p.1 }) (λ _. refl)
 
--- one, where it is wanted
+-- one if it is wanted, else zero
 abbrev pub one_if : Bool → ℕ
 one_if true = 1
 one_if false = 0
@@ -28,7 +29,8 @@ abbrev pub Climbs : ℕ → List ℕ → Type 0
 Climbs lo [] = Unit {0}
 Climbs lo (e ∷ es) = (lo ≤ e) × Climbs e es
 
--- the numbers of two stacks, whose tops are at their ends: those of the one, and those of the other from its top down
+-- the numbers of two stacks, whose tops are at their ends: the first stack from its bottom up, and then the second from
+-- its top down
 abbrev pub stacked : List ℕ → List ℕ → List ℕ
 stacked before behind = before ++ reverse behind
 

@@ -6,7 +6,7 @@ ghost use Rattle.run_set.specs.Numbers.{count_le, Climbs};
 
 use crate::line::Line;
 
-/// How many edges lie below a number.
+/// Returns how many edges are below a number.
 fn count_below(edges: &Line, n: u64) -> usize
     requires { Climbs 0 edges.now.items }
     ensures small { result ≤ length edges.now.items }
@@ -19,7 +19,7 @@ fn count_below(edges: &Line, n: u64) -> usize
     }
 }
 
-/// How many edges lie at a number or below it.
+/// Returns how many edges are at a number or below it.
 pub fn count_to(edges: &Line, n: u64) -> usize
     requires { Climbs 0 edges.now.items }
     ensures small { result ≤ length edges.now.items }
@@ -30,8 +30,10 @@ pub fn count_to(edges: &Line, n: u64) -> usize
     edges.count_to(n)
 }
 
-/// How many edges lie below `start`, and how many at `end` or below it, where the former are seen to be those
-/// before the place of the last change, and the latter as many, or one or two more.
+/// Returns how many edges are below `start`, and how many are at `end` or below it, if a short look finds both.
+///
+/// It looks at the place of the last change only: the edges before that place are the edges below `start`, and at most
+/// two more are up to `end`.
 pub fn split_here(edges: &Line, start: u64, end: u64) -> Option<(usize, usize)>
     requires { Climbs 0 edges.now.items }
     ensures { IfSome result (λ p. IsSplit edges.now.items start end p.0 p.1) }
@@ -44,7 +46,7 @@ pub fn split_here(edges: &Line, start: u64, end: u64) -> Option<(usize, usize)>
     Some((below, to))
 }
 
-/// How many edges lie below `start`, and how many at `end` or below it.
+/// Returns how many edges are below `start`, and how many are at `end` or below it.
 pub fn split(edges: &Line, start: u64, end: u64) -> (usize, usize)
     requires { Climbs 0 edges.now.items }
     ensures { IsSplit edges.now.items start end result.0 result.1 }
@@ -52,7 +54,7 @@ pub fn split(edges: &Line, start: u64, end: u64) -> (usize, usize)
     (count_below(edges, start), count_to(edges, end))
 }
 
-/// How many edges lie at a number or below it, which is found soon where they are `near` many, or one more.
+/// Returns how many edges are at a number or below it. This is quick if the answer is `near` or one more.
 fn count_near(edges: &Line, n: u64, near: usize) -> usize
     requires { Climbs 0 edges.now.items }
     ensures small { result ≤ length edges.now.items }
@@ -63,8 +65,9 @@ fn count_near(edges: &Line, n: u64, near: usize) -> usize
     edges.count_near(n, near)
 }
 
-/// How many numbers of a line are at most `start`, and the first number above it, or `end` where that
-/// comes before it. They are found soon where the former is `near`, or one more.
+/// Returns how many numbers of a line are at most `start`, and the first number above `start`, which is at most `end`.
+///
+/// If no number of the line is between them, the second is `end`. This is quick if the first is `near` or one more.
 pub fn count_and_turn(line: &Line, start: u64, end: u64, near: usize) -> (usize, u64)
     requires climbs { Climbs 0 line.now.items }
     requires some { start < end }
@@ -82,7 +85,7 @@ pub fn count_and_turn(line: &Line, start: u64, end: u64, near: usize) -> (usize,
     (count, line.number_or(count, end).min(end))
 }
 
-/// The first number of a line above `start`, or `end` where that comes before it.
+/// Returns the first number of a line above `start`, or `end` if no number of the line is between them.
 pub fn turn(line: &Line, start: u64, end: u64) -> u64
     requires climbs { Climbs 0 line.now.items }
     requires some { start < end }
@@ -95,14 +98,14 @@ pub fn turn(line: &Line, start: u64, end: u64) -> u64
     count_and_turn(line, start, end, line.place()).1
 }
 
-/// Whether a number is odd.
+/// Returns whether a number is odd.
 pub fn is_odd(n: usize) -> bool
     ensures { result ≡ odd n }
 {
     n % 2 == 1
 }
 
-/// Whether one of the two holds, and not both.
+/// Returns whether exactly one of the two holds.
 pub fn differ(a: bool, b: bool) -> bool
     ensures { result ≡ differ a b }
 {

@@ -1,4 +1,4 @@
-//! Sets of numbers, as runs, and how many runs hold a number.
+//! Sets of numbers as runs, and how many runs hold a number.
 #![tactic(auto)]
 
 mod counts;

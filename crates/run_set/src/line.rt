@@ -8,17 +8,19 @@ ghost use Rattle.run_set.specs.Numbers.{count_le, one_if, stacked, Climbs, IsAbs
 use std::alloc::{AllocError, Global};
 use std::marker::Model;
 
-/// So many numbers behind a place are looked at before all of them are.
+/// How many numbers after a place are looked at before all numbers are.
 const NEAR: usize = 8;
 
-/// Where room grows, at most so much more is asked for than is needed.
+/// When room grows, at most this much more is asked for than is needed.
 const MOST_MORE: usize = 0x100000;
 
-/// Numbers in order, on two stacks, which meet at the place of their last change: those before it, the
-/// last of them on top, and those behind it, the first of them on top. So changes that follow one
-/// another move only the numbers between them, and each stack has room for all numbers.
+/// Numbers in order, on two stacks that meet at the place of the last change.
 ///
-/// Contracts see a number beside them: `room`, for how many more of them there is room.
+/// The first stack has the numbers before that place, with the last of them on top. The second has the numbers after
+/// it, with the first of them on top. So a change moves only the numbers between the place of the last change and its
+/// own. Each stack has room for all numbers.
+///
+/// Contracts also see `room`: for how many more numbers there is room.
 #[derive(Drop)]
 pub struct Line {
     before: Vec<u64>,
@@ -42,7 +44,7 @@ impl Model for Line {
 }
 
 impl Line {
-    /// No number, with room for none.
+    /// Returns a line with no number and room for none.
     pub fn new(alloc: Global) -> Line
         ensures items { result.items ≡ [] }
         ensures room { result.room ≡ 0 }
@@ -53,8 +55,11 @@ impl Line {
         }
     }
 
-    /// Makes room for `count` more numbers. It fails only where that room was missing, and the numbers
-    /// stay as they were.
+    /// Makes room for `count` more numbers.
+    ///
+    /// # Errors
+    ///
+    /// Returns `AllocError` if memory runs out, which happens only if the room was missing. The numbers are unchanged.
     pub fn reserve(&mut self, count: usize) -> Result<(), AllocError>
         ensures ok { OnOk result (count ≤ self.new.room) }
         ensures missing { OnErr result (self.old.room < count) }
@@ -67,8 +72,12 @@ impl Line {
         self.grow(count)
     }
 
-    /// Makes room for `count` more numbers, where it is not there. It stands apart, so that the question
-    /// whether it is there is short.
+    /// Makes room for `count` more numbers, and is called only if the room is missing. A function of its own keeps
+    /// `reserve` short.
+    ///
+    /// # Errors
+    ///
+    /// Returns `AllocError` if memory runs out. The numbers are unchanged.
     #[inline(never)]
     fn grow(&mut self, count: usize) -> Result<(), AllocError>
         ensures ok { OnOk result (count ≤ self.new.room) }
@@ -81,7 +90,7 @@ impl Line {
         widen(&mut self.behind, more_for(before, count, room)?)
     }
 
-    /// For how many more numbers there is room.
+    /// Returns for how many more numbers there is room.
     pub fn room(&self) -> usize
         ensures { result ≡ self.now.room }
     {
@@ -89,19 +98,19 @@ impl Line {
         most - self.before.len() - self.behind.len()
     }
 
-    /// How many numbers there are.
+    /// Returns how many numbers there are.
     pub fn len(&self) -> usize
         ensures { result ≡ length self.now.items }
     {
         self.before.len() + self.behind.len()
     }
 
-    /// The place of the last change: how many numbers stand before it.
+    /// Returns the place of the last change: how many numbers are before it.
     pub fn place(&self) -> usize {
         self.before.len()
     }
 
-    /// How many of the numbers are at most `n`.
+    /// Returns how many numbers are at most `n`.
     pub fn count_to(&self, n: u64) -> usize
         requires { Climbs 0 self.now.items }
         ensures is { result ≡ count_le self.now.items n }
@@ -113,7 +122,8 @@ impl Line {
         }
     }
 
-    /// How many of the numbers are at most `n`, where that is seen to be the place of the last change.
+    /// Returns how many numbers are at most `n` if that is the place of the last change, and `None` if a short look
+    /// does not show it.
     pub fn place_of(&self, n: u64) -> Option<usize>
         requires { Climbs 0 self.now.items }
         ensures is { IfSome result (λ count. count ≡ count_le self.now.items n) }
@@ -126,8 +136,9 @@ impl Line {
         }
     }
 
-    /// How many of the numbers are at most `n`, where that is the place of the last change, or one or two
-    /// more, as it is for changes in order.
+    /// Returns how many numbers are at most `n` if that is the place of the last change or one or two more.
+    ///
+    /// Changes in order meet this condition. Returns `None` if a short look does not show it.
     pub fn count_here(&self, n: u64) -> Option<usize>
         requires { Climbs 0 self.now.items }
         ensures is { IfSome result (λ count. count ≡ count_le self.now.items n) }
@@ -148,8 +159,7 @@ impl Line {
         }
     }
 
-    /// How many of the numbers are at most `n`, which is found soon where they are `near` many, or one or
-    /// two more.
+    /// Returns how many numbers are at most `n`. This is quick if the answer is `near` or one or two more.
     pub fn count_near(&self, n: u64, near: usize) -> usize
         requires { Climbs 0 self.now.items }
         ensures is { result ≡ count_le self.now.items n }
@@ -162,8 +172,8 @@ impl Line {
         self.count_between(n, low, high)
     }
 
-    /// How many of the numbers are at most `n`, where that lies between two places. It stands apart, so
-    /// that a look that ends before is short.
+    /// Returns how many numbers are at most `n`, which is between two places. A function of its own keeps the
+    /// quick looks short.
     #[inline(never)]
     fn count_between(&self, n: u64, from: usize, to: usize) -> usize
         requires climbs { Climbs 0 self.now.items }
@@ -183,7 +193,7 @@ impl Line {
         low
     }
 
-    /// Two places: each number before the first is at most `n`, and each from the second on is more.
+    /// Returns two places: each number before the first is at most `n`, and each from the second on is more.
     fn around(&self, n: u64, near: usize) -> (usize, usize)
         requires { Climbs 0 self.now.items }
         ensures { IsAround self.now.items n result.0 result.1 }
@@ -196,7 +206,7 @@ impl Line {
         }
     }
 
-    /// The two places, where each number from a place on is more than `n`.
+    /// Returns the two places of `around` if each number from `place` on is more than `n`.
     fn around_before(&self, n: u64, place: usize) -> (usize, usize)
         requires climbs { Climbs 0 self.now.items }
         requires place { place ≤ length self.now.items }
@@ -213,7 +223,7 @@ impl Line {
         }
     }
 
-    /// The two places, where each number up to that at a place is at most `n`.
+    /// Returns the two places of `around` if each number up to the one at `place` is at most `n`.
     fn around_behind(&self, n: u64, place: usize) -> (usize, usize)
         requires climbs { Climbs 0 self.now.items }
         requires place { place < length self.now.items }
@@ -237,8 +247,7 @@ impl Line {
         }
     }
 
-    /// Whether each number from a place on is more than `n`; where not, each up to that place is at
-    /// most `n`.
+    /// Returns whether each number from a place on is more than `n`. If not, each up to that place is at most `n`.
     fn is_more_from(&self, at: usize, n: u64) -> bool
         requires { Climbs 0 self.now.items }
         ensures above { result ≡ true → (k d : ℕ) → at ≤ k → k < length self.now.items →
@@ -252,7 +261,7 @@ impl Line {
         self.number_or(at, n) > n
     }
 
-    /// The number at a place, or another number where there is none.
+    /// Returns the number at a place, or `other` if there is none.
     pub fn number_or(&self, at: usize, other: u64) -> u64
         ensures { result ≡ slice_index_or self.now.items at other }
     {
@@ -269,7 +278,7 @@ impl Line {
         }
     }
 
-    /// Puts a number behind those that are at most as great.
+    /// Puts a number after the numbers that are at most as great.
     pub fn put(&mut self, n: u64)
         requires climbs { Climbs 0 self.old.items }
         requires room { 0 < self.old.room }
@@ -284,7 +293,7 @@ impl Line {
         }
     }
 
-    /// The same of a number that belongs elsewhere than to the place of the last change.
+    /// Does the work of `put` for a number that belongs to another place than the last change's.
     #[inline(never)]
     fn put_there(&mut self, n: u64)
         requires climbs { Climbs 0 self.old.items }
@@ -330,7 +339,7 @@ impl Line {
         self.take_there(n)
     }
 
-    /// The same of a number that stands elsewhere than at the place of the last change.
+    /// Does the work of `take` for a number that may be at another place than the last change's.
     #[inline(never)]
     fn take_there(&mut self, n: u64) -> bool
         requires { Climbs 0 self.old.items }
@@ -349,7 +358,7 @@ impl Line {
         true
     }
 
-    /// Takes numbers out, from a place on.
+    /// Takes `count` numbers out, from a place on.
     fn remove(&mut self, at: usize, count: usize)
         requires { at + count ≤ length self.old.items }
         ensures items { self.new.items ≡ take at self.old.items ++ drop (at + count) self.old.items }
@@ -360,7 +369,7 @@ impl Line {
         self.behind.truncate(left);
     }
 
-    /// Puts two numbers, each where it is wanted, in the place of `gone` numbers.
+    /// Replaces `gone` numbers, from a place on, by two numbers, each of which is put only if it is wanted.
     pub fn replace(&mut self, at: usize, gone: usize, first: (u64, bool), second: (u64, bool))
         requires at { at + gone ≤ length self.old.items }
         requires room { 2 ≤ self.old.room }
@@ -377,9 +386,12 @@ impl Line {
     }
 }
 
-/// For how many more numbers a stack gets room, where it needs that for `others` and for `count`, and
-/// there was room for `room`: for as many beyond these as `room`, up to `MOST_MORE`, so that room is
-/// asked for seldom.
+/// Returns for how many more numbers a stack gets room. It needs room for `others` and `count` numbers, and gets
+/// as much again as there was, up to `MOST_MORE`, so that memory is asked for seldom.
+///
+/// # Errors
+///
+/// Returns `AllocError` if the sum has no `usize`.
 fn more_for(others: usize, count: usize, room: usize) -> Result<usize, AllocError>
     ensures { IfOk result (λ more. others + count ≤ more) }
 {
@@ -387,14 +399,14 @@ fn more_for(others: usize, count: usize, room: usize) -> Result<usize, AllocErro
     others.checked_add(more).ok_or(AllocError)
 }
 
-/// The number at a place of a stack, or another number where there is none.
+/// Returns the number at a place of a stack, or `other` if there is none.
 fn number_in(stack: &[u64], at: usize, other: u64) -> u64
     ensures { result ≡ slice_index_or stack.now at other }
 {
     stack.get(at).copied().unwrap_or(other)
 }
 
-/// The number of a stack at a depth, its top at 0, or another number where there is none.
+/// Returns the number at a depth of a stack, whose top is at depth 0, or `other` if there is none.
 fn top_or(stack: &[u64], depth: usize, other: u64) -> u64
     ensures { result ≡ slice_index_or (reverse stack.now) depth other }
 {
@@ -406,7 +418,7 @@ fn top_or(stack: &[u64], depth: usize, other: u64) -> u64
     }
 }
 
-/// Whether a number is seen to lie between those of two stacks.
+/// Returns whether a short look shows that a number belongs between the numbers of two stacks.
 fn lies_between(before: &[u64], behind: &[u64], n: u64) -> bool
     requires { Climbs 0 (stacked before.now behind.now) }
     ensures { result ≡ true → count_le (stacked before.now behind.now) n ≡ length before.now }
@@ -414,7 +426,7 @@ fn lies_between(before: &[u64], behind: &[u64], n: u64) -> bool
     n < top_or(behind, 0, u64::MAX) && top_or(before, 0, 0) <= n
 }
 
-/// Takes the top of a stack, where it is this number, and tells whether it was.
+/// Takes the top off a stack if it is this number, and returns whether it was.
 fn pop_if(stack: &mut Vec<u64>, n: u64) -> bool
     ensures popped { result ≡ true → stack.old.items ≡ stack.new.items ++ n ∷ [] }
     ensures left { result ≡ false → stack.new.items ≡ stack.old.items }
@@ -431,7 +443,7 @@ fn pop_if(stack: &mut Vec<u64>, n: u64) -> bool
     true
 }
 
-/// Puts a number on a stack, where it is wanted.
+/// Puts a number on a stack if it is wanted.
 fn push_if(stack: &mut Vec<u64>, n: u64, wanted: bool)
     requires room { vec_len stack.old < vec_capacity stack.old }
     ensures items { stack.new.items ≡ stack.old.items ++ edge_if wanted n }
@@ -443,7 +455,11 @@ fn push_if(stack: &mut Vec<u64>, n: u64, wanted: bool)
     }
 }
 
-/// Makes room for `more` numbers in a stack. The numbers alone are moved, and not the room that was there.
+/// Makes room for `more` numbers in a stack. Only the numbers are copied, not the room that was there.
+///
+/// # Errors
+///
+/// Returns `AllocError` if memory runs out. The stack is unchanged.
 fn widen(stack: &mut Vec<u64>, more: usize) -> Result<(), AllocError>
     ensures ok { OnOk result (vec_len stack.new + more ≤ vec_capacity stack.new) }
     ensures same { stack.new.items ≡ stack.old.items }
@@ -459,7 +475,7 @@ fn widen(stack: &mut Vec<u64>, more: usize) -> Result<(), AllocError>
     Ok(())
 }
 
-/// Moves the place of two stacks, so that `at` of their numbers stand before it.
+/// Moves the place of two stacks, so that `at` of their numbers are before it.
 fn go_to(before: &mut Vec<u64>, behind: &mut Vec<u64>, at: usize)
     requires at { at ≤ vec_len before.old + vec_len behind.old }
     requires room_before { vec_len before.old + vec_len behind.old ≤ vec_capacity before.old }
@@ -480,8 +496,8 @@ fn go_to(before: &mut Vec<u64>, behind: &mut Vec<u64>, at: usize)
     }
 }
 
-/// Moves numbers from the top of one stack to the top of another, until so many are left. It stands apart, so
-/// that a change at the place is short.
+/// Moves numbers from the top of one stack to the top of another until `left` are left. A function of its own keeps
+/// a change at the place short.
 #[inline(never)]
 fn pour(from: &mut Vec<u64>, to: &mut Vec<u64>, left: usize)
     requires left { left ≤ vec_len from.old }

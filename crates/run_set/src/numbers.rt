@@ -3,8 +3,8 @@
 ghost use Rattle.std.specs.Prelude.{◌≡◌, ℕ, ◌≤◌, ◌<◌, length, slice_index_or, true, false};
 ghost use Rattle.run_set.specs.Numbers.{count_le, Climbs};
 
-/// How many numbers of a list that does not fall are at most `n`. It stands apart, so that a look that ends before
-/// is short.
+/// Returns how many numbers of a list that does not fall are at most `n`. A function of its own keeps the quick looks
+/// short.
 #[inline(never)]
 pub fn count_at(list: &[u64], n: u64) -> usize
     requires { Climbs 0 list.now }
@@ -16,8 +16,8 @@ pub fn count_at(list: &[u64], n: u64) -> usize
     list.partition_point(|item| *item <= n)
 }
 
-/// How many numbers of a list that does not fall are at most `n`, which is found soon where they are
-/// `near` many, or one less.
+/// Returns how many numbers of a list that does not fall are at most `n`. This is quick if the answer is `near` or one
+/// less.
 pub fn count_near(list: &[u64], n: u64, near: usize) -> usize
     requires { Climbs 0 list.now }
     ensures is { result ≡ count_le list.now n }
@@ -35,7 +35,7 @@ pub fn count_near(list: &[u64], n: u64, near: usize) -> usize
     count_at(list, n)
 }
 
-/// Whether so many numbers of a list are at most `n`.
+/// Returns whether `count` numbers of a list are at most `n`.
 fn is_count(list: &[u64], n: u64, count: usize) -> bool
     requires { Climbs 0 list.now }
     ensures is { result ≡ true → count_le list.now n ≡ count }

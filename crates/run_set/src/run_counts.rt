@@ -1,8 +1,9 @@
 //! How many runs hold a number.
 
 ghost use Rattle.std.specs.Prelude.{◌≡◌, ℕ, ◌+◌, ◌≤◌, ◌<◌, [], false, true, nat_lt, OnOk, OnErr};
-ghost use Rattle.run_set.specs.Counts.{changed, count};
+ghost use Rattle.run_set.specs.Counts.{changed, count, held_to, IsBalanced};
 ghost use Rattle.run_set.specs.Edges.{in_run, IsFirst};
+ghost use Rattle.run_set.specs.Numbers.{count_le};
 
 use crate::counts::{self, add_one};
 use crate::edges::{count_and_turn, turn};
@@ -10,18 +11,20 @@ use crate::line::Line;
 use std::alloc::{AllocError, Global};
 use std::marker::Model;
 
-/// For each number, how many runs hold it, by where runs start and where they end; the end of one
-/// run and the start of another at the same number are not kept.
+/// How many runs hold each number, by the starts and the ends of the runs.
 ///
-/// Contracts see a number beside these: `room`, for how many more changes there is room.
+/// No number is both a start and an end: if one run ends at the number at which another starts, neither is kept. So
+/// there are no more starts, and no more ends, than numbers that runs hold, each counted as often as runs hold it.
+///
+/// Contracts also see `room`: for how many more changes there is room.
 #[derive(Drop)]
 pub struct RunCounts {
     starts: Line,
     ends: Line,
 }
 
-/// Where counts are looked at first. Each value of it gives the same answers; that of an earlier look
-/// gives them soon for the number of that look and for those that come next.
+/// Where counts are looked at first. The answers are the same from every value. They are quick for the number of the
+/// look that set it, and for the numbers that come next.
 #[derive(Clone, Copy)]
 pub struct Near {
     starts: usize,
@@ -29,7 +32,7 @@ pub struct Near {
 }
 
 impl Near {
-    /// Before the first number.
+    /// Returns the place before the first number.
     pub fn new() -> Near {
         Near { starts: 0, ends: 0 }
     }
@@ -53,7 +56,7 @@ impl Model for RunCounts {
 }
 
 impl RunCounts {
-    /// No run, with room for no change.
+    /// Returns counts of no run, with room for no change.
     pub fn new(alloc: Global) -> RunCounts
         ensures starts { result.starts ≡ [] }
         ensures ends { result.ends ≡ [] }
@@ -65,8 +68,11 @@ impl RunCounts {
         }
     }
 
-    /// Makes room for `changes` more changes. It fails only where that room was missing, and the
-    /// counts stay as they were.
+    /// Makes room for `changes` more changes.
+    ///
+    /// # Errors
+    ///
+    /// Returns `AllocError` if memory runs out, which happens only if the room was missing. The counts are unchanged.
     pub fn reserve(&mut self, changes: usize) -> Result<(), AllocError>
         ensures ok { OnOk result (changes ≤ self.new.room) }
         ensures missing { OnErr result (self.old.room < changes) }
@@ -79,45 +85,48 @@ impl RunCounts {
         Ok(())
     }
 
-    /// For how many more changes there is room.
+    /// Returns for how many more changes there is room.
     pub fn room(&self) -> usize
         ensures { result ≡ self.now.room }
     {
         self.starts.room().min(self.ends.room())
     }
 
-    /// How many runs hold a number.
+    /// Returns how many runs hold a number.
     pub fn count(&self, n: u64) -> u64
         ensures { result ≡ count self.now n }
     {
         counts::count_of(&self.starts, &self.ends, n)
     }
 
-    /// Counts one run more, from `start` to `end - 1`, or one less.
+    /// Counts the run from `start` to `end - 1` once more or, if `up` is false, once less.
     pub fn change(&mut self, start: u64, end: u64, up: bool)
         requires held { up ≡ false → (n : ℕ) → start ≤ n → n < end → 0 < count self.old n }
         requires room { 1 ≤ self.old.room }
         ensures counts { (n : ℕ) → count self.new n ≡ changed up (in_run start end n) (count self.old n) }
+        ensures kept { IsBalanced self.new.starts self.new.ends }
+        ensures few { (n : ℕ) → count_le self.new.starts n ≤ held_to self.new.starts self.new.ends n }
         ensures room { self.old.room ≤ self.new.room + 1 }
     {
+        let (starts, ends) = (&mut self.starts, &mut self.ends);
         if end <= start {
             return;
         }
         let (more, less) = if up { (start, end) } else { (end, start) };
-        add_one(&mut self.starts, &mut self.ends, more);
-        add_one(&mut self.ends, &mut self.starts, less);
+        add_one(starts, ends, more);
+        add_one(ends, starts, less);
     }
 
-    /// The least number of the run from `start` to `end - 1` that more than `n` runs hold; None where
-    /// the run has no such number.
+    /// Returns the least number of the run from `start` to `end - 1` that more than `n` runs hold, or `None` if the run
+    /// has no such number.
     pub fn first_above(&self, start: u64, end: u64, n: u64) -> Option<u64>
         ensures { IsFirst (λ a. nat_lt n (count self.now a)) true start end result }
     {
         counts::first_above(&self.starts, &self.ends, start, end, n)
     }
 
-    /// The number up to which all numbers from `start` on are held by as many runs as it is; `end`
-    /// where no run starts or ends before it.
+    /// Returns a number up to which as many runs hold each number as hold `start`. It is `end` if no run starts or ends
+    /// before `end`.
     pub fn turn(&self, start: u64, end: u64) -> u64
         requires { start < end }
         ensures from { start < result }
@@ -127,7 +136,7 @@ impl RunCounts {
         turn(&self.starts, start, turn(&self.ends, start, end))
     }
 
-    /// How many runs hold a number, looked for near an earlier look.
+    /// Returns how many runs hold a number, and looks near an earlier look first.
     pub fn count_near(&self, n: u64, near: &mut Near) -> u64
         ensures { result ≡ count self.now n }
     {
@@ -136,7 +145,7 @@ impl RunCounts {
         (near.starts - near.ends) as u64
     }
 
-    /// What `turn` gives, looked for near an earlier look.
+    /// Returns what `turn` returns, and looks near an earlier look first.
     pub fn turn_near(&self, start: u64, end: u64, near: &mut Near) -> u64
         requires { start < end }
         ensures from { start < result }

@@ -1,4 +1,4 @@
-//! A set of numbers, as runs.
+//! A set of numbers as runs.
 
 ghost use Rattle.std.specs.Prelude.{◌≡◌, ℕ, ◌+◌, ◌≤◌, ◌<◌, [], if◌then◌else◌, length, IsOk, OnOk, OnErr};
 ghost use Rattle.run_set.specs.Edges.{member, in_run, IsFirst, IsKept, IsSplit, Rises};
@@ -9,10 +9,11 @@ use crate::line::Line;
 use std::alloc::{AllocError, Global};
 use std::marker::Model;
 
-/// A set of numbers below 2^64 - 1, by its edges: the numbers at which membership turns, in rising
-/// order. So it is a list of runs, each from its start up to its end, apart and not touching.
+/// A set of numbers below 2^64 - 1, by its edges: the numbers at which membership turns, in rising order.
 ///
-/// Contracts see a number beside the edges: `room`, for how many more of them there is room.
+/// So it is a list of runs, each from its start up to its end, and no two runs touch.
+///
+/// Contracts also see `room`: for how many more edges there is room.
 #[derive(Drop)]
 pub struct RunSet {
     edges: Line,
@@ -31,7 +32,7 @@ impl Model for RunSet {
 }
 
 impl RunSet {
-    /// The empty set, with room for no edge.
+    /// Returns the empty set, with room for no edge.
     pub fn new(alloc: Global) -> RunSet
         ensures edges { result.edges ≡ [] }
         ensures room { result.room ≡ 0 }
@@ -41,8 +42,11 @@ impl RunSet {
         }
     }
 
-    /// Makes room for `edges` more edges; each change by `set` needs two. It fails only where that
-    /// room was missing, and the set stays as it was.
+    /// Makes room for `edges` more edges. Each change by `set` needs room for two.
+    ///
+    /// # Errors
+    ///
+    /// Returns `AllocError` if memory runs out, which happens only if the room was missing. The set is unchanged.
     pub fn reserve(&mut self, edges: usize) -> Result<(), AllocError>
         ensures ok { OnOk result (edges ≤ self.new.room) }
         ensures missing { OnErr result (self.old.room < edges) }
@@ -52,29 +56,29 @@ impl RunSet {
         self.edges.reserve(edges)
     }
 
-    /// For how many more edges there is room.
+    /// Returns for how many more edges there is room.
     pub fn room(&self) -> usize
         ensures { result ≡ self.now.room }
     {
         self.edges.room()
     }
 
-    /// The number of edges: two for each run.
+    /// Returns the number of edges: two for each run.
     pub fn edge_count(&self) -> usize
         ensures { result ≡ length self.now.edges }
     {
         self.edges.len()
     }
 
-    /// Whether a number is in the set.
+    /// Returns whether a number is in the set.
     pub fn contains(&self, n: u64) -> bool
         ensures { result ≡ member self.now.edges n }
     {
         is_odd(count_to(&self.edges, n))
     }
 
-    /// The least number of the run from `start` to `end - 1` that is in the set or, where `is_in` is
-    /// false, out of it; None where the run has no such number.
+    /// Returns the least number of the run from `start` to `end - 1` that is in the set or, if `is_in` is false, out of
+    /// it. Returns `None` if the run has no such number.
     pub fn first(&self, start: u64, end: u64, is_in: bool) -> Option<u64>
         ensures { IsFirst (member self.now.edges) is_in start end result }
     {
@@ -89,8 +93,8 @@ impl RunSet {
         if turn < end { Some(turn) } else { None }
     }
 
-    /// The number up to which all numbers from `start` on are in the set, or all are out of it; `end`
-    /// where no edge comes before it.
+    /// Returns a number up to which all numbers from `start` on are in the set, or all are out of it. It is `end` if no
+    /// edge comes before `end`.
     pub fn turn(&self, start: u64, end: u64) -> u64
         requires { start < end }
         ensures from { start < result }
@@ -101,8 +105,8 @@ impl RunSet {
         turn(&self.edges, start, end)
     }
 
-    /// Whether `start` is in the set, and the number up to which all numbers from it on are as it is;
-    /// `end` where no edge comes before it.
+    /// Returns whether `start` is in the set, and a number up to which the same holds of all numbers from `start` on. It
+    /// is `end` if no edge comes before `end`.
     pub fn run_at(&self, start: u64, end: u64) -> (bool, u64)
         requires { start < end }
         ensures is_in { result.0 ≡ member self.now.edges start }
@@ -114,7 +118,7 @@ impl RunSet {
         (is_odd(count), turn)
     }
 
-    /// Puts the run from `start` to `end - 1` into the set or, where `is_in` is false, takes it out.
+    /// Puts the run from `start` to `end - 1` into the set or, if `is_in` is false, takes it out.
     pub fn set(&mut self, start: u64, end: u64, is_in: bool)
         requires { 2 ≤ self.old.room }
         ensures members { (n : ℕ) → member self.new.edges n
@@ -135,8 +139,8 @@ impl RunSet {
         }
     }
 
-    /// The same of a run that lies elsewhere than at the place of the last change. It stands apart, so that a
-    /// change at that place is short.
+    /// Does the work of `set` for a run at another place than the last change's. A function of its own keeps a change
+    /// at that place short.
     #[inline(never)]
     fn set_apart(&mut self, start: u64, end: u64, is_in: bool)
         requires some { start < end }
@@ -153,7 +157,7 @@ impl RunSet {
         self.set_between(below, to, start, end, is_in);
     }
 
-    /// The same of a run below which `below` edges lie, and up to whose end `to` of them do.
+    /// Does the work of `set` for a run with `below` edges below it and `to` edges up to its end.
     fn set_between(&mut self, below: usize, to: usize, start: u64, end: u64, is_in: bool)
         requires some { start < end }
         requires split { IsSplit self.old.edges start end below to }

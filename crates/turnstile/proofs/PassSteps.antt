@@ -9,15 +9,15 @@ use native.Mathlib.Decide.{ℕ_discrete}
 use lib.ListN.{get_elem?}
 use lib.ListN.{length-replicate}
 use Rattle.atomic_table.specs.Table.{State, Me, step, keeps, stepped, Allows, Splits, Joins, opening}
-use Rattle.atomic_table.proofs.Lists.{at_set, set_else, set_again, at_snoc, at_longer}
+use Rattle.atomic_table.proofs.Lists.{at_set, set_else, at_snoc, at_longer}
 use Rattle.std.proofs.lemmas.List.Elements.{All-nil, All-cons, All-append, All-map, All-head}
 use Rattle.turnstile.specs.TurnHistory.{calls_of}
 use Rattle.turnstile.specs.Start.{history_after}
-use Rattle.turnstile.specs.View.{first_view, named_view, refused_view, nameless_view, ended_with, joined_view}
+use Rattle.turnstile.specs.View.{first_view, named_view, refused_view, cut_view, nameless_view, ended_with, joined_view}
 use Rattle.turnstile.specs.View.{returned_view, spent_view, first_of}
 use Rattle.turnstile.specs.Rule.{Fits, IsHome, IsAway, IsRuled}
 use Rattle.turnstile.specs.Steps.{Knows, TakesName, LearnsTruth}
-use Rattle.turnstile.proofs.Views.{false≢true, set_swap, longer_begins, All_with_name, OneName, Over, back_set}
+use Rattle.turnstile.proofs.Views.{false≢true, set_at, set_swap, longer_begins, All_with_name, OneName, Over, back_set}
 use Rattle.turnstile.proofs.Views.{one_name_back, over_back, each_set, one_ticket_set, one_name_set, Unlike, over_set}
 use Rattle.turnstile.proofs.Views.{refit_same}
 use Rattle.turnstile.proofs.Ruled.{same_state, knows_of, object_stays}
@@ -148,10 +148,42 @@ module _ {O E F : Type 0} (history : O → List E) (fixed : O → F) (legal : F 
             (a.0, (a.1.0, a.1.1, at_longer s.views (w ∷ []) a.1.0 a.1.1 a.1.2, a.1.3))) r.object;
       }
 
-  pub splits_keep : (id : ℕ) (v : V) → Splits Rule id v v (nameless_view v)
-  splits_keep id v s r at =
-      subst (λ vs. Rule record { words = s.words; homes = s.homes; views = vs ++ nameless_view v ∷ [] })
-      (sym (set_again s.views id v at)) (views_more s r id v at)
+  -- a seat counts one more that was cut off
+  counts_keep : (s : St) (r : Rule s) (id : ℕ) (v : V) → get_elem? s.views id ≡ some v → v.turn ≡ false →
+      Rule record { words = s.words; homes = s.homes; views = set s.views id (cut_view v) }
+  counts_keep s r id v at turn = let w : V = cut_view v in let f = r.each id v at in record {
+    log = r.log;
+    ticket = r.ticket;
+    serving = r.serving;
+    marks = r.marks;
+    words = r.words;
+    wide = r.wide;
+    order = r.order;
+    each = each_set (Fits b r.log r.ticket r.serving r.marks) s.views id w record {
+      started = f.started;
+      front = f.front;
+      waits = f.waits;
+      whole = f.whole;
+      turn = f.turn;
+      named = f.named;
+      unnamed = f.unnamed;
+      ended = f.ended;
+      taken = f.taken;
+      below = f.below;
+    } (λ j d _ p. r.each j d p);
+    one_ticket =
+        one_ticket_set s.views id w r.one_ticket (λ j d other p c e same. other (r.one_ticket j id d v p at e c (sym same)));
+    one_name = one_name_back s.views (set s.views id w) (back_set s.views id v w at (refl, refl, refl)) r.one_name;
+    over = over_back s.views (set s.views id w) (back_set s.views id v w at (refl, refl, refl)) r.over;
+    unmarked = r.unmarked;
+    sound = r.sound;
+    object = object_stays history fixed legal fits b s r id v w at turn turn;
+  }
+
+  pub splits_keep : (id : ℕ) (v : V) → v.turn ≡ false → Splits Rule id v (cut_view v) (nameless_view v)
+  splits_keep id v turn s r at =
+      views_more record { words = s.words; homes = s.homes; views = set s.views id (cut_view v) }
+      (counts_keep s r id v at turn) id (cut_view v) (set_at s.views id v (cut_view v) at)
 
   -- a look that changes nothing may tell what the view knows
   pub tells_keep : (slots id : ℕ) (me : Me O V) →
@@ -162,7 +194,7 @@ module _ {O E F : Type 0} (history : O → List E) (fixed : O → F) (legal : F 
         keeps,
         tt,
         same_state history fixed legal fits b s r 0 id me.1 me.0 at,
-        (refl, (λ c is. knows_of history fixed legal fits b s r r.marks me.0 c r.wide f is), f.below),
+        (refl, (λ c is. knows_of history fixed legal fits b s r r.marks me.0 c r.wide f is), f.below, refl),
       )
 
   -- the marks once that of n is set
@@ -266,6 +298,7 @@ module _ {O E F : Type 0} (history : O → List E) (fixed : O → F) (legal : F 
         (
           (λ _. (
             refl,
+            unnamed,
             subst (λ k. All (λ m. m ≢ k) v.taken) (sym back)
                 (λ i z l same. f.taken i z l (ap (λ m. get_or r.marks m 0) same ∙ free)),
             λ c is. subst (λ k. Knows legal fits c (named_view k v)) (sym back)

@@ -6,8 +6,8 @@ use Rattle.atomic_table.specs.Seated.{TableId}
 use Rattle.turnstile.specs.TurnHistory.{calls_of}
 use Rattle.turnstile.specs.Start.{history_after}
 use Rattle.turnstile.specs.Pass.{IsSoundPass, SplitsOff, known_names}
-use Rattle.turnstile.specs.View.{pass_view, first_view, named_view, nameless_view, returned_view, joined_view}
-use Rattle.turnstile.specs.View.{names_seen}
+use Rattle.turnstile.specs.View.{pass_view, first_view, named_view, cut_view, nameless_view, returned_view}
+use Rattle.turnstile.specs.View.{joined_view, names_seen}
 use Rattle.turnstile.specs.Steps.{Held, IsIdle, Knows}
 use Rattle.turnstile.specs.declared.view.Start.{Start}
 use Rattle.turnstile.specs.declared.view.View.{View}
@@ -35,7 +35,7 @@ module _ {E F : Type 0} (legal : F → List E → Type 0) (fits : ℕ → E → 
       let seen : names_seen v ≡ known_names (pass_view t v) =
       (λ i. map (λ (x : ℕ × List E). x.0) (if named i then (v.name, v.own) ∷ v.ended else v.ended) ++ v.taken) in
       record {
-        is = ap (pass_view u) is ∙ (λ i. record (pass_view (here i) v) { name = same i; ended = []; taken = seen i });
+        is = ap (pass_view u) is ∙ (λ i. record (pass_view (here i) v) { name = same i; ended = []; taken = seen i; splits = 0 });
         calls = ap (λ m. calls_of m v.front) (sym same)
             ∙ ((λ i. calls_of (sym is i).name (sym is i).front)
             ∙ ((knows.own (ap (λ (z : View E F). z.named) is)).1 ∙ ap (λ (z : View E F). z.own) is));
@@ -73,6 +73,15 @@ module _ {E F : Type 0} (legal : F → List E → Type 0) (fits : ℕ → E → 
         e' ∙ (λ i. (named_view k (e i).0, (e i).1)) in (
           subst (IsIdle n) (sym whole) (refl, same, refl, refl, ap is_some is),
           (a, tells a (ap (λ (z : Held O E F). z.0.start) e ∙ is)),
+        )
+
+    pub cut_pass_knows : (n : ℕ) (m m' : Held O E F) → m' ≡ (cut_view m.0, m.1) →
+        IsIdle n m × ((b : Start E F) × Knows legal fits b m.0) →
+        IsIdle n m' × ((b : Start E F) × Knows legal fits b m'.0)
+    cut_pass_knows n m m' e (i, (b, k)) =
+        subst (λ (z : Held O E F). IsIdle n z × ((a : Start E F) × Knows legal fits a z.0)) (sym e) (
+          (i.0, i.1, i.2, i.3, i.4),
+          (b, record { started = k.started; sound = k.sound; own = k.own; ended = k.ended }),
         )
 
     pub returned_pass_knows : (n : ℕ) (w : View E F) (m m' : Held O E F) → m' ≡ (returned_view m.0 w, m.1) →

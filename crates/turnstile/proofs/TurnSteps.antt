@@ -330,6 +330,7 @@ module _ {O E F : Type 0} (history : O → List E) (fixed : O → F) (legal : F 
           refl,
           λ b' is'. subst (λ l. Knows legal fits b' (view_after l v)) (sym gain)
               (subst (λ z. Knows legal fits z w) (same_Some b b' (sym is ∙ is')) knows),
+          refl,
         ),
       )
 

@@ -1,5 +1,5 @@
 -- What contracts see of a pass, and what each call does to it.
-use Rattle.std.specs.Prelude.{◌≡◌, ◌≢◌, map, ℕ, ◌<◌, List, [], ◌∷◌, ◌++◌, All, Option, Some, IfSome}
+use Rattle.std.specs.Prelude.{◌≡◌, ◌≢◌, map, ℕ, ◌+◌, ◌<◌, List, [], ◌∷◌, ◌++◌, All, Option, Some, IfSome}
 use mathlib.Core.List.{IsPrefix}
 use Rattle.atomic_table.specs.Seated.{TableId}
 use Rattle.turnstile.specs.TurnHistory.{calls_of, turns_of, IsOfOthers, longer}
@@ -8,7 +8,8 @@ use Rattle.turnstile.specs.Start.{history_after, IsLawful}
 use Rattle.turnstile.specs.declared.view.Start.{Start}
 
 -- which turnstile it is of, how that started, its name, its front (the turn history as far as it knows it), the names
--- that it knows to have ended, each with its calls, and the further names that it knows to be taken
+-- that it knows to have ended, each with its calls, the further names that it knows to be taken, and how many passes
+-- were split off from it and from those that ended in it
 pub record PassView (E F : Type 0) : Type 0 where
   pub turnstile : TableId
   pub start : Option (Start E F)
@@ -16,6 +17,7 @@ pub record PassView (E F : Type 0) : Type 0 where
   pub front : List (ℕ × E)
   pub ended : List (ℕ × List E)
   pub taken : List ℕ
+  pub splits : ℕ
 
 module _ {E F : Type 0} where
   -- its own calls: the entries of its front under its name
@@ -25,7 +27,7 @@ module _ {E F : Type 0} where
   -- the first pass of a turnstile that started so
   abbrev pub first_pass : TableId → Start E F → PassView E F
   first_pass turnstile start =
-      record { turnstile = turnstile; start = Some start; name = 0; front = []; ended = []; taken = [] }
+      record { turnstile = turnstile; start = Some start; name = 0; front = []; ended = []; taken = []; splits = 0 }
 
   -- the names that it knows to be taken: its own, those that ended in it, and further ones
   abbrev pub known_names : PassView E F → List ℕ
@@ -34,21 +36,27 @@ module _ {E F : Type 0} where
   -- a new pass has this name, of which the old pass knew no call and did not know that it was taken; it knows the same
   -- turns, and saw no name end
   pub record SplitsOff (name : ℕ) (old pass : PassView E F) : Type 0 where
-    pub is : pass ≡ record old { name = name; ended = []; taken = known_names old }
+    pub is : pass ≡ record old { name = name; ended = []; taken = known_names old; splits = 0 }
     pub calls : calls_of name old.front ≡ []
     pub free : All (λ other. other ≢ name) (known_names old)
+
+  -- one pass was split off from this one, which is else as it was
+  abbrev pub splits_once : PassView E F → PassView E F
+  splits_once old = record old { splits = old.splits + 1 }
 
   -- a pass found this name taken, and is else as it was
   abbrev pub finds_taken : ℕ → PassView E F → PassView E F
   finds_taken name old = record old { taken = name ∷ old.taken }
 
-  -- a pass took another in: it has the longer front, and knows that the other's name ended with its calls
+  -- a pass took another in: it has the longer front, knows that the other's name ended with its calls, and counts the
+  -- passes that were split off from either
   pub record TakesIn (old other new : PassView E F) : Type 0 where
     pub is : new ≡ record old {
       front = longer old.front other.front;
       ended = old.ended
           ++ (other.name, own_calls other) ∷ other.ended;
       taken = old.taken ++ other.taken;
+      splits = old.splits + other.splits;
     }
     pub begins : IsPrefix old.front new.front
     pub begins_other : IsPrefix other.front new.front

@@ -44,17 +44,18 @@ module _ {E F : Type 0} (legal : F → List E → Type 0) (fits : ℕ → E → 
     pub ended : All (λ x. calls_of x.0 v.front ≡ x.1) v.ended
 
   module _ {O : Type 0} where
-    -- the name is the seat's where its word was 0, and is then none of those that the seat knew to be taken
+    -- the name is the seat's where its word was 0: the seat had none, and the name is none of those that it knew to be
+    -- taken
     abbrev pub TakesName : Step O → Held O E F → ℕ → Held O E F → Type 0
     TakesName st m r m' =
-        (r ≡ 0 → (m' ≡ (named_view (st.word - 2) m.0, m.1)) × All (λ n. n ≢ st.word - 2) m.0.taken
+        (r ≡ 0 → (m' ≡ (named_view (st.word - 2) m.0, m.1)) × (m.0.named ≡ false) × All (λ n. n ≢ st.word - 2) m.0.taken
         × ((start : Start E F) → m.0.start ≡ Some start → Knows start m'.0))
         × (r ≢ 0 → m' ≡ (refused_view (st.word - 2) m.0, m.1))
 
-    -- a look that changes nothing, and tells that what the view says is true
+    -- a look at the next ticket, which changes nothing, and tells that what the view says is true
     abbrev pub LearnsTruth : Step O → Held O E F → ℕ → Held O E F → Type 0
     LearnsTruth st m r m' = (m' ≡ m) × ((start : Start E F) → m.0.start ≡ Some start → Knows start m.0)
-        × All (λ xs. IsPrefix xs m.0.front) m.0.below
+        × All (λ xs. IsPrefix xs m.0.front) m.0.below × (st.word ≡ 0)
 
 module _ {O E F : Type 0} (history : O → List E) where
   -- what the object's calls added, beyond these turns
@@ -70,7 +71,7 @@ module _ {O E F : Type 0} (history : O → List E) where
   -- the object goes home, and the next ticket is served
   abbrev pub EndsTurn : (F → List E → Type 0) → (ℕ → E → Type 0) → Step O → Held O E F → ℕ → Held O E F → Type 0
   EndsTurn legal fits st m r m' = (m' ≡ (finished_view m.0 m.1, rest m.1))
-      × ((start : Start E F) → m.0.start ≡ Some start → Knows legal fits start m'.0)
+      × ((start : Start E F) → m.0.start ≡ Some start → Knows legal fits start m'.0) × (st.word ≡ 1)
 
   module _ (fixed : O → F) (legal : F → List E → Type 0) (fits : ℕ → E → Type 0) where
     -- the seat's ticket is served: it knows the whole turn history, in which only others came next, and has the object

@@ -1,7 +1,7 @@
 //! The lock.
 ghost use Rattle.std.specs.Prelude.{◌≡◌, ◌≤◌, ◌<◌, IfOk, IfSome, IfNone, OnSome};
 ghost use Rattle.turnstile.specs.Start.{start_of};
-ghost use Rattle.turnstile.specs.Pass.{first_pass, MayCall, IsSoundPass, HasTurn, SplitsOff, finds_taken, TakesIn};
+ghost use Rattle.turnstile.specs.Pass.{first_pass, MayCall, IsSoundPass, HasTurn, SplitsOff, splits_once, finds_taken, TakesIn};
 ghost use Rattle.turnstile.specs.Pass.{Closes};
 
 mod steps;
@@ -83,7 +83,7 @@ impl<H: TurnObject> Turnstile<H> {
         requires name { name < self.now.names }
         ensures new { IfSome result (SplitsOff name pass.old) }
         ensures new_sound { IfSome result (IsSoundPass H.legal H.fits) }
-        ensures same { OnSome result (pass.new ≡ pass.old) }
+        ensures one { OnSome result (pass.new ≡ splits_once pass.old) }
         ensures taken { IfNone result (pass.new ≡ finds_taken name pass.old) }
         ensures sound { IsSoundPass H.legal H.fits pass.new }
     {

@@ -1,4 +1,4 @@
-use Rattle.std.proofs.Common.{◌≡◌, ◌+◌, ◌++◌, [], ◌∷◌, length, sym, ap, ◌∙◌, subst, append_assoc, length-append, arith}
+use Rattle.std.proofs.Common.{◌≡◌, ℕ, ◌+◌, ◌++◌, [], ◌∷◌, length, sym, ap, ◌∙◌, subst, append_assoc, length-append, arith}
 use Rattle.lane_threads.specs.PassDoor as pass
 use Rattle.lane_threads.specs.Closing.{LanePass}
 use Rattle.lane_rounds.specs.AtWork.{Place}
@@ -16,6 +16,7 @@ loop-lane-preserved g c =
     let step = c.in-Some.ensures.steps.0 in
     let first : LanePass = c.args.first.now in
     let split = c.in-Some-split.ensures.new.is in
+    let one_more = c.in-Some-split.ensures.one in
     let place = c.new.ensures.place in
     let cut = c.new-door.ensures ∙ split in
     let one : IsSeated first l w = record {
@@ -39,7 +40,11 @@ loop-lane-preserved g c =
         append_assoc done (l ∷ []) rest ∙ (ap (λ ls. done ++ ls) (sym step) ∙ inv.2.1),
         subst (AreSeated first (done ++ l ∷ [])) (sym c.in_ok-push.ensures.items) more,
       ),
-      c.in-Some-split.ensures.same ∙ inv.3,
+      one_more
+          ∙ (ap (λ (p : LanePass). record p { splits = c.loop-lane.first.splits + 1 }) inv.3
+          ∙ ap (λ (n : ℕ). record first { splits = n }) (sym (ap (λ (p : LanePass). p.splits) one_more))),
       omega (arith, count, inv.4, ap length step),
       subst (λ n. AreFresh first n rest) (sym count) fresh.1,
+      omega (arith, count, inv.6, ap (λ (p : LanePass). p.splits) one_more),
+      ap (λ (p : LanePass). p.turnstile) one_more ∙ inv.7,
     )

@@ -2,7 +2,8 @@ use Rattle.std.proofs.Common.{◌≡◌, ◌+◌, ◌++◌, List, All, length, d
 use Rattle.bounce_hub.specs.Seen.{HubSeen}
 use Rattle.turnstile.specs.Start.{start_of}
 use Rattle.ideal_runs.specs.Runs.{Log}
-use Rattle.lane_threads.specs.Closing.{ClosesAfter, LanePass}
+use Rattle.lane_threads.specs.Closing.{LanePass}
+use Rattle.lane_threads.proofs.Closings.{closed_same}
 use Rattle.lane_threads.specs.PassDoor.{seen}
 use Rattle.lane_rounds.specs.AtWork.{Works}
 use Rattle.lane_run.specs.Seated.{AreSeated}
@@ -56,6 +57,11 @@ park-requires g c =
     c.as_mut_slice.ensures.value c.all_rounds.ensures.len c.all_rounds.ensures.each in
     seated-work first ls (take c.in-Some.workers.len (vs ++ drop (length vs) ws)) seated
 
+pub close_after-requires-clause-first : goal.close_after-requires-clause-first
+close_after-requires-clause-first g c =
+    ap (λ (p : LanePass). p.turnstile) (rw c.in-Some.is at c.in_ok-workers.ensures.same)
+    ∙ ap (λ (p : LanePass). p.turnstile) c.in_ok-turnstile.ensures.first
+
 pub close_after-requires-clause-passes : goal.close_after-requires-clause-passes
 close_after-requires-clause-passes g c =
     let first = c.in_ok-turnstile.first in
@@ -98,5 +104,4 @@ returns g c =
     (fresh s c.requires names first start (ap (λ (p : LanePass). p.front) c.in_ok-turnstile.ensures.first) ls
     c.in_ok-lanes.ensures.lanes)
     (back first ls (take c.in-Some.workers.len (vs ++ drop (length vs) ws)) ms logs qs seated c.in_ok-parked.ensures)
-    (subst (λ (p : LanePass). ClosesAfter p qs hub) (rw c.in-Some.is at c.in_ok-workers.ensures.same)
-    c.close_after.ensures)
+    (closed_same first _ qs hub (rw c.in-Some.is at c.in_ok-workers.ensures.same) c.close_after.ensures)

@@ -1,14 +1,14 @@
 use Rattle.std.proofs.Common.{rules, ◌≢◌, ◌∙◌, ap, sym, arith, subst, ◌<◌, ◌+◌, ◌-◌, All}
 use Rattle.turnstile.specs.Pass.{PassView, SplitsOff}
 use Rattle.turnstile.specs.View.{pass_view, named_view}
-use Rattle.turnstile.specs.Steps.{Held, IsIdle, Knows}
+use Rattle.turnstile.specs.Steps.{Held}
 use Rattle.turnstile.proofs.PassSteps.{splits_keep, names_keep, backs_keep}
 use Rattle.turnstile.proofs.Turn.{some_of}
-use Rattle.turnstile.proofs.Passes.{named_pass_knows, returned_pass_knows, sound_pass, splits_off}
+use Rattle.turnstile.proofs.Passes.{named_pass_knows, cut_pass_knows, returned_pass_knows, sound_pass, splits_off}
 use Rattle.turnstile.proofs.lock.Turnstile.split.Goals as goal
 
 pub split_seat-seat-requires : goal.split_seat-seat-requires
-split_seat-seat-requires g c = (search rules, omega (arith, c.self.invariant.0), splits_keep _ _ _ _ _ _ _)
+split_seat-seat-requires g c = (search rules, omega (arith, c.self.invariant.0), splits_keep _ _ _ _ _ _ _ c.pass.invariant.0.2)
 
 pub swap-found-requires : goal.swap-found-requires
 swap-found-requires g c = let is = c.split_seat-seat.ensures.4 in let inv =
@@ -35,19 +35,19 @@ invariant_of-result g c = let t = g.H.TurnObject in let b =
     some_of c.pass.inside.seat.me.0.start c.pass.invariant.0.4 in let after =
     c.swap-found.ensures.2.0 (search rules) in
     named_pass_knows t.legal t.fits c.args.name ((c.args.name + 2) - 2) c.pass.inside.seat.me.0 b.0
-    c.split_seat-seat.result.me _ (omega arith) b.1 c.split_seat-seat.ensures.4 after.0 after.2
+    c.split_seat-seat.result.me _ (omega arith) b.1 c.split_seat-seat.ensures.4 after.0 after.3
 
 pub invariant_of-pass : goal.invariant_of-pass
 invariant_of-pass g c = let t = g.H.TurnObject in
-    subst (λ m. IsIdle c.pass.inside.name m × ((b : _) × Knows t.legal t.fits b m.0))
-    (sym c.split_seat-seat.ensures.2) c.pass.invariant
+    cut_pass_knows t.legal t.fits c.pass.inside.name c.pass.inside.seat.me c.split_seat-seat.new.seat.me
+    c.split_seat-seat.ensures.2 c.pass.invariant
 
 pub invariant_of-pass-2 : goal.invariant_of-pass-2
 invariant_of-pass-2 g c = let t = g.H.TurnObject in
     returned_pass_knows t.legal t.fits c.pass.inside.name c.swap-found.new.seat.me.0
     c.split_seat-seat.new.seat.me _ c.join_seat.ensures.2
-    (subst (λ m. IsIdle c.pass.inside.name m × ((b : _) × Knows t.legal t.fits b m.0))
-    (sym c.split_seat-seat.ensures.2) c.pass.invariant)
+    (cut_pass_knows t.legal t.fits c.pass.inside.name c.pass.inside.seat.me c.split_seat-seat.new.seat.me
+    c.split_seat-seat.ensures.2 c.pass.invariant)
 
 pub returns-then-found-eq0-clause-new_sound : goal.returns-then-found-eq0-clause-new_sound
 returns-then-found-eq0-clause-new_sound g c = let t = g.H.TurnObject in let known =
@@ -72,4 +72,4 @@ returns-then-found-eq0-clause-new g c = let t = g.H.TurnObject in let v = c.pass
     c.swap-found.new.seat.me.0 start.0 (search rules) (omega arith) c.pass.invariant.0.0
     (ap (λ m. m.0) after.0 ∙ ap (λ m. named_view k m.0) made)
     (subst (λ (m : Held g.row.H.Denot g.row.H-Entry.Denot g.row.H-Fixed.Denot). All (λ m. m ≢ k) m.0.taken) made
-    after.1) (after.2 start.0 (ap (λ m. m.0.start) made ∙ start.1)))
+    after.2) (after.3 start.0 (ap (λ m. m.0.start) made ∙ start.1)))
