@@ -6,12 +6,12 @@ use Rattle.std.proofs.lemmas.List.{get_or-set_same, get_or-set_other, length-set
 use Rattle.busdma_machine.specs.declared.name.MapId.{MapId}
 use Rattle.busdma_machine.specs.declared.bounce.zone.Waiter.{Waiter}
 use Rattle.busdma_machine.specs.Bounce.Account.{Account, Zone, zone_at, free}
-use Rattle.busdma_machine.specs.Bounce.Serving.{handed, waiting_at_tail as queued, returned}
+use Rattle.busdma_machine.specs.Bounce.Serving.{handed, waiting_at_tail, returned}
 use Rattle.busdma_machine.specs.Bounce.Serving.{served, completed, left_waiting, promised}
 use Rattle.busdma_machine.specs.Bounce.Conditions.{times_held}
 use Rattle.busdma_machine.specs.Machine.Page.{FrameBytes}
 use Rattle.busdma_machine.specs.Machine.PageList.{page_addresses, page_address}
-use Rattle.busdma_machine.specs.Bounce.WellFormed.{IsWellFormed}
+use Rattle.busdma_machine.specs.Bounce.WellFormed.{IsAccountWellFormed}
 use Rattle.busdma_machine.proofs.Accounts.Counts.{SameZone, handed-zone, handed-reserved, handed-active, handed-other}
 use Rattle.busdma_machine.proofs.Accounts.Counts.{queued-zone, queued-reserved, queued-other, room_now, release-avail}
 use Rattle.busdma_machine.proofs.Accounts.Counts.{release-wait, release-done, release-reserved, release-active}
@@ -20,7 +20,7 @@ use Rattle.busdma_machine.proofs.Accounts.Counts.{shorter-enough, back-zone}
 use Rattle.busdma_machine.proofs.Accounts.KeptZones.{keeps-all, keeps-trans, keeps-with_zone}
 use Rattle.bounce_hub.specs.declared.hub_zone.HubZone.{HubZone}
 use Rattle.bounce_hub.specs.declared.pool.Pool.{Pool}
-use Rattle.bounce_hub.specs.Pools.{Matches, Agrees, owed}
+use Rattle.bounce_hub.specs.Pools.{Matches, PoolAgrees, owed}
 use Rattle.bounce_hub.specs.HubZones.{room_after}
 use Rattle.bounce_hub.proofs.Nested.{nested-after}
 use Rattle.bounce_hub.proofs.Owing.{handed-owed, handed-waiting, queued-owed, queued-waiting, release-owed}
@@ -44,7 +44,7 @@ pub record Around (p q : Pool) : Type 0 where
   pub max_bpages : q.max_bpages ≡ p.max_bpages
 
 -- the zone at a place
-pub zone-matches : (p : Pool) (a : Account) (z : ℕ) (s : HubZone) → Agrees p a → z < length a.zones →
+pub zone-matches : (p : Pool) (a : Account) (z : ℕ) (s : HubZone) → PoolAgrees p a → z < length a.zones →
     s ≡ get_or p.zones.items z s → Matches s a z
 zone-matches p a z s agrees inside at =
     subst (λ k. Matches k a z) (sym at) (agrees.zones z s (omega (arith, inside, agrees.count)))
@@ -74,7 +74,7 @@ matches-set hub_zones a b z s inside each here others y d below =
     ])
 
 -- the zones of a pool of which one changed
-pub zones-set : (p q : Pool) (a b : Account) (z : ℕ) (s : HubZone) → Agrees p a → z < length a.zones →
+pub zones-set : (p q : Pool) (a b : Account) (z : ℕ) (s : HubZone) → PoolAgrees p a → z < length a.zones →
     q.zones.items ≡ set p.zones.items z s → Matches s b z → ((y : ℕ) → y ≢ z → SameZone a b y)
     → (y : ℕ) (d : HubZone) → y < length q.zones.items → Matches (get_or q.zones.items y d) b y
 zones-set p q a b z s agrees inside is here others =
@@ -82,17 +82,17 @@ zones-set p q a b z s agrees inside is here others =
     b y) (sym is)
     (matches-set p.zones.items a b z s (omega (arith, inside, agrees.count)) agrees.zones here others)
 
-pub count-set : (p q : Pool) (a : Account) (z : ℕ) (s : HubZone) (k : Zone) → Agrees p a →
+pub count-set : (p q : Pool) (a : Account) (z : ℕ) (s : HubZone) (k : Zone) → PoolAgrees p a →
     q.zones.items ≡ set p.zones.items z s → length q.zones.items ≡ length (set a.zones z k)
 count-set p q a z s k agrees is = ap (λ (hub_zones : List HubZone). length hub_zones) is ∙ length-set p.zones.items z s
     ∙ agrees.count ∙ sym (length-set a.zones z k)
 
 -- pages were handed out
 pub agrees-handed : (p q : Pool) (a : Account) (m : MapId) (z need : ℕ) (old new : HubZone)
-    → Agrees p a → Around p q → z < length a.zones → need ≤ free a z → Matches old a z
+    → PoolAgrees p a → Around p q → z < length a.zones → need ≤ free a z → Matches old a z
     → new ≡ record old { zone = record old.zone { pages = drop need old.zone.pages; active = old.zone.active + need } }
     → q.zones.items ≡ set p.zones.items z new → q.ready ≡ p.ready → q.owed ≡ p.owed + need
-    → Agrees q (handed a m z need)
+    → PoolAgrees q (handed a m z need)
 agrees-handed p q a m z need old new agrees around inside enough here is zones ready more =
     let at : zone_at (handed a m z need) z ≡ record (zone_at a z) { avail = drop need (zone_at a z).avail } =
     handed-zone a m z need inside enough in
@@ -123,7 +123,7 @@ agrees-handed p q a m z need old new agrees around inside enough here is zones r
 
 -- a map waits with all free pages
 pub agrees-queued : (p q : Pool) (a : Account) (m : MapId) (z need : ℕ) (old new : HubZone)
-    → Agrees p a → Around p q → IsWellFormed a → z < length a.zones → free a z < need → Matches old a z
+    → PoolAgrees p a → Around p q → IsAccountWellFormed a → z < length a.zones → free a z < need → Matches old a z
     → new ≡ record old {
       zone = record old.zone { reserved = old.zone.reserved + free a z };
       wait = old.wait
@@ -131,9 +131,9 @@ pub agrees-queued : (p q : Pool) (a : Account) (m : MapId) (z need : ℕ) (old n
     }
     → q.zones.items ≡ set p.zones.items z new →
     q.ready ≡ record p.ready { spare = p.ready.spare + 1 } → q.owed ≡ p.owed + (need + 1)
-    → Agrees q (queued a m z need)
+    → PoolAgrees q (waiting_at_tail a m z need)
 agrees-queued p q a m z need old new agrees around well inside short here is zones ready more =
-    let at : zone_at (queued a m z need) z
+    let at : zone_at (waiting_at_tail a m z need) z
     ≡ record (zone_at a z) {
       wait = (zone_at a z).wait
           ++ record { map = m; zone = record { 0 = z }; need = need; have = free a z } ∷ [];
@@ -142,7 +142,7 @@ agrees-queued p q a m z need old new agrees around well inside short here is zon
     record {
       bank = ap (λ b. page_addresses b.pages) around.bank ∙ agrees.bank;
       count = count-set p q a z new _ agrees zones;
-      zones = zones-set p q a (queued a m z need) z new agrees inside zones
+      zones = zones-set p q a (waiting_at_tail a m z need) z new agrees inside zones
           (rw is (record {
             lowaddr = here.lowaddr ∙ sym (ap (λ (k : Zone). k.lowaddr) at);
             alignment = here.alignment ∙ sym (ap (λ (k : Zone). k.alignment) at);
@@ -155,8 +155,8 @@ agrees-queued p q a m z need old new agrees around well inside short here is zon
             deferred = here.deferred ∙ sym (ap (λ (k : Zone). k.deferred) at);
           }))
           (queued-other a m z need inside well short);
-      nested = nested-after p q a (queued a m z need) around.nested agrees.nested
-          (keeps-with_zone a (queued a m z need) z _ refl refl refl);
+      nested = nested-after p q a (waiting_at_tail a m z need) around.nested agrees.nested
+          (keeps-with_zone a (waiting_at_tail a m z need) z _ refl refl refl);
       ready = ap (λ r. r.items) ready ∙ agrees.ready;
       spare = omega (arith, agrees.spare, ap (λ r. r.spare) ready, queued-waiting a m z need inside);
       owed = omega (arith, more, agrees.owed, queued-owed a m z need inside);
@@ -166,14 +166,14 @@ agrees-queued p q a m z need old new agrees around well inside short here is zon
 
 -- how many pages are free once a page came back
 pub room-is : (a : Account) (m : MapId) (z page : ℕ) (old : HubZone) (inside : z < length a.zones)
-    (held : times_held m z page a ≡ 1) (well : IsWellFormed a) → Matches old a z →
+    (held : times_held m z page a ≡ 1) (well : IsAccountWellFormed a) → Matches old a z →
     room_after old ≡ room_now a m z page inside held well
 room-is a m z page old inside held well here =
     omega (arith, ap (λ (x : List ℕ). length x) here.avail, length-map old.zone.pages page_address, here.reserved)
 
 -- a page came back, and the zone served
 pub agrees-released : (p q : Pool) (a : Account) (m : MapId) (z : ℕ) (page : FrameBytes) (old new : HubZone)
-    → Agrees p a → Around p q → IsWellFormed a → z < length a.zones →
+    → PoolAgrees p a → Around p q → IsAccountWellFormed a → z < length a.zones →
     times_held m z (page_address page) a ≡ 1 → Matches old a z
     →
     new
@@ -193,7 +193,7 @@ pub agrees-released : (p q : Pool) (a : Account) (m : MapId) (z : ℕ) (page : F
       spare = p.ready.spare - length (completed (room_after old) old.wait);
     }
     → q.owed ≡ p.owed - 1
-    → Agrees q (served (returned a m z (page_address page)) z)
+    → PoolAgrees q (served (returned a m z (page_address page)) z)
 agrees-released p q a m z page old new agrees around well inside held here is zones then less =
     let f : ℕ = page_address page in
     let b : Account = returned a m z f in
@@ -258,7 +258,8 @@ agrees-released p q a m z page old new agrees around well inside held here is zo
 
 -- a callback took its pages
 pub agrees-called : (p q : Pool) (a : Account) (w : Waiter) (ws : List Waiter) (old new : HubZone)
-    → Agrees p a → Around p q → IsWellFormed a → a.ready ≡ w ∷ ws → w.zone.0 < length a.zones → Matches old a w.zone.0
+    → PoolAgrees p a → Around p q → IsAccountWellFormed a → a.ready ≡ w ∷ ws → w.zone.0 < length a.zones →
+    Matches old a w.zone.0
     →
     new
     ≡ record old {
@@ -270,7 +271,7 @@ pub agrees-called : (p q : Pool) (a : Account) (w : Waiter) (ws : List Waiter) (
     }
     → q.zones.items ≡ set p.zones.items w.zone.0 new → q.ready.items ≡ ws →
     q.ready.spare ≡ p.ready.spare → q.owed ≡ p.owed - 1
-    → Agrees q (handed (record a { ready = ws }) w.map w.zone.0 w.need)
+    → PoolAgrees q (handed (record a { ready = ws }) w.map w.zone.0 w.need)
 agrees-called p q a w ws old new agrees around well is inside here new_is zones items spare less =
     let b : Account = record a { ready = ws } in
     let z : ℕ = w.zone.0 in
@@ -312,8 +313,8 @@ agrees-called p q a w ws old new agrees around well is inside here new_is zones 
 
 -- a zone was written back as it was
 pub agrees-same : (p q : Pool) (a : Account) (z : ℕ) (s : HubZone)
-    → Agrees p a → Around p q → s ≡ get_or p.zones.items z s → q.zones.items ≡ set p.zones.items z s →
-    q.ready ≡ p.ready → q.owed ≡ p.owed → Agrees q a
+    → PoolAgrees p a → Around p q → s ≡ get_or p.zones.items z s → q.zones.items ≡ set p.zones.items z s →
+    q.ready ≡ p.ready → q.owed ≡ p.owed → PoolAgrees q a
 agrees-same p q a z s agrees around at is ready owed =
     let same : q.zones.items ≡ p.zones.items = is ∙ ap (set p.zones.items z) at ∙ set-get_or p.zones.items z s in
     record {
@@ -330,5 +331,5 @@ agrees-same p q a z s agrees around at is ready owed =
       max_bpages = around.max_bpages ∙ agrees.max_bpages;
     }
 
-pub agrees-as : (q : Pool) (a b : Account) → a ≡ b → Agrees q a → Agrees q b
-agrees-as q a b e agrees = subst (Agrees q) e agrees
+pub agrees-as : (q : Pool) (a b : Account) → a ≡ b → PoolAgrees q a → PoolAgrees q b
+agrees-as q a b e agrees = subst (PoolAgrees q) e agrees

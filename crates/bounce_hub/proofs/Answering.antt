@@ -14,15 +14,15 @@ use Rattle.busdma_machine.specs.declared.bounce.hold.HubReply.TheVariants.{Grant
 use Rattle.busdma_machine.specs.Bounce.Account.{Account, Zone, no_zone, zone_at, free}
 use Rattle.busdma_machine.specs.Bounce.AccountStep.{AccountReply as Outcome, account_step, as_pages}
 use Rattle.busdma_machine.specs.Bounce.AccountStep.{grabbed, released, called_from}
-use Rattle.busdma_machine.specs.Bounce.Serving.{handed, waiting_at_tail as queued, completed}
+use Rattle.busdma_machine.specs.Bounce.Serving.{handed, waiting_at_tail, completed}
 use Rattle.busdma_machine.specs.Bounce.Conditions.{times_held}
 use Rattle.busdma_machine.specs.Machine.PageList.{page_address}
-use Rattle.busdma_machine.specs.Bounce.WellFormed.{IsWellFormed, Lacks}
+use Rattle.busdma_machine.specs.Bounce.WellFormed.{IsAccountWellFormed, Lacks}
 use Rattle.busdma_machine.proofs.Accounts.Counts.{release-done}
 use Rattle.bounce_zone.specs.ZonePages.{free_pages}
 use Rattle.bounce_hub.specs.declared.hub_zone.HubZone.{HubZone}
 use Rattle.bounce_hub.specs.declared.pool.Pool.{Pool}
-use Rattle.bounce_hub.specs.Pools.{Matches, Agrees, Stepped, deferrals}
+use Rattle.bounce_hub.specs.Pools.{Matches, PoolAgrees, Stepped, deferrals}
 use Rattle.bounce_hub.specs.HubZones.{room_after}
 use Rattle.bounce_hub.proofs.Agreeing.{room-is}
 
@@ -39,7 +39,7 @@ pub grabbed-no : (m : MapId) (z need : ℕ) (nowait : Bool) (a : Account) → fr
 grabbed-no m z need nowait a h e = rw (lt-leb need (free a z) h, e) refl
 
 pub grabbed-waits : (m : MapId) (z need : ℕ) (nowait : Bool) (a : Account) → free a z < need → nowait ≡ false →
-    grabbed m z need nowait a ≡ record { account = queued a m z need; reply = Queued (free a z) }
+    grabbed m z need nowait a ≡ record { account = waiting_at_tail a m z need; reply = Queued (free a z) }
 grabbed-waits m z need nowait a h e = rw (lt-leb need (free a z) h, e) refl
 
 -- the free pages of a zone
@@ -56,7 +56,7 @@ pub called-yes : (lane : ℕ) (a : Account) (w : Waiter) (ws : List Waiter) → 
 called-yes lane a w ws is own = ap (λ k. called_from k lane a) is ∙ rw (eq-eqb w.map.lane.0 lane own) refl
 
 -- a release moves as many maps as its zone completes
-pub moved-is : (a : Account) (m : MapId) (z page : ℕ) (old : HubZone) → IsWellFormed a → z < length a.zones →
+pub moved-is : (a : Account) (m : MapId) (z page : ℕ) (old : HubZone) → IsAccountWellFormed a → z < length a.zones →
     times_held m z page a ≡ 1 → Matches old a z
     → Served (length (completed (room_after old) old.wait)) ≡ (released m z page a).reply
 moved-is a m z page old well inside held here =
@@ -69,16 +69,17 @@ pub waits-fit : (a : Account) (z : ℕ) → z < length a.zones →
     (zone_at a z).deferred + length (zone_at a z).wait ≤ deferrals a
 waits-fit a z inside = get_or-le-sum_by (λ (k : Zone). k.deferred + length k.wait) a.zones z no_zone inside
 
-pub waits-lack : (a : Account) (z : ℕ) → IsWellFormed a → All (λ (w : Waiter). w.have < w.need) (zone_at a z).wait
+pub waits-lack : (a : Account) (z : ℕ) → IsAccountWellFormed a → All (λ (w : Waiter). w.have < w.need)
+    (zone_at a z).wait
 waits-lack a z well =
     All-weaker (Lacks z) (λ (w : Waiter). w.have < w.need) (λ w l. l.lacks) (zone_at a z).wait (well.waits z)
 
 -- a call whose outcome is known
 pub stepped : (p q : Pool) (lane : ℕ) (c : HubCall) (r : HubReply) (a b : Account) →
-    account_step lane c a ≡ record { account = b; reply = r } → Agrees q b →
+    account_step lane c a ≡ record { account = b; reply = r } → PoolAgrees q b →
     q.bank.room ≡ p.bank.room → Stepped p lane c r a q
 stepped p q lane c r a b is agrees room = record {
-  agrees = subst (Agrees q) (sym (ap (λ (o : Outcome). o.account) is)) agrees;
+  agrees = subst (PoolAgrees q) (sym (ap (λ (o : Outcome). o.account) is)) agrees;
   reply = sym (ap (λ (o : Outcome). o.reply) is);
   room = room;
 }

@@ -7,7 +7,7 @@ use Rattle.busdma_machine.specs.Machine.PageList.{page_address}
 use Rattle.bounce_hub.specs.declared.hub_zone.HubZone.{HubZone}
 use Rattle.bounce_hub.specs.declared.pool.Pool.{Pool}
 use Rattle.bounce_hub.specs.HubZones.{HaveCounts, counts_at}
-use Rattle.bounce_hub.specs.Pools.{Matches, Agrees}
+use Rattle.bounce_hub.specs.Pools.{Matches, PoolAgrees}
 use Rattle.bounce_hub.specs.Seen.{AreCounts}
 
 abbrev numbers : ℕ → ℕ → ℕ → ℕ → ℕ → ℕ → ℕ → ℕ → ZoneCounts
@@ -38,7 +38,7 @@ counts-is bounced s a z here =
     (omega (arith, pages, here.active)) (omega (arith, pages, here.reserved)) here.reserved here.active
     here.deferred here.lowaddr here.alignment
 
-pub are-counts : (p : Pool) (bounced : List ℕ) (a : Account) (cs : List ZoneCounts) → Agrees p a →
+pub are-counts : (p : Pool) (bounced : List ℕ) (a : Account) (cs : List ZoneCounts) → PoolAgrees p a →
     HaveCounts p.zones.items bounced cs → AreCounts cs bounced a
 are-counts p bounced a cs agrees have = record {
   count = have.count ∙ agrees.count;

@@ -9,25 +9,25 @@ use Rattle.busdma_machine.specs.declared.bounce.hold.HubCall.TheVariants.{Create
 use Rattle.busdma_machine.specs.declared.bounce.hold.HubReply.TheVariants.{Grown}
 use Rattle.busdma_machine.specs.Bounce.Account.{Account, zone_at, total}
 use Rattle.busdma_machine.specs.Bounce.AccountStep.{AccountReply as Outcome, created}
-use Rattle.busdma_machine.specs.Bounce.Growth.{zone_for_tag as zone_of, with_zone_for, wanted_for}
+use Rattle.busdma_machine.specs.Bounce.Growth.{zone_for_tag, with_zone_for, wanted_for}
 use Rattle.busdma_machine.specs.Bounce.Growth.{wanted_by_map, most_pages, maxpages}
-use Rattle.busdma_machine.specs.Bounce.Growth.{added, grown, with_zone_map as with_map}
+use Rattle.busdma_machine.specs.Bounce.Growth.{added, grown, with_zone_map}
 use Rattle.bounce_hub.specs.declared.hub_zone.HubZone.{HubZone}
 use Rattle.bounce_hub.specs.declared.pool.Pool.{Pool}
-use Rattle.bounce_hub.specs.Growing.{GrewBy, Grows, place_for, maps_of, pages_of}
-use Rattle.bounce_hub.specs.Pools.{Matches, Agrees, Fits, Stepped}
+use Rattle.bounce_hub.specs.Growing.{GrewBy, Grows, place_for, grown_maps, grown_pages}
+use Rattle.bounce_hub.specs.Pools.{Matches, PoolAgrees, Fits, Stepped}
 use Rattle.bounce_hub.proofs.Agreeing.{Around, agrees-as, zone-matches}
 use Rattle.bounce_hub.proofs.Mapping.{agrees-mapped, maps-owed, created-made, created-not}
 use Rattle.bounce_hub.proofs.ZoneGrowth.{place-is, place-inside, wanted-is}
 
 module _ (p q : Pool) (t : TagLimits) (first_done : Bool) (m : MapId) (place wanted n : ℕ) (zone : ZoneId)
-    (a : Account) (agrees : Agrees p a) (fits : Fits p a)
+    (a : Account) (agrees : PoolAgrees p a) (fits : Fits p a)
     (found : place ≡ place_for t p.zones.items) (named : zone ≡ record { 0 = place })
-    (wants : wanted ≡ wanted_for t first_done (maps_of (slice_get p.zones.items place))
-    (pages_of (slice_get p.zones.items place)) (most_pages t p.max_bpages p.maxmem))
+    (wants : wanted ≡ wanted_for t first_done (grown_maps (slice_get p.zones.items place))
+    (grown_pages (slice_get p.zones.items place)) (most_pages t p.max_bpages p.maxmem))
     (grows : Grows p t place wanted n q) where
   abbrev z : ℕ
-  z = zone_of t a.zones
+  z = zone_for_tag t a.zones
 
   abbrev b : Account
   b = with_zone_for t a
@@ -38,7 +38,7 @@ module _ (p q : Pool) (t : TagLimits) (first_done : Bool) (m : MapId) (place wan
   grew : GrewBy p t place wanted n a q
   grew = grows a agrees fits at
 
-  now : Agrees q (grown b z n)
+  now : PoolAgrees q (grown b z n)
   now = agrees-as q (grown b place n) (grown b z n) (ap (λ (k : ℕ). grown b k n) at) grew.agrees
 
   inside : place < length (grown b z n).zones
@@ -97,12 +97,13 @@ module _ (p q : Pool) (t : TagLimits) (first_done : Bool) (m : MapId) (place wan
       let maps : List MapId = (zone_at g place).maps ++ m ∷ [] in
       let matches : Matches s g place = zone-matches q g place s now inside here in
       let longer : length maps ≡ length (zone_at g place).maps + 1 = length-append (zone_at g place).maps (m ∷ []) in
-      let joined : Agrees r (with_map g place m) =
+      let joined : PoolAgrees r (with_zone_map g place m) =
       agrees-mapped q r g place s (record s { maps = s.maps + 1 }) maps now around inside matches
       (ap (λ (k : ℕ). record s { maps = k }) (omega (arith, matches.maps, longer))) zones
       ready (omega (arith, more, longer)) in
       record {
-        agrees = agrees-as r (with_map g place m) (created m t first_done a).account (ap (λ (k : ℕ). with_map g k m) at
+        agrees = agrees-as r (with_zone_map g place m) (created m t first_done a).account
+            (ap (λ (k : ℕ). with_zone_map g k m) at
             ∙ sym (ap (λ (o : Outcome). o.account) is)) joined;
         reply = ap (λ (w : Bool). Grown (record { zone = zone; added = n; made = w })) holds ∙ reply_is true
             ∙ sym (ap (λ (o : Outcome). o.reply) is);

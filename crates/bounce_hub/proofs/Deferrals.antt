@@ -8,19 +8,20 @@ use Rattle.busdma_machine.specs.declared.name.MapId.{MapId}
 use Rattle.busdma_machine.specs.declared.tags.tag.TagLimits.{TagLimits}
 use Rattle.busdma_machine.specs.declared.bounce.zone.Waiter.{Waiter}
 use Rattle.busdma_machine.specs.declared.bounce.hold.HubCall.{HubCall}
-use Rattle.busdma_machine.specs.declared.bounce.hold.HubCall.TheVariants.{AttachTag, CreateMap, DestroyMap, Grab, Release}
+use Rattle.busdma_machine.specs.declared.bounce.hold.HubCall.TheVariants.{AttachTag, CreateMap, DestroyMap, Grab}
+use Rattle.busdma_machine.specs.declared.bounce.hold.HubCall.TheVariants.{Release}
 use Rattle.busdma_machine.specs.declared.bounce.hold.HubCall.TheVariants.{TakeCallback, MemAlloc, MemFree}
 use Rattle.busdma_machine.specs.declared.bounce.hold.HubReply.TheVariants.{Nothing, Granted, Queued, NoPages, Called}
 use Rattle.busdma_machine.specs.declared.bounce.hold.HoldEntry.{HoldEntry}
 use Rattle.busdma_machine.specs.Bounce.Account.{Account, Zone, same_map, zone_at, no_zone, with_zone, free, total}
-use Rattle.busdma_machine.specs.Bounce.AccountStep.{AccountReply as Outcome, account_step, as_pages}
+use Rattle.busdma_machine.specs.Bounce.AccountStep.{AccountReply, account_step, as_pages}
 use Rattle.busdma_machine.specs.Bounce.AccountStep.{created, grabbed, called_from}
-use Rattle.busdma_machine.specs.Bounce.AccountStep.{memory_placed as placed}
-use Rattle.busdma_machine.specs.Bounce.Growth.{zones_for, zone_for_tag as zone_of, with_zone_for}
+use Rattle.busdma_machine.specs.Bounce.AccountStep.{memory_placed}
+use Rattle.busdma_machine.specs.Bounce.Growth.{zones_for, zone_for_tag, with_zone_for}
 use Rattle.busdma_machine.specs.Bounce.Growth.{added, grown, maxpages, wanted_by_tag}
-use Rattle.busdma_machine.specs.Bounce.Growth.{wanted_by_map, with_zone_map as with_map}
+use Rattle.busdma_machine.specs.Bounce.Growth.{wanted_by_map, with_zone_map}
 use Rattle.busdma_machine.specs.Bounce.History.{IsOpening, after_entry, account_of}
-use Rattle.busdma_machine.specs.Bounce.Serving.{handed, waiting_at_tail as queued, returned}
+use Rattle.busdma_machine.specs.Bounce.Serving.{handed, waiting_at_tail, returned}
 use Rattle.busdma_machine.specs.Bounce.Serving.{completed, left_waiting, served}
 use Rattle.busdma_machine.proofs.Accounts.Names.{sum_by-zones_for}
 use Rattle.bounce_hub.specs.Pools.{deferrals}
@@ -41,13 +42,13 @@ with_zone_le : (a : Account) (z k : ℕ) (y : Zone) → of_zone y ≤ of_zone (z
 with_zone_le a z k y e = set_le a.zones z k y e
 
 grown_le : (t : TagLimits) (a : Account) (n : ℕ) →
-    deferrals (grown (with_zone_for t a) (zone_of t a.zones) n) ≤ deferrals a
+    deferrals (grown (with_zone_for t a) (zone_for_tag t a.zones) n) ≤ deferrals a
 grown_le t a n =
     omega (
       arith,
-      set_le (zones_for t a.zones) (zone_of t a.zones) 0
-          (record (zone_at (with_zone_for t a) (zone_of t a.zones))
-          { avail = (zone_at (with_zone_for t a) (zone_of t a.zones)).avail ++ take n a.bank }) (omega arith),
+      set_le (zones_for t a.zones) (zone_for_tag t a.zones) 0
+          (record (zone_at (with_zone_for t a) (zone_for_tag t a.zones))
+          { avail = (zone_at (with_zone_for t a) (zone_for_tag t a.zones)).avail ++ take n a.bank }) (omega arith),
       sum_by-zones_for t of_zone refl a.zones,
     )
 
@@ -59,10 +60,10 @@ created_le : (m : MapId) (t : TagLimits) (first_done : Bool) (a : Account) →
     deferrals (created m t first_done a).account ≤ deferrals a + 1
 created_le m t first_done a =
     let b : Account = with_zone_for t a in
-    let z : ℕ = zone_of t a.zones in
+    let z : ℕ = zone_for_tag t a.zones in
     let c : Account = grown b z (added b z (wanted_by_map t first_done (zone_at b z) (total b z) (maxpages t a))) in
     let small : deferrals c ≤ deferrals a = grown_le t a _ in
-    either_le c (with_map c z m) _ (deferrals a + 1) (omega (arith, small))
+    either_le c (with_zone_map c z m) _ (deferrals a + 1) (omega (arith, small))
     (omega (
       arith,
       small,
@@ -77,15 +78,15 @@ handed_le a m z need =
 grabbed_le : (m : MapId) (z need : ℕ) (nowait : Bool) (a : Account) →
     deferrals (grabbed m z need nowait a).account ≤ deferrals a + 1
 grabbed_le m z need nowait a =
-    elim (leb need (free a z)) as (λ v. let o : Outcome = if v
+    elim (leb need (free a z)) as (λ v. let o : AccountReply = if v
     then record { account = handed a m z need; reply = Granted (as_pages (take need (zone_at a z).avail)) }
     else (if nowait then record { account = a; reply = NoPages }
-    else record { account = queued a m z need; reply = Queued (free a z) }) in
+    else record { account = waiting_at_tail a m z need; reply = Queued (free a z) }) in
     deferrals o.account ≤ deferrals a + 1) [
       | true ↦ handed_le a m z need
       | false ↦
-          (elim nowait as (λ v. let o : Outcome = if v then record { account = a; reply = NoPages }
-          else record { account = queued a m z need; reply = Queued (free a z) } in
+          (elim nowait as (λ v. let o : AccountReply = if v then record { account = a; reply = NoPages }
+          else record { account = waiting_at_tail a m z need; reply = Queued (free a z) } in
           deferrals o.account ≤ deferrals a + 1) [
             | true ↦ omega arith
             | false ↦ (let w : Waiter = record { map = m; zone = record { 0 = z }; need = need; have = free a z } in
@@ -117,7 +118,7 @@ released_le m z page a =
 called_le : (ws : List Waiter) (lane : ℕ) (a : Account) → deferrals (called_from ws lane a).account ≤ deferrals a + 1
 called_le [] lane a = omega arith
 called_le (w ∷ ws) lane a =
-    elim (eqb w.map.lane.0 lane) as (λ v. let o : Outcome = if v
+    elim (eqb w.map.lane.0 lane) as (λ v. let o : AccountReply = if v
     then record {
       account = handed (record a { ready = ws }) w.map w.zone.0 w.need;
       reply = Called w.map (as_pages (take w.need (zone_at a w.zone.0).avail));
@@ -131,13 +132,13 @@ called_le (w ∷ ws) lane a =
     ]
 
 placed_le : (m : MapId) (n : ℕ) (first : Option ℕ) (a : Account) →
-    deferrals (placed m n first a).account ≤ deferrals a + 1
+    deferrals (memory_placed m n first a).account ≤ deferrals a + 1
 placed_le m n None a = omega arith
 placed_le m n (Some first) a = omega arith
 
 step_le : (lane : ℕ) (c : HubCall) (a : Account) → deferrals (account_step lane c a).account ≤ deferrals a + 1
 step_le lane (AttachTag t) a =
-    let z : ℕ = zone_of t a.zones in
+    let z : ℕ = zone_for_tag t a.zones in
     omega (arith, grown_le t a (added (with_zone_for t a) z (wanted_by_tag t (total (with_zone_for t a) z))))
 step_le lane (CreateMap m t first_done) a = created_le m t first_done a
 step_le lane (DestroyMap m z) a =

@@ -16,10 +16,10 @@ use Rattle.busdma_machine.specs.Bounce.MemoryRuns.{frames_from, in_run, put_in, 
 use Rattle.busdma_machine.specs.Machine.PageList.{page_address, page_addresses}
 use Rattle.busdma_machine.specs.Bounce.Places.{times, places, frame_total}
 use Rattle.busdma_machine.proofs.Accounts.KeptZones.{keeps-all}
-use Rattle.frame_bank.specs.FrameBank.{free_frames, run_pages, is_in_run, put_page, put_pages}
+use Rattle.frame_bank.specs.FrameBank.{free_frames, run_pages, is_in_bank_run, put_page, put_pages}
 use Rattle.bounce_hub.specs.declared.hub_zone.HubZone.{HubZone}
 use Rattle.bounce_hub.specs.declared.pool.Pool.{Pool}
-use Rattle.bounce_hub.specs.Pools.{Matches, Agrees}
+use Rattle.bounce_hub.specs.Pools.{Matches, PoolAgrees}
 use Rattle.bounce_hub.proofs.Nested.{nested-after}
 
 abbrev weight : Bool → ℕ
@@ -27,9 +27,9 @@ weight b = cond b 1 0
 
 -- another bank and other memories
 pub agrees-bank : (p q : Pool) (a : Account) (bank : List ℕ) (mems : List Memory)
-    → Agrees p a → free_frames q.bank ≡ bank → q.zones ≡ p.zones → q.nested ≡ p.nested → q.ready ≡ p.ready →
+    → PoolAgrees p a → free_frames q.bank ≡ bank → q.zones ≡ p.zones → q.nested ≡ p.nested → q.ready ≡ p.ready →
     q.owed + length a.mems ≡ p.owed + length mems → q.maxmem ≡ p.maxmem → q.max_bpages ≡ p.max_bpages
-    → Agrees q (record a { bank = bank; mems = mems })
+    → PoolAgrees q (record a { bank = bank; mems = mems })
 agrees-bank p q a bank mems agrees free zones nested ready more maxmem max_bpages = record {
   bank = free;
   count = ap (λ v. length v.items) zones ∙ agrees.count;
@@ -71,13 +71,13 @@ from-first (suc n) f some = refl
 
 -- the pages that are left of a bank
 pub left-addresses : (first n : ℕ) (ps : List FrameBytes) →
-    page_addresses (filter (λ p. not (is_in_run first n p)) ps)
+    page_addresses (filter (λ p. not (is_in_bank_run first n p)) ps)
     ≡ filter (λ f. not (in_run first n f)) (page_addresses ps)
 left-addresses first n [] = refl
 left-addresses first n (p ∷ ps) =
     elim (in_run first n (page_address p))
-    as (λ v. page_addresses (cond (not v) (p ∷ filter (λ p. not (is_in_run first n p)) ps)
-    (filter (λ p. not (is_in_run first n p)) ps))
+    as (λ v. page_addresses (cond (not v) (p ∷ filter (λ p. not (is_in_bank_run first n p)) ps)
+    (filter (λ p. not (is_in_bank_run first n p)) ps))
     ≡ cond (not v) (page_address p ∷ filter (λ f. not (in_run first n f)) (page_addresses ps))
     (filter (λ f. not (in_run first n f)) (page_addresses ps))) [
       | true ↦ left-addresses first n ps
@@ -102,7 +102,7 @@ found None n pages e = cc
 found (Some at) n pages e = record { at = at; is = refl; row = cc }
 
 pub run-items : (first : Option ℕ) (n at : ℕ) (items ps : List FrameBytes) → first ≡ Some at →
-    Some items ≡ run_pages first n ps → items ≡ filter (is_in_run at n) ps
+    Some items ≡ run_pages first n ps → items ≡ filter (is_in_bank_run at n) ps
 run-items None n at items ps is e = cc
 run-items (Some f) n at items ps is e = cc
 

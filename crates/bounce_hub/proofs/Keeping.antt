@@ -8,12 +8,13 @@ use Rattle.busdma_machine.specs.declared.bounce.hold.HubReply.{HubReply}
 use Rattle.busdma_machine.specs.declared.bounce.hold.HoldEntry.{HoldEntry}
 use Rattle.busdma_machine.specs.Bounce.Account.{Account}
 use Rattle.busdma_machine.specs.Bounce.Conditions.{MayCall}
-use Rattle.busdma_machine.specs.Bounce.Door.{Allows, Passes, Holds}
-use Rattle.busdma_machine.specs.Bounce.History.{IsOpening, IsSound, IsSoundEntry, is_kept, account_of, after_entry}
+use Rattle.busdma_machine.specs.Bounce.Door.{Allows, Passes, HoldsAtDoor}
+use Rattle.busdma_machine.specs.Bounce.History.{IsOpening, IsSound, IsSoundEntry}
+use Rattle.busdma_machine.specs.Bounce.History.{is_entry, account_of, after_entry}
 use Rattle.busdma_machine.proofs.Accounts.Places.{places-bank, times-rising, total-stays}
 use Rattle.busdma_machine.proofs.Accounts.WellFormed.{account-well}
 use Rattle.bounce_hub.specs.declared.pool.Pool.{Pool}
-use Rattle.bounce_hub.specs.Pools.{Agrees, Fits, Allowed, Stepped, Steps}
+use Rattle.bounce_hub.specs.Pools.{PoolAgrees, Fits, Allowed, Stepped, Steps}
 use Rattle.bounce_hub.specs.Seen.{HubSeen, IsKept, door}
 use Rattle.bounce_hub.proofs.Deferrals.{deferrals-few}
 
@@ -68,7 +69,7 @@ stepped-of h o es p q capacity lane c r few is may kept steps =
 -- one more entry
 pub kept-push : (o : Account) (es fs : List HoldEntry) (p q : Pool)
     (capacity room lane : ℕ) (c : HubCall) (r : HubReply)
-    → IsKept o es p capacity → MayCall lane c (account_of o es) → is_kept c r ≡ true →
+    → IsKept o es p capacity → MayCall lane c (account_of o es) → is_entry c r ≡ true →
     Stepped p lane c r (account_of o es) q → fs ≡ es ++ own lane c r ∷ [] → length es + 1 + q.owed ≤ room
     → IsKept o fs q room
 kept-push o es fs p q capacity room lane c r kept may noted stepped grows fits = record {
@@ -77,8 +78,8 @@ kept-push o es fs p q capacity room lane c r kept may noted stepped grows fits =
       subst (IsSound o) (sym grows) (IsSound-push o es (own lane c r) kept.sound
       (record { may = may; kept = noted; reply = stepped.reply }));
   agrees =
-      subst (λ hs. Agrees q (account_of o hs)) (sym grows)
-      (subst (Agrees q) (sym (account_of-push o es (own lane c r))) stepped.agrees);
+      subst (λ hs. PoolAgrees q (account_of o hs)) (sym grows)
+      (subst (PoolAgrees q) (sym (account_of-push o es (own lane c r))) stepped.agrees);
   frames = omega (arith, kept.frames, stepped.room);
   room = omega (arith, fits, ap (λ (hs : List HoldEntry). length hs) grows, length-append es (own lane c r ∷ []));
 }
@@ -99,10 +100,10 @@ pub holds-own : (h : HubSeen) (o : Account) (es fs : List HoldEntry) (p q : Pool
     (capacity room lane : ℕ) (c : HubCall) (r : HubReply)
     → record { opening = o; history = es } ≡ h → IsKept o es p capacity → Stepped p lane c r (account_of o es) q →
     fs ≡ es ++ own lane c r ∷ [] → IsKept o fs q room
-    → Holds (door h) lane c r (door (record { opening = o; history = fs }))
+    → HoldsAtDoor (door h) lane c r (door (record { opening = o; history = fs }))
 holds-own h o es fs p q capacity room lane c r is kept stepped grows later =
     let v : HubSeen = record { opening = o; history = es } in
-    subst (λ k. Holds (door k) lane c r (door (record { opening = o; history = fs }))) is (record {
+    subst (λ k. HoldsAtDoor (door k) lane c r (door (record { opening = o; history = fs }))) is (record {
       between = door v;
       others = [];
       passes = passes-none v kept.form kept.sound;

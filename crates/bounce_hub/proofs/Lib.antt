@@ -7,7 +7,7 @@ mod Frames
 mod Keeping
 mod Mapping
 mod Nested
-mod Openings
+mod OpeningLaws
 mod Owing
 mod Placing
 mod Promises

@@ -9,13 +9,13 @@ use Rattle.busdma_machine.specs.declared.tags.tag.TagLimits.{TagLimits}
 use Rattle.busdma_machine.specs.declared.bounce.hold.HubReply.TheVariants.{Grown}
 use Rattle.busdma_machine.specs.Bounce.Account.{Account, Zone, same_map, no_zone, zone_at, with_zone, total}
 use Rattle.busdma_machine.specs.Bounce.AccountStep.{created}
-use Rattle.busdma_machine.specs.Bounce.Growth.{zone_for_tag as zone_of, with_zone_for, added}
-use Rattle.busdma_machine.specs.Bounce.Growth.{grown, maxpages, wanted_by_map, with_zone_map as with_map}
+use Rattle.busdma_machine.specs.Bounce.Growth.{zone_for_tag, with_zone_for, added}
+use Rattle.busdma_machine.specs.Bounce.Growth.{grown, maxpages, wanted_by_map, with_zone_map}
 use Rattle.busdma_machine.specs.Machine.PageList.{page_addresses}
 use Rattle.busdma_machine.proofs.Accounts.KeptZones.{keeps-with_zone}
 use Rattle.bounce_hub.specs.declared.hub_zone.HubZone.{HubZone}
 use Rattle.bounce_hub.specs.declared.pool.Pool.{Pool}
-use Rattle.bounce_hub.specs.Pools.{Matches, Agrees, entries_of, owed, waiting}
+use Rattle.bounce_hub.specs.Pools.{Matches, PoolAgrees, entries_to_come, owed, waiting}
 use Rattle.bounce_hub.proofs.Nested.{nested-after}
 use Rattle.bounce_hub.proofs.Agreeing.{Around, zones-set, count-set}
 
@@ -23,14 +23,14 @@ abbrev weight : Bool → ℕ
 weight b = cond b 1 0
 
 abbrev of_zone : Zone → ℕ
-of_zone s = entries_of s.wait + length s.maps
+of_zone s = entries_to_come s.wait + length s.maps
 
 -- another number of maps in one zone
 pub agrees-mapped : (p q : Pool) (a : Account) (z : ℕ) (old new : HubZone) (maps : List MapId)
-    → Agrees p a → Around p q → z < length a.zones → Matches old a z
+    → PoolAgrees p a → Around p q → z < length a.zones → Matches old a z
     → new ≡ record old { maps = length maps } → q.zones.items ≡ set p.zones.items z new → q.ready ≡ p.ready →
     q.owed + length (zone_at a z).maps ≡ p.owed + length maps
-    → Agrees q (with_zone a z (record (zone_at a z) { maps = maps }))
+    → PoolAgrees q (with_zone a z (record (zone_at a z) { maps = maps }))
 agrees-mapped p q a z old new maps agrees around inside here is zones ready more =
     let k : Zone = record (zone_at a z) { maps = maps } in
     let b : Account = with_zone a z k in
@@ -93,24 +93,24 @@ maps-owed a z inside = omega (arith, get_or-le-sum_by of_zone a.zones z no_zone 
 
 -- the creation of a map, by whether the map was made
 pub created-made : (m : MapId) (t : TagLimits) (first_done : Bool) (a : Account) (n wanted : ℕ)
-    → wanted ≡ wanted_by_map t first_done (zone_at (with_zone_for t a) (zone_of t a.zones))
-    (total (with_zone_for t a) (zone_of t a.zones)) (maxpages t a) →
-    n ≡ added (with_zone_for t a) (zone_of t a.zones) wanted → (first_done || n == wanted) ≡ true
+    → wanted ≡ wanted_by_map t first_done (zone_at (with_zone_for t a) (zone_for_tag t a.zones))
+    (total (with_zone_for t a) (zone_for_tag t a.zones)) (maxpages t a) →
+    n ≡ added (with_zone_for t a) (zone_for_tag t a.zones) wanted → (first_done || n == wanted) ≡ true
     →
     created m t first_done a ≡ record {
       account =
-          with_map (grown (with_zone_for t a) (zone_of t a.zones) n) (zone_of t a.zones) m;
+          with_zone_map (grown (with_zone_for t a) (zone_for_tag t a.zones) n) (zone_for_tag t a.zones) m;
       reply =
-          Grown (record { zone = record { 0 = zone_of t a.zones }; added = n; made = true });
+          Grown (record { zone = record { 0 = zone_for_tag t a.zones }; added = n; made = true });
     }
 created-made m t first_done a n wanted w e holds = rw (sym w, sym e, holds) refl
 
 pub created-not : (m : MapId) (t : TagLimits) (first_done : Bool) (a : Account) (n wanted : ℕ)
-    → wanted ≡ wanted_by_map t first_done (zone_at (with_zone_for t a) (zone_of t a.zones))
-    (total (with_zone_for t a) (zone_of t a.zones)) (maxpages t a) →
-    n ≡ added (with_zone_for t a) (zone_of t a.zones) wanted → (first_done || n == wanted) ≡ false
+    → wanted ≡ wanted_by_map t first_done (zone_at (with_zone_for t a) (zone_for_tag t a.zones))
+    (total (with_zone_for t a) (zone_for_tag t a.zones)) (maxpages t a) →
+    n ≡ added (with_zone_for t a) (zone_for_tag t a.zones) wanted → (first_done || n == wanted) ≡ false
     → created m t first_done a ≡ record {
-      account = grown (with_zone_for t a) (zone_of t a.zones) n;
-      reply = Grown (record { zone = record { 0 = zone_of t a.zones }; added = n; made = false });
+      account = grown (with_zone_for t a) (zone_for_tag t a.zones) n;
+      reply = Grown (record { zone = record { 0 = zone_for_tag t a.zones }; added = n; made = false });
     }
 created-not m t first_done a n wanted w e fails = rw (sym w, sym e, fails) refl

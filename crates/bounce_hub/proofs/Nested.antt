@@ -1,5 +1,6 @@
 -- Nested zones stay nested, and a new one may join them.
-use Rattle.std.proofs.Common.{◌≡◌, ℕ, ◌+◌, ◌-◌, ◌<◌, ◌≤◌, ◌==◌, ◌&&◌, Bool, true, false, List, length, get_or, refl, sym}
+use Rattle.std.proofs.Common.{◌≡◌, ℕ, ◌+◌, ◌-◌, ◌<◌, ◌≤◌, ◌==◌, ◌&&◌, Bool, true, false, List, length, get_or, refl}
+use Rattle.std.proofs.Common.{sym}
 use Rattle.std.proofs.Common.{ap, ◌∙◌, ◌++◌, not, subst, arith, inl, inr, nat_le, slice_get, if◌then◌else◌}
 use Rattle.std.proofs.lemmas.Bool.Decides.{eqb_tells, nat_tests}
 use Rattle.std.specs.List.Sorted.{IsPartitionedBy}
@@ -11,7 +12,7 @@ use Rattle.busdma_machine.specs.Bounce.KeptZones.{KeepsZones}
 use Rattle.bounce_hub.specs.declared.hub_zone.HubZone.{HubZone}
 use Rattle.bounce_hub.specs.declared.pool.Pool.{Pool}
 use Rattle.bounce_hub.specs.Growing.{serves, place_for, nests_behind, nested_with}
-use Rattle.bounce_hub.specs.Pools.{AreNested, Matches, Agrees}
+use Rattle.bounce_hub.specs.Pools.{AreNested, Matches, PoolAgrees}
 use Rattle.bounce_hub.proofs.Placing.{first-early, first-late}
 
 pub nested-kept : (n : ℕ) (a b : Account) → AreNested n a → KeepsZones a b → AreNested n b
@@ -88,7 +89,7 @@ nested-longer n a b nested kept inside last = record {
 }
 
 -- the place after the last zone
-behind-last : (p : Pool) (a b : Account) (s : HubZone) → Agrees p a → Matches s b (length p.zones.items) →
+behind-last : (p : Pool) (a b : Account) (s : HubZone) → PoolAgrees p a → Matches s b (length p.zones.items) →
     nests_behind (slice_get p.zones.items (length p.zones.items - 1)) s ≡ true →
     (y : ℕ) → y + 1 ≡ length p.zones.items → IsBelow b (length p.zones.items) a y
 behind-last p a b s agrees here holds y e =
@@ -104,7 +105,7 @@ behind-last p a b s agrees here holds y e =
     })
 
 -- a new zone comes after all others
-pub nested-joined : (p : Pool) (a b : Account) (s : HubZone) → Agrees p a → KeepsZones a b →
+pub nested-joined : (p : Pool) (a b : Account) (s : HubZone) → PoolAgrees p a → KeepsZones a b →
     length b.zones ≡ length a.zones + 1 → Matches s b (length p.zones.items) →
     AreNested (nested_with p.nested p.zones.items s) b
 nested-joined p a b s agrees kept longer here =
@@ -127,7 +128,7 @@ fails-above : (a low_y low_z aligned_y aligned_z x : ℕ) → low_z ≤ low_y �
 fails-above a low_y low_z aligned_y aligned_z x low aligned fails = grind (arith, nat_tests)
 
 -- among nested zones, those that serve a tag come after those that do not
-pub nested-partitioned : (p : Pool) (a : Account) (t : TagLimits) (front back : List HubZone) → Agrees p a →
+pub nested-partitioned : (p : Pool) (a : Account) (t : TagLimits) (front back : List HubZone) → PoolAgrees p a →
     p.zones.items ≡ front ++ back → length front ≡ p.nested → IsPartitionedBy (λ s. not (serves t s)) front
 nested-partitioned p a t front back agrees parts count y z d le below fails =
     let at : (k : ℕ) → k < length front → Matches (get_or front k d) a k =
@@ -145,7 +146,7 @@ nested-partitioned p a t front back agrees parts count y z d le below fails =
     (omega (arith, aligned_y, aligned_z, agrees.nested.alignment y z le (omega (arith, below, count)))) fails
 
 -- the first zone that serves a tag; the nested zones come before the others
-module _ (p : Pool) (a : Account) (t : TagLimits) (front back : List HubZone) (place : ℕ) (agrees : Agrees p a)
+module _ (p : Pool) (a : Account) (t : TagLimits) (front back : List HubZone) (place : ℕ) (agrees : PoolAgrees p a)
     (parts : p.zones.items ≡ front ++ back) (count : length front ≡ p.nested)
     (found : IsPartitionedBy (λ s. not (serves t s)) front → place ≡ place_for t front) where
   first : place ≡ place_for t front

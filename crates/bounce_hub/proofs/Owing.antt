@@ -7,16 +7,16 @@ use Rattle.std.proofs.lemmas.List.Sums.{sum_by-cons, sum_by-append, sum_by-set}
 use Rattle.busdma_machine.specs.declared.name.MapId.{MapId}
 use Rattle.busdma_machine.specs.declared.bounce.zone.Waiter.{Waiter}
 use Rattle.busdma_machine.specs.Bounce.Account.{Account, Zone, Held, zone_at, no_zone, free}
-use Rattle.busdma_machine.specs.Bounce.Serving.{is_holding, handed, waiting_at_tail as queued}
+use Rattle.busdma_machine.specs.Bounce.Serving.{is_holding, handed, waiting_at_tail}
 use Rattle.busdma_machine.specs.Bounce.Serving.{returned, completed, left_waiting, served}
 use Rattle.busdma_machine.specs.Bounce.Conditions.{times_held}
-use Rattle.bounce_hub.specs.Pools.{entries_of, owed, waiting}
+use Rattle.bounce_hub.specs.Pools.{entries_to_come, owed, waiting}
 
 abbrev weight : Bool → ℕ
 weight b = cond b 1 0
 
 abbrev of_zone : Zone → ℕ
-of_zone s = entries_of s.wait + length s.maps
+of_zone s = entries_to_come s.wait + length s.maps
 
 -- pages go to a map
 module _ (a : Account) (m : MapId) (z need : ℕ) (inside : z < length a.zones) (enough : need ≤ free a z) where
@@ -45,7 +45,7 @@ module _ (a : Account) (m : MapId) (z need : ℕ) (inside : z < length a.zones) 
   abbrev queued_zone : Zone
   queued_zone = record (zone_at a z) { wait = (zone_at a z).wait ++ joined ∷ [] }
 
-  pub queued-owed : owed (queued a m z need) ≡ owed a + (need + 1)
+  pub queued-owed : owed (waiting_at_tail a m z need) ≡ owed a + (need + 1)
   queued-owed = omega (
     arith,
     sum_by-set of_zone a.zones z queued_zone no_zone inside,
@@ -53,7 +53,7 @@ module _ (a : Account) (m : MapId) (z need : ℕ) (inside : z < length a.zones) 
     sum_by-cons (λ (w : Waiter). w.need + 1) joined [],
   )
 
-  pub queued-waiting : waiting (queued a m z need) ≡ waiting a + 1
+  pub queued-waiting : waiting (waiting_at_tail a m z need) ≡ waiting a + 1
   queued-waiting =
       omega (
         arith,
@@ -63,13 +63,14 @@ module _ (a : Account) (m : MapId) (z need : ℕ) (inside : z < length a.zones) 
 
 -- serving
 pub completed-entries : (pages : ℕ) (ws : List Waiter) →
-    entries_of (left_waiting pages ws) + entries_of (completed pages ws) ≡ entries_of ws
+    entries_to_come (left_waiting pages ws) + entries_to_come (completed pages ws) ≡ entries_to_come ws
 completed-entries pages [] = refl
 completed-entries pages (w ∷ ws) =
     let k : ℕ = w.need - w.have in
-    elim (leb k pages) as (λ v. entries_of (if v then left_waiting (pages - k) ws
+    elim (leb k pages) as (λ v. entries_to_come (if v then left_waiting (pages - k) ws
     else record w { have = w.have + pages } ∷ ws)
-    + entries_of (if v then record w { have = w.need } ∷ completed (pages - k) ws else []) ≡ entries_of (w ∷ ws)) [
+    + entries_to_come (if v then record w { have = w.need } ∷ completed (pages - k) ws else [])
+    ≡ entries_to_come (w ∷ ws)) [
       | true ↦ omega (
         arith,
         completed-entries (pages - k) ws,
@@ -164,4 +165,4 @@ module _ (a : Account) (m : MapId) (z page : ℕ) (inside : z < length a.zones) 
 -- the head of the callback list leaves it
 pub shorter-owed : (a : Account) (w : Waiter) (ws : List Waiter) → a.ready ≡ w ∷ ws →
     owed (record a { ready = ws }) + (w.need + 1) ≡ owed a
-shorter-owed a w ws is = omega (arith, ap entries_of is, sum_by-cons (λ (x : Waiter). x.need + 1) w ws)
+shorter-owed a w ws is = omega (arith, ap entries_to_come is, sum_by-cons (λ (x : Waiter). x.need + 1) w ws)

@@ -28,7 +28,8 @@ pub first-is : {X : Type 0} (test : X → Bool) (xs : List X) (n : ℕ) → n �
     ((k : ℕ) (d : X) → k < n → test (get_or xs k d) ≡ false) →
     ((d : X) → n < length xs → test (get_or xs n d) ≡ true) → first_place test xs ≡ n
 first-is test [] n inside before here = omega (arith, inside)
-first-is test (x ∷ xs) zero inside before here = ap (λ v. if v then 0 else suc (first_place test xs)) (here x (omega arith))
+first-is test (x ∷ xs) zero inside before here = ap (λ v. if v then 0 else suc (first_place test xs))
+    (here x (omega arith))
 first-is test (x ∷ xs) (suc n) inside before here =
     ap (λ v. if v then 0 else suc (first_place test xs)) (before 0 x (omega arith))
     ∙ ap suc (first-is test xs n (omega (arith, inside)) (λ k d h. before (suc k) d (omega (arith, h)))

@@ -15,18 +15,19 @@ use Rattle.busdma_machine.specs.Bounce.Account.{Account, Zone, no_zone, zone_at,
 use Rattle.busdma_machine.specs.Bounce.AccountStep.{attached}
 use Rattle.busdma_machine.specs.Machine.Page.{FrameBytes}
 use Rattle.busdma_machine.specs.Bounce.Growth.{serves_tag, new_zone, zones_for}
-use Rattle.busdma_machine.specs.Bounce.Growth.{zone_for_tag as zone_of, with_zone_for, added, grown}
+use Rattle.busdma_machine.specs.Bounce.Growth.{zone_for_tag, with_zone_for, added, grown}
 use Rattle.busdma_machine.specs.Bounce.Growth.{wanted_by_tag, wanted_for, wanted_by_map, most_pages, maxpages}
 use Rattle.busdma_machine.specs.Machine.PageList.{page_addresses, page_address}
-use Rattle.busdma_machine.specs.Bounce.WellFormed.{IsWellFormed}
-use Rattle.busdma_machine.proofs.Accounts.Counting.{sum_by-set_like}
+use Rattle.busdma_machine.specs.Bounce.WellFormed.{IsAccountWellFormed}
+use Rattle.busdma_machine.proofs.Accounts.EditedSums.{sum_by-set_like}
 use Rattle.busdma_machine.proofs.Accounts.KeptZones.{keeps-trans, keeps-with_zone_for, keeps-grown}
 use Rattle.busdma_machine.proofs.Accounts.ZoneOf.{zones_for_found, zones_for_none}
 use Rattle.busdma_machine.proofs.Accounts.Names.{sum_by-zones_for}
 use Rattle.bounce_hub.specs.declared.hub_zone.HubZone.{HubZone}
 use Rattle.bounce_hub.specs.declared.pool.Pool.{Pool}
-use Rattle.bounce_hub.specs.Growing.{serves, nested_with, place_for, pages_of, maps_of}
-use Rattle.bounce_hub.specs.Pools.{Matches, AreNested, Agrees, entries_of, owed, waiting}
+use Rattle.bounce_hub.specs.Growing.{serves, nested_with, place_for, grown_pages, grown_maps}
+use Rattle.bounce_hub.specs.Pools.{Matches, AreNested, PoolAgrees}
+use Rattle.bounce_hub.specs.Pools.{entries_to_come, owed, waiting}
 use Rattle.bounce_hub.proofs.Nested.{nested-after, nested-joined}
 use Rattle.bounce_hub.proofs.Agreeing.{addresses-drop, addresses-take, zones-set, count-set}
 
@@ -34,42 +35,43 @@ abbrev weight : Bool → ℕ
 weight b = cond b 1 0
 
 abbrev of_zone : Zone → ℕ
-of_zone s = entries_of s.wait + length s.maps
+of_zone s = entries_to_come s.wait + length s.maps
 
 -- the place of a tag's zone
 place-same : (t : TagLimits) (ss : List HubZone) (zs : List Zone) → length ss ≡ length zs →
     ((n : ℕ) (d : HubZone) → n < length ss → serves t (get_or ss n d) ≡ serves_tag t (get_or zs n no_zone)) →
-    place_for t ss ≡ zone_of t zs
+    place_for t ss ≡ zone_for_tag t zs
 place-same t [] [] e same = refl
 place-same t [] (z ∷ zs) e same = absurd (omega (arith, e))
 place-same t (s ∷ ss) [] e same = absurd (omega (arith, e))
 place-same t (s ∷ ss) (z ∷ zs) e same =
-    let rest : place_for t ss ≡ zone_of t zs =
+    let rest : place_for t ss ≡ zone_for_tag t zs =
     place-same t ss zs (omega (arith, e)) (λ n d below. same (suc n) d (omega (arith, below))) in
     ap (λ (v : Bool). if v then 0 else suc (place_for t ss)) (same 0 s (omega arith))
     ∙ ap (λ (k : ℕ). if serves_tag t z then 0 else suc k) rest
 
-pub place-is : (t : TagLimits) (p : Pool) (a : Account) → Agrees p a → place_for t p.zones.items ≡ zone_of t a.zones
+pub place-is : (t : TagLimits) (p : Pool) (a : Account) → PoolAgrees p a → place_for t p.zones.items
+    ≡ zone_for_tag t a.zones
 place-is t p a agrees =
     place-same t p.zones.items a.zones agrees.count
     (λ n d below. (let here : Matches (get_or p.zones.items n d) a n = agrees.zones n d below in
     rw (here.lowaddr, here.alignment) refl))
 
 -- the tag's zone is one of those that are made for it
-pub place-inside : (t : TagLimits) (zs : List Zone) → zone_of t zs < length (zones_for t zs)
+pub place-inside : (t : TagLimits) (zs : List Zone) → zone_for_tag t zs < length (zones_for t zs)
 place-inside t [] = omega arith
 place-inside t (z ∷ zs) =
-    elim (serves_tag t z) as (λ v. (if v then 0 else suc (zone_of t zs)) < length
+    elim (serves_tag t z) as (λ v. (if v then 0 else suc (zone_for_tag t zs)) < length
     (z ∷ (if v then zs else zones_for t zs))) [ true ↦ omega arith | false ↦ omega (arith, place-inside t zs) ]
 
-pub place-bound : (t : TagLimits) (zs : List Zone) → zone_of t zs ≤ length zs
+pub place-bound : (t : TagLimits) (zs : List Zone) → zone_for_tag t zs ≤ length zs
 place-bound t [] = omega arith
 place-bound t (z ∷ zs) =
-    elim (serves_tag t z) as (λ v. (if v then 0 else suc (zone_of t zs)) ≤ length (z ∷ zs))
+    elim (serves_tag t z) as (λ v. (if v then 0 else suc (zone_for_tag t zs)) ≤ length (z ∷ zs))
     [ true ↦ omega arith | false ↦ omega (arith, place-bound t zs) ]
 
 -- a zone that is there is the tag's zone
-pub found-zone : (t : TagLimits) (a : Account) → zone_of t a.zones < length a.zones → with_zone_for t a ≡ a
+pub found-zone : (t : TagLimits) (a : Account) → zone_for_tag t a.zones < length a.zones → with_zone_for t a ≡ a
 found-zone t a there =
     ap (λ (zs : List Zone). record a { zones = zs })
     (zones_for_found t a.zones (λ e. absurd (omega (arith, there, e))))
@@ -99,11 +101,12 @@ addresses-append (p ∷ ps) qs = ap (λ xs. page_address p ∷ xs) (addresses-ap
 
 -- a zone that is there grows
 pub agrees-grown : (p q : Pool) (a : Account) (z n : ℕ) (old new : HubZone)
-    → Agrees p a → z < length a.zones → Matches old a z
+    → PoolAgrees p a → z < length a.zones → Matches old a z
     → new ≡ record old { zone = record old.zone { pages = old.zone.pages ++ take n p.bank.pages } }
     → q.zones.items ≡ set p.zones.items z new → q.nested ≡ p.nested →
-    q.bank ≡ record p.bank { pages = drop n p.bank.pages } → q.ready ≡ p.ready → q.owed ≡ p.owed → q.maxmem ≡ p.maxmem → q.max_bpages ≡ p.max_bpages
-    → Agrees q (grown a z n)
+    q.bank ≡ record p.bank { pages = drop n p.bank.pages } → q.ready ≡ p.ready → q.owed ≡ p.owed → q.maxmem ≡ p.maxmem →
+    q.max_bpages ≡ p.max_bpages
+    → PoolAgrees q (grown a z n)
 agrees-grown p q a z n old new agrees inside here is zones nested bank ready owes maxmem max_bpages =
     let k : Zone = record (zone_at a z) { avail = (zone_at a z).avail ++ take n a.bank } in
     let at : zone_at (grown a z n) z ≡ k = get_or-set_same a.zones z k no_zone inside in
@@ -155,15 +158,15 @@ new_hub_zone t pages = record {
   deferred = 0;
 }
 
-module _ (t : TagLimits) (a : Account) (none : zone_of t a.zones ≡ length a.zones) where
+module _ (t : TagLimits) (a : Account) (none : zone_for_tag t a.zones ≡ length a.zones) where
   abbrev with_new : Account
   with_new = with_zone_for t a
 
   behind : with_new.zones ≡ a.zones ++ new_zone t ∷ []
   behind = zones_for_none t a.zones none
 
-  pub new-there : zone_at with_new (zone_of t a.zones) ≡ new_zone t
-  new-there = ap (λ (zs : List Zone). get_or zs (zone_of t a.zones) no_zone) behind
+  pub new-there : zone_at with_new (zone_for_tag t a.zones) ≡ new_zone t
+  new-there = ap (λ (zs : List Zone). get_or zs (zone_for_tag t a.zones) no_zone) behind
       ∙ ap (λ (k : ℕ). get_or (a.zones ++ new_zone t ∷ []) k no_zone) none
       ∙ get_or-append_seam a.zones (new_zone t) [] no_zone
 
@@ -171,24 +174,30 @@ module _ (t : TagLimits) (a : Account) (none : zone_of t a.zones ≡ length a.zo
   old-there y below = ap (λ (zs : List Zone). get_or zs y no_zone) behind
       ∙ get_or_append_left a.zones (new_zone t ∷ []) no_zone y below
 
-  none-reserved : IsWellFormed a → reserved a (zone_of t a.zones) ≡ 0
+  none-reserved : IsAccountWellFormed a → reserved a (zone_for_tag t a.zones) ≡ 0
   none-reserved well =
-      let gone : zone_at a (zone_of t a.zones) ≡ no_zone =
+      let gone : zone_at a (zone_for_tag t a.zones) ≡ no_zone =
       ap (λ (k : ℕ). get_or a.zones k no_zone) none ∙ none-past a.zones in
-      omega (arith, well.enough (zone_of t a.zones), ap (λ (z : Zone). length z.avail) gone)
+      omega (arith, well.enough (zone_for_tag t a.zones), ap (λ (z : Zone). length z.avail) gone)
 
-  none-waits : (zone_at a (zone_of t a.zones)).wait ≡ []
+  none-waits : (zone_at a (zone_for_tag t a.zones)).wait ≡ []
   none-waits = ap (λ (z : Zone). z.wait) (ap (λ (k : ℕ). get_or a.zones k no_zone) none ∙ none-past a.zones)
 
-  pub none-total : IsWellFormed a → total with_new (zone_of t a.zones) ≡ 0
+  pub none-total : IsAccountWellFormed a → total with_new (zone_for_tag t a.zones) ≡ 0
   none-total well =
-      omega (arith, ap (λ (z : Zone). length z.avail) new-there, well.inside (zone_of t a.zones) (omega (arith, none)))
+      omega (
+        arith,
+        ap (λ (z : Zone). length z.avail) new-there,
+        well.inside (zone_for_tag t a.zones)
+            (omega (arith, none)),
+      )
 
-  module _ (p q : Pool) (n : ℕ) (agrees : Agrees p a) (well : IsWellFormed a) (zones : q.zones.items ≡ p.zones.items
+  module _ (p q : Pool) (n : ℕ) (agrees : PoolAgrees p a) (well : IsAccountWellFormed a)
+      (zones : q.zones.items ≡ p.zones.items
       ++ new_hub_zone t (take n p.bank.pages) ∷ []) (nested : q.nested ≡ nested_with p.nested p.zones.items
       (new_hub_zone t (take n p.bank.pages))) where
     abbrev z : ℕ
-    z = zone_of t a.zones
+    z = zone_for_tag t a.zones
 
     abbrev g : Account
     g = grown with_new z n
@@ -267,7 +276,7 @@ module _ (t : TagLimits) (a : Account) (none : zone_of t a.zones ≡ length a.zo
         )
 
     pub agrees-new : q.bank ≡ record p.bank { pages = drop n p.bank.pages } → q.ready ≡ p.ready → q.owed ≡ p.owed →
-        q.maxmem ≡ p.maxmem → q.max_bpages ≡ p.max_bpages → Agrees q g
+        q.maxmem ≡ p.maxmem → q.max_bpages ≡ p.max_bpages → PoolAgrees q g
     agrees-new bank ready owes maxmem max_bpages = record {
       bank = ap (λ b. page_addresses b.pages) bank ∙ addresses-drop n p.bank.pages ∙ ap (drop n) agrees.bank;
       count =
@@ -299,69 +308,71 @@ module _ (t : TagLimits) (a : Account) (none : zone_of t a.zones ≡ length a.zo
     }
 
 -- the pages and the maps of the tag's zone
-pub pages-is : (t : TagLimits) (p : Pool) (a : Account) → Agrees p a → IsWellFormed a →
-    pages_of (slice_get p.zones.items (zone_of t a.zones)) ≡ total (with_zone_for t a) (zone_of t a.zones)
+pub pages-is : (t : TagLimits) (p : Pool) (a : Account) → PoolAgrees p a → IsAccountWellFormed a →
+    grown_pages (slice_get p.zones.items (zone_for_tag t a.zones)) ≡ total (with_zone_for t a) (zone_for_tag t a.zones)
 pages-is t p a agrees well =
-    (elim (eqb_tells (zone_of t a.zones) (length a.zones))
-    as (λ _. pages_of (slice_get p.zones.items (zone_of t a.zones))
-    ≡ total (with_zone_for t a) (zone_of t a.zones)) [
-      | inl h ↦ ap pages_of (slice_get_past p.zones.items (zone_of t a.zones) (omega (arith, h.1, agrees.count)))
+    (elim (eqb_tells (zone_for_tag t a.zones) (length a.zones))
+    as (λ _. grown_pages (slice_get p.zones.items (zone_for_tag t a.zones))
+    ≡ total (with_zone_for t a) (zone_for_tag t a.zones)) [
+      | inl h ↦ ap grown_pages
+          (slice_get_past p.zones.items (zone_for_tag t a.zones) (omega (arith, h.1, agrees.count)))
           ∙ sym (none-total t a h.1 well)
-      | inr h ↦ (let there : zone_of t a.zones < length a.zones = omega (arith, place-bound t a.zones, h.1) in
+      | inr h ↦ (let there : zone_for_tag t a.zones < length a.zones = omega (arith, place-bound t a.zones, h.1) in
           let d : HubZone = new_hub_zone t [] in
-          let here : Matches (get_or p.zones.items (zone_of t a.zones) d) a (zone_of t a.zones) =
-          agrees.zones (zone_of t a.zones) d (omega (arith, there, agrees.count)) in
-          ap pages_of (slice_get-get_or p.zones.items (zone_of t a.zones) d (omega (arith, there, agrees.count)))
+          let here : Matches (get_or p.zones.items (zone_for_tag t a.zones) d) a (zone_for_tag t a.zones) =
+          agrees.zones (zone_for_tag t a.zones) d (omega (arith, there, agrees.count)) in
+          ap grown_pages (slice_get-get_or p.zones.items (zone_for_tag t a.zones) d
+          (omega (arith, there, agrees.count)))
           ∙ omega (
             arith,
             here.active,
             ap (λ (xs : List ℕ). length xs) here.avail,
-            length-map (get_or p.zones.items (zone_of t a.zones) d).zone.pages page_address,
+            length-map (get_or p.zones.items (zone_for_tag t a.zones) d).zone.pages page_address,
           )
-          ∙ sym (ap (λ (b : Account). total b (zone_of t a.zones)) (found-zone t a there)))
+          ∙ sym (ap (λ (b : Account). total b (zone_for_tag t a.zones)) (found-zone t a there)))
     ])
 
-pub maps-is : (t : TagLimits) (p : Pool) (a : Account) → Agrees p a →
-    maps_of (slice_get p.zones.items (zone_of t a.zones))
-    ≡ length (zone_at (with_zone_for t a) (zone_of t a.zones)).maps
+pub maps-is : (t : TagLimits) (p : Pool) (a : Account) → PoolAgrees p a →
+    grown_maps (slice_get p.zones.items (zone_for_tag t a.zones))
+    ≡ length (zone_at (with_zone_for t a) (zone_for_tag t a.zones)).maps
 maps-is t p a agrees =
-    (elim (eqb_tells (zone_of t a.zones) (length a.zones))
-    as (λ _. maps_of (slice_get p.zones.items (zone_of t a.zones))
-    ≡ length (zone_at (with_zone_for t a) (zone_of t a.zones)).maps) [
-      | inl h ↦ ap maps_of (slice_get_past p.zones.items (zone_of t a.zones) (omega (arith, h.1, agrees.count)))
+    (elim (eqb_tells (zone_for_tag t a.zones) (length a.zones))
+    as (λ _. grown_maps (slice_get p.zones.items (zone_for_tag t a.zones))
+    ≡ length (zone_at (with_zone_for t a) (zone_for_tag t a.zones)).maps) [
+      | inl h ↦ ap grown_maps (slice_get_past p.zones.items (zone_for_tag t a.zones) (omega (arith, h.1, agrees.count)))
           ∙ sym (ap (λ (s : Zone). length s.maps) (new-there t a h.1))
-      | inr h ↦ (let there : zone_of t a.zones < length a.zones = omega (arith, place-bound t a.zones, h.1) in
+      | inr h ↦ (let there : zone_for_tag t a.zones < length a.zones = omega (arith, place-bound t a.zones, h.1) in
           let d : HubZone = new_hub_zone t [] in
-          ap maps_of (slice_get-get_or p.zones.items (zone_of t a.zones) d (omega (arith, there, agrees.count)))
-          ∙ (agrees.zones (zone_of t a.zones) d (omega (arith, there, agrees.count))).maps
-          ∙ sym (ap (λ (b : Account). length (zone_at b (zone_of t a.zones)).maps) (found-zone t a there)))
+          ap grown_maps (slice_get-get_or p.zones.items (zone_for_tag t a.zones) d (omega (arith, there, agrees.count)))
+          ∙ (agrees.zones (zone_for_tag t a.zones) d (omega (arith, there, agrees.count))).maps
+          ∙ sym (ap (λ (b : Account). length (zone_at b (zone_for_tag t a.zones)).maps) (found-zone t a there)))
     ])
 
 -- the first allocation of a tag
 pub attached-as : (t : TagLimits) (a : Account) (n wanted : ℕ) →
-    wanted ≡ wanted_by_tag t (total (with_zone_for t a) (zone_of t a.zones)) →
-    n ≡ added (with_zone_for t a) (zone_of t a.zones) wanted
+    wanted ≡ wanted_by_tag t (total (with_zone_for t a) (zone_for_tag t a.zones)) →
+    n ≡ added (with_zone_for t a) (zone_for_tag t a.zones) wanted
     → attached t a ≡ record {
-      account = grown (with_zone_for t a) (zone_of t a.zones) n;
-      reply = Grown (record { zone = record { 0 = zone_of t a.zones }; added = n; made = n == wanted });
+      account = grown (with_zone_for t a) (zone_for_tag t a.zones) n;
+      reply = Grown (record { zone = record { 0 = zone_for_tag t a.zones }; added = n; made = n == wanted });
     }
 attached-as t a n wanted w e = rw (sym w, sym e) refl
 
 -- how many pages the making of a map wants
-pub wanted-is : (t : TagLimits) (first_done : Bool) (p : Pool) (a : Account) (place : ℕ) → Agrees p a →
-    IsWellFormed a → place ≡ zone_of t a.zones
-    → wanted_for t first_done (maps_of (slice_get p.zones.items place)) (pages_of (slice_get p.zones.items place))
+pub wanted-is : (t : TagLimits) (first_done : Bool) (p : Pool) (a : Account) (place : ℕ) → PoolAgrees p a →
+    IsAccountWellFormed a → place ≡ zone_for_tag t a.zones
+    → wanted_for t first_done (grown_maps (slice_get p.zones.items place)) (grown_pages (slice_get p.zones.items place))
     (most_pages t p.max_bpages p.maxmem)
-    ≡ wanted_by_map t first_done (zone_at (with_zone_for t a) (zone_of t a.zones))
-    (total (with_zone_for t a) (zone_of t a.zones)) (maxpages t a)
+    ≡ wanted_by_map t first_done (zone_at (with_zone_for t a) (zone_for_tag t a.zones))
+    (total (with_zone_for t a) (zone_for_tag t a.zones)) (maxpages t a)
 wanted-is t first_done p a place agrees well at =
     let b : Account = with_zone_for t a in
-    let z : ℕ = zone_of t a.zones in
+    let z : ℕ = zone_for_tag t a.zones in
     let maps : ℕ = length (zone_at b z).maps in
     let most : ℕ = most_pages t p.max_bpages p.maxmem in
-    ap (λ (k : ℕ). wanted_for t first_done (maps_of (slice_get p.zones.items k))
-    (pages_of (slice_get p.zones.items k)) most) at
-    ∙ ap (λ (m : ℕ). wanted_for t first_done m (pages_of (slice_get p.zones.items z)) most) (maps-is t p a agrees)
+    ap (λ (k : ℕ). wanted_for t first_done (grown_maps (slice_get p.zones.items k))
+    (grown_pages (slice_get p.zones.items k)) most) at
+    ∙ ap (λ (m : ℕ). wanted_for t first_done m (grown_pages (slice_get p.zones.items z)) most) (maps-is t p a agrees)
     ∙ ap (λ (g : ℕ). wanted_for t first_done maps g most) (pages-is t p a agrees well)
     ∙ ap (λ (x : ℕ). wanted_for t first_done maps (total b z) (most_pages t x p.maxmem)) agrees.max_bpages
     ∙ ap (λ (y : ℕ). wanted_for t first_done maps (total b z) (most_pages t a.max_bpages y)) agrees.maxmem

@@ -1,7 +1,7 @@
 -- What contracts see of a zone with the maps that wait for it.
 use Rattle.std.specs.Prelude.{◌≡◌, ℕ, ◌+◌, ◌-◌, ◌<◌, List, length, slice_index, slice_index_or}
 use Rattle.busdma_machine.specs.declared.bounce.zone.ZoneCounts.{ZoneCounts}
-use Rattle.bounce_zone.specs.ZonePages.{zone_counts}
+use Rattle.bounce_zone.specs.ZonePages.{zone_page_counts}
 use Rattle.bounce_hub.specs.declared.hub_zone.HubZone.{HubZone}
 
 -- how many pages of a zone are promised to nobody once a page came back
@@ -10,7 +10,7 @@ room_after s = length s.zone.pages + 1 - s.zone.reserved
 
 -- the counts of a zone, given how many syncs copied so far
 abbrev pub counts_of : ℕ → HubZone → ZoneCounts
-counts_of bounced s = zone_counts s.zone bounced s.deferred
+counts_of bounced s = zone_page_counts s.zone bounced s.deferred
 
 -- the counts of the zone with a number, given how many syncs copied in each zone so far
 abbrev pub counts_at : List ℕ → ℕ → HubZone → ZoneCounts

@@ -6,8 +6,8 @@ use Rattle.busdma_machine.specs.Bounce.Account.{Account, counts}
 use Rattle.busdma_machine.specs.Bounce.Door.{Seen}
 use Rattle.busdma_machine.specs.Bounce.History.{IsOpening, IsSound, account_of}
 use Rattle.bounce_hub.specs.declared.pool.Pool.{Pool}
-use Rattle.bounce_hub.specs.Opening.{opening}
-use Rattle.bounce_hub.specs.Pools.{Agrees}
+use Rattle.bounce_hub.specs.Opening.{hub_opening}
+use Rattle.bounce_hub.specs.Pools.{PoolAgrees}
 
 -- a hub: the account that it began with, and its holds
 pub record HubSeen : Type 0 where
@@ -26,13 +26,13 @@ pub record AreCounts (cs : List ZoneCounts) (bounced : List ℕ) (a : Account) :
 
 -- the account with which the hub of a pool begins
 abbrev pub opening_of : Pool → Account
-opening_of p = opening p.bank p.max_bpages p.maxmem
+opening_of p = hub_opening p.bank p.max_bpages p.maxmem
 
 -- a hub's history is sound, its pool agrees with the account after the history, its bank has room for the frames of the
 -- opening, and its history has room for all entries to come
 pub record IsKept (opening : Account) (history : List HoldEntry) (pool : Pool) (capacity : ℕ) : Type 0 where
   pub form : IsOpening opening
   pub sound : IsSound opening history
-  pub agrees : Agrees pool (account_of opening history)
+  pub agrees : PoolAgrees pool (account_of opening history)
   pub frames : length opening.bank ≤ pool.bank.room
   pub room : length history + pool.owed ≤ capacity

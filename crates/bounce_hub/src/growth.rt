@@ -2,7 +2,7 @@
 
 ghost use Rattle.std.specs.Prelude.{◌≡◌, ◌==◌, ◌||◌, ◌<◌, ◌≤◌, IfOk, OnErr, length, slice_get};
 ghost use Rattle.busdma_machine.specs.Bounce.Growth.{most_pages, wanted_by_tag, wanted_for};
-ghost use Rattle.bounce_hub.specs.Growing.{IsPlace, Grows, pages_of, maps_of};
+ghost use Rattle.bounce_hub.specs.Growing.{IsPlace, Grows, grown_pages, grown_maps};
 ghost use Rattle.bounce_hub.specs.Pools.{Stays};
 
 use crate::hub_zone::HubZone;
@@ -27,7 +27,7 @@ pub(crate) fn is_made(first_done: bool, added: u32, wanted: u64) -> bool
 impl Pool {
     /// Returns the number of pages of the zone at a place, or 0 if there is no zone there.
     pub(crate) fn pages_at(&self, place: usize) -> u32
-        ensures { result ≡ pages_of (slice_get self.now.zones.items place) }
+        ensures { result ≡ grown_pages (slice_get self.now.zones.items place) }
     {
         match self.zones.get(place) {
             Some(hub_zone) => hub_zone.zone.total(),
@@ -37,7 +37,7 @@ impl Pool {
 
     /// Returns the number of maps of the zone at a place, or 0 if there is no zone there.
     fn maps_at(&self, place: usize) -> usize
-        ensures { result ≡ maps_of (slice_get self.now.zones.items place) }
+        ensures { result ≡ grown_maps (slice_get self.now.zones.items place) }
     {
         match self.zones.get(place) {
             Some(hub_zone) => hub_zone.maps,
@@ -61,7 +61,7 @@ impl Pool {
     pub(crate) fn wanted_by_map(&self, tag: &TagLimits, first_done: bool, place: usize) -> u64
         ensures { let hub_zone = slice_get self.now.zones.items place in
             let most = most_pages tag.now self.now.max_bpages self.now.maxmem in
-            result ≡ wanted_for tag.now first_done (maps_of hub_zone) (pages_of hub_zone) most }
+            result ≡ wanted_for tag.now first_done (grown_maps hub_zone) (grown_pages hub_zone) most }
     {
         let pages = u64::from(self.pages_at(place));
         let most = self.most_pages(tag);

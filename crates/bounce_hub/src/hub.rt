@@ -3,7 +3,7 @@
 ghost use Rattle.std.specs.Prelude.{◌≡◌, [], IfOk, length, slice_get};
 ghost use Rattle.busdma_machine.specs.Bounce.History.{IsOpening, IsSound, account_of};
 ghost use Rattle.frame_bank.specs.FrameBank.{IsBank};
-ghost use Rattle.bounce_hub.specs.Opening.{opening};
+ghost use Rattle.bounce_hub.specs.Opening.{hub_opening};
 ghost use Rattle.bounce_hub.specs.Seen.{AreCounts};
 
 use crate::pool::Pool;
@@ -44,7 +44,7 @@ impl Hub {
     /// `maxmem` is in frames: the number of the machine's highest frame plus one. `max_bpages` bounds the
     /// number of pages to which a zone grows for further maps.
     pub fn new(alloc: Global, bank: FrameBank, max_bpages: u32, maxmem: u64) -> Hub
-        ensures made { result ≡ record { opening = opening bank max_bpages maxmem; history = [] } }
+        ensures made { result ≡ record { opening = hub_opening bank max_bpages maxmem; history = [] } }
         ensures form { IsOpening result.opening }
     {
         bank_is_sound(&bank);

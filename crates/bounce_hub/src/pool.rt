@@ -1,8 +1,8 @@
 //! What all drivers share, without the history of its holds.
 
 ghost use Rattle.std.specs.Prelude.{◌≡◌, IfOk, slice_index};
-ghost use Rattle.bounce_hub.specs.Opening.{opening};
-ghost use Rattle.bounce_hub.specs.Pools.{Agrees};
+ghost use Rattle.bounce_hub.specs.Opening.{hub_opening};
+ghost use Rattle.bounce_hub.specs.Pools.{PoolAgrees};
 ghost use Rattle.bounce_hub.specs.HubZones.{HaveCounts};
 
 use crate::hub_zone::HubZone;
@@ -32,7 +32,7 @@ impl Pool {
         ensures bank { result.bank ≡ bank }
         ensures maxmem { result.maxmem ≡ maxmem }
         ensures max_bpages { result.max_bpages ≡ max_bpages }
-        ensures agrees { Agrees result (opening bank max_bpages maxmem) }
+        ensures agrees { PoolAgrees result (hub_opening bank max_bpages maxmem) }
     {
         Pool {
             bank,

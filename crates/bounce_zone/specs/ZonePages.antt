@@ -38,8 +38,8 @@ abbrev pub total_pages : ZonePages → ℕ
 total_pages z = length z.pages + z.active
 
 -- the counts of a zone, given how many syncs copied so far and how many loads waited and then got all their pages
-abbrev pub zone_counts : ZonePages → ℕ → ℕ → ZoneCounts
-zone_counts z bounced deferred = record {
+abbrev pub zone_page_counts : ZonePages → ℕ → ℕ → ZoneCounts
+zone_page_counts z bounced deferred = record {
   total = total_pages z;
   free = free_pages z;
   reserved = z.reserved;

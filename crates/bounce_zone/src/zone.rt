@@ -4,7 +4,7 @@ ghost use Rattle.std.specs.Prelude.{◌≡◌, ◌+◌, ◌-◌, ◌^◌, ◌<�
 ghost use Rattle.std.specs.VecDeque.{deque_capacity};
 ghost use Rattle.busdma_machine.specs.Bounce.Growth.{frames_below};
 ghost use Rattle.frame_bank.specs.FrameBank.{free_frames};
-ghost use Rattle.bounce_zone.specs.ZonePages.{free_pages, total_pages, zone_counts};
+ghost use Rattle.bounce_zone.specs.ZonePages.{free_pages, total_pages, zone_page_counts};
 ghost use Rattle.bounce_zone.specs.ZonePages.{no_pages, reserving, handing_out, taking_back};
 
 use busdma_machine::{Pa, Page, PageList, ZoneCounts};
@@ -163,7 +163,7 @@ impl Zone {
     /// Returns the counts of the zone. `bounced` is the number of syncs that copied so far, and `deferred`
     /// the number of loads that waited and then got all their pages.
     pub fn counts(&self, bounced: u64, deferred: u64) -> ZoneCounts
-        ensures counts { result ≡ zone_counts self.now bounced deferred }
+        ensures counts { result ≡ zone_page_counts self.now bounced deferred }
         ensures sum { result.free + result.reserved + result.active ≡ result.total }
     {
         ZoneCounts {

@@ -1,4 +1,4 @@
-pub mod Checking
-pub mod Endings
+pub mod CheckLaws
+pub mod EndLaws
 pub mod Printing
 pub mod Taking

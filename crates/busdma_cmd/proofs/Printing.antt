@@ -11,7 +11,7 @@ use Rattle.io_edge.proofs.Giving.{appends_both}
 use Rattle.program_rules.specs.declared.program_end.ProgramEnd.{ProgramEnd}
 use Rattle.program_rules.specs.Commands.Edges.{StreamEdges as Edges}
 use Rattle.program_rules.specs.Commands.ProgramCall.{AnswersWords as Answers}
-use Rattle.program_rules.specs.Commands.Line.{Writes}
+use Rattle.program_rules.specs.Commands.ErrorLine.{Writes}
 
 -- a text was written completely or in part, as the result of the writing says
 pub writes : {A B : Type 0} (ran : Result A B) (text : List ℕ) (before after : Option (List ℕ))

@@ -16,8 +16,8 @@ use Rattle.program_rules.specs.declared.command.Command.TheVariants.{Replay, Run
 use Rattle.program_rules.specs.Commands.Words.{command}
 use Rattle.program_rules.specs.Commands.Edges.{StreamEdges as Edges, ReadNothing, ReadAll, ReadAtMost, input_limit}
 use Rattle.program_rules.specs.Commands.Edges.{WriteFailed, WroteNothing, WrotePart}
-use Rattle.busdma_cmd.specs.Ends.{Reads, CountsReads, Stops, StopsReading, EndsBy}
-use Rattle.program_rules.specs.Commands.Judging.{command_reading as judged}
+use Rattle.busdma_cmd.specs.Ends.{ReadsInput, CountsReads, Stops, StopsReading, EndsBy}
+use Rattle.program_rules.specs.Commands.Judging.{command_reading}
 use Rattle.program_rules.specs.Commands.Keeps.{GaveTooMany}
 use Rattle.program_rules.specs.Commands.Runs.{IsMadeOf, ReadScenario as IsRead, IsReader, RunsScenario as Runs, text_of}
 
@@ -45,7 +45,7 @@ nothing_at_most (Some left) after same = (0, omega arith, (omega arith, same))
 
 -- a command that reads stops if its reading stops
 pub stops_reading : (c : Command) (e : Edges) (why : Cause) → IsReader c
-    → StopsReading (judged c) e.left e.left_after why → Stops c e why
+    → StopsReading (command_reading c) e.left e.left_after why → Stops c e why
 stops_reading Replay e why reader stops = stops
 stops_reading Run e why reader stops = stops
 stops_reading (Storm n seed) e why reader stops = absurd reader
@@ -54,7 +54,7 @@ stops_reading Check e why reader stops = stops
 -- memory ran out after all of the input was read
 pub ran_out : (c : Command) (e : Edges) (scenario : Scenario) (ran : Result Journal Cause) → IsReader c
     → IsErrAnd ran (λ why. why ≡ cause.OutOfMemory)
-    → Reads e.left e.left_after (Ok scenario) → WroteNothing e → EndsBy c e ran
+    → ReadsInput e.left e.left_after (Ok scenario) → WroteNothing e → EndsBy c e ran
 ran_out c e scenario (Ok journal) reader is reads nothing = absurd is
 ran_out c e scenario (Err why) reader is reads nothing =
     subst (λ w. EndsBy c e (Err w)) (sym is)
@@ -69,7 +69,7 @@ RunsInput Check = ⊥
 
 -- the scenario of the input is the one that the command runs
 pub runs_input : (c : Command) (e : Edges) (scenario : Scenario) → RunsInput c
-    → Reads e.left e.left_after (Ok scenario) → Runs c e scenario
+    → ReadsInput e.left e.left_after (Ok scenario) → Runs c e scenario
 runs_input c e scenario reader reads = of_command_that_reads c reader
   where
     is_read : IsRead e scenario
@@ -195,9 +195,9 @@ same_input bytes (Some left) after input all is =
 
 -- the input is judged as the bytes that were read completely
 pub same_judged : (c : Command) (bytes : List ℕ) (e : Edges) (input : List ℕ) → ReadAll bytes e
-    → e.left ≡ Some input → judged c input ≡ judged c bytes
+    → e.left ≡ Some input → command_reading c input ≡ command_reading c bytes
 same_judged c bytes e input read is =
-    ap (judged c) (same_input bytes e.left e.left_after input read.all is)
+    ap (command_reading c) (same_input bytes e.left e.left_after input read.all is)
 
 -- an input that was read completely is not long
 pub not_long : (bytes : List ℕ) (e : Edges) (input : List ℕ) → ReadAll bytes e

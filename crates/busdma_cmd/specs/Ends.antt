@@ -36,9 +36,9 @@ StopsReading judge left after (cause.WriteFailed journal) = ⊥
 StopsReading judge left after cause.LineUnwritten = ⊥
 
 -- how reading a scenario ends, by the bytes that were left before it and after it
-abbrev pub Reads : Option (List ℕ) → Option (List ℕ) → Result Scenario Cause → Type 0
-Reads left after (Ok scenario) = OfInput left after (λ bytes. scenario_of bytes ≡ Good scenario)
-Reads left after (Err why) = StopsReading scenario_of left after why
+abbrev pub ReadsInput : Option (List ℕ) → Option (List ℕ) → Result Scenario Cause → Type 0
+ReadsInput left after (Ok scenario) = OfInput left after (λ bytes. scenario_of bytes ≡ Good scenario)
+ReadsInput left after (Err why) = StopsReading scenario_of left after why
 
 -- how often the source had failed before a call and after it: the count rose if a failed read is the cause,
 -- and otherwise it is the same

@@ -6,7 +6,7 @@ ghost use Rattle.command_words.specs.Command.{run_words};
 ghost use Rattle.program_rules.specs.declared.command.Command.TheVariants.{Replay, Storm};
 ghost use Rattle.program_rules.specs.Commands.Edges.{edges};
 ghost use Rattle.program_rules.specs.Commands.Keeps.{Keeps};
-ghost use Rattle.busdma_cmd.specs.Ends.{Reads, CountsReads, EndsBy, outcome};
+ghost use Rattle.busdma_cmd.specs.Ends.{ReadsInput, CountsReads, EndsBy, outcome};
 
 use crate::cause::Cause;
 use crate::check_call::{check_input, outcome_of_check};
@@ -26,7 +26,7 @@ pub(crate) const INPUT_LIMIT: usize = 16_777_216;
 
 /// Reads all of the source as a scenario.
 pub(crate) fn read_scenario<S: Source>(alloc: Global, source: &mut S) -> Result<Scenario, Cause>
-    ensures reads { Reads (S.left source.old) (S.left source.new) result }
+    ensures reads { ReadsInput (S.left source.old) (S.left source.new) result }
     ensures faults { CountsReads (S.faults source.old) (S.faults source.new) result }
     ensures valid { IfOk result IsValid }
 {

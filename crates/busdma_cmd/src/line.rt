@@ -1,7 +1,7 @@
 //! Writes the line on standard error.
 
 ghost use Rattle.std.specs.Prelude.{◌≡◌, ◌↔◌, IfOk, IsSome};
-ghost use Rattle.program_rules.specs.Commands.Line as text;
+ghost use Rattle.program_rules.specs.Commands.ErrorLine as text;
 ghost use Rattle.program_rules.specs.Commands.Keeps.{IsStatus};
 
 use busdma_base::ByteList;

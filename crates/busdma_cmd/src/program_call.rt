@@ -3,8 +3,8 @@
 ghost use Rattle.std.specs.Prelude.{◌≡◌, ◌≢◌, ◌↔◌, IfSome, IsSome, IsSomeAnd, Some, false, true, map, option_map, string_bytes};
 ghost use Rattle.command_words.specs.Command.{run_words};
 ghost use Rattle.program_rules.specs.Commands.Edges.{edges};
-ghost use Rattle.program_rules.specs.Commands.Line as text;
-ghost use Rattle.program_rules.specs.Commands.Line.{Prints, WritesLine};
+ghost use Rattle.program_rules.specs.Commands.ErrorLine as text;
+ghost use Rattle.program_rules.specs.Commands.ErrorLine.{Prints, WritesLine};
 ghost use Rattle.program_rules.specs.Commands.ProgramCall.{AnswersWords, KeepsCall, no_memory};
 
 use crate::command::plain_command;

@@ -1,6 +1,6 @@
-pub mod Counting
 pub mod Counts
 pub mod EachFrame
+pub mod EditedSums
 pub mod FirstCome
 pub mod KeptZones
 pub mod LaneEntries
@@ -10,7 +10,7 @@ pub mod Names
 pub mod Order
 pub mod Places
 pub mod Rising
-pub mod Shares
+pub mod ShareLaws
 pub mod Waiting
 pub mod WellFormed
 pub mod ZoneOf

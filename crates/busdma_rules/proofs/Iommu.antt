@@ -3,4 +3,4 @@ pub mod DeviceObeying
 pub mod Entering
 pub mod Members
 pub mod Runs
-pub mod Spaces
+pub mod SpaceLaws

@@ -1,6 +1,6 @@
 pub mod Aligned
 pub mod Bytes
-pub mod Chunking
+pub mod ChunkLaws
 pub mod Counting
 pub mod Covering
 pub mod Cuts

@@ -1,3 +1,3 @@
 pub mod Access
 pub mod Loans
-pub mod Syncing
+pub mod SyncEffects

@@ -1,5 +1,6 @@
 pub mod BioFrames
 pub mod Bios
+pub mod Clusters
 pub mod Extents
 pub mod Memories
 pub mod Translation

@@ -1,2 +1,2 @@
+pub mod ChunkTraces
 pub mod Positions
-pub mod Traces

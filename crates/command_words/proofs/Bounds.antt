@@ -1,5 +1,6 @@
 -- The bounds of a storm that words ask for, and the words that ask for a run.
-use Rattle.std.proofs.Common.{◌≡◌, ◌≤◌, ◌<◌, ◌^◌, ◌-◌, ◌&&◌, ◌↔◌, ◌∙◌, ℕ, Bool, cond, true, false, List, [], ◌∷◌, codes, length, map, refl, sym, ap, arith, get_or, Option, Some, None, nat_le}
+use Rattle.std.proofs.Common.{◌≡◌, ◌≤◌, ◌<◌, ◌^◌, ◌-◌, ◌&&◌, ◌↔◌, ◌∙◌, ℕ, Bool, cond, true, false, List, [], ◌∷◌, codes}
+use Rattle.std.proofs.Common.{length, map, refl, sym, ap, arith, get_or, Option, Some, None, nat_le}
 use Rattle.std.specs.Bool.{IsTrue}
 use Rattle.std.specs.Str.{bytes_eq}
 use Rattle.std.specs.Str.Parse.{digits_value}
@@ -10,7 +11,7 @@ use Rattle.program_rules.specs.declared.command.Command.{Command}
 use Rattle.program_rules.specs.declared.command.Command.TheVariants.{Replay, Run, Storm, Check}
 use Rattle.program_rules.specs.Commands.Words.{command, is_numeral, number}
 use Rattle.command_words.specs.Command.{run_words}
-use Rattle.program_rules.specs.Commands.Words.{storm_command as storm, storm_of, writes_number}
+use Rattle.program_rules.specs.Commands.Words.{storm_command, storm_of, writes_number}
 
 number_bounds : (most : ℕ) (word : List ℕ) (k : ℕ) → number most word ≡ Some k → (1 ≤ k) × (k ≤ most)
 number_bounds most word k = go (writes_number most word) refl
@@ -20,7 +21,8 @@ number_bounds most word k = go (writes_number most word) refl
     go false writes is = absurd (cc)
     go true writes is =
         let same : digits_value 10 word ≡ k = cc in
-        let parts = both (is_numeral word) (nat_le 1 (digits_value 10 word) && nat_le (digits_value 10 word) most) writes in
+        let parts = both (is_numeral word) (nat_le 1 (digits_value 10 word) && nat_le (digits_value 10 word) most)
+        writes in
         let within = both (nat_le 1 (digits_value 10 word)) (nat_le (digits_value 10 word) most) parts.1 in
         (grind (arith, nat_tests, within.0, same), grind (arith, nat_tests, within.1, same))
 
@@ -36,7 +38,7 @@ made_of (Some a) (Some b) n seed is =
 made_of (Some a) None n seed is = absurd (cc)
 made_of None y n seed is = absurd (cc)
 
-storm_small : (first second : List ℕ) (n seed : ℕ) → storm first second ≡ Some (Storm n seed) → Small n seed
+storm_small : (first second : List ℕ) (n seed : ℕ) → storm_command first second ≡ Some (Storm n seed) → Small n seed
 storm_small first second n seed is =
     let parts = made_of (number 256 first) (number (2 ^ 64 - 1) second) n seed is in
     let few = number_bounds 256 first n parts.0 in
@@ -58,13 +60,14 @@ chosen false c n seed is = absurd (cc)
 pub storm_bounds : (words : List (List ℕ)) (n seed : ℕ) → command words ≡ Some (Storm n seed) → Small n seed
 storm_bounds [] n seed is = absurd (cc)
 storm_bounds (word ∷ []) n seed is =
-    absurd (no_storm_alone (bytes_eq word (codes "replay")) (bytes_eq word (codes "run")) (bytes_eq word (codes "check")) n seed is)
+    absurd (no_storm_alone (bytes_eq word (codes "replay")) (bytes_eq word (codes "run"))
+    (bytes_eq word (codes "check")) n seed is)
 storm_bounds (word ∷ first ∷ []) n seed is = absurd (cc)
 storm_bounds (word ∷ first ∷ second ∷ []) n seed is =
-    storm_small first second n seed (chosen (bytes_eq word (codes "storm")) (storm first second) n seed is)
+    storm_small first second n seed (chosen (bytes_eq word (codes "storm")) (storm_command first second) n seed is)
 storm_bounds (word ∷ first ∷ second ∷ third ∷ more) n seed is = absurd (cc)
 
-no_run_chosen : (b : Bool) (first second : List ℕ) → cond b (storm first second) None ≡ Some Run → ⊥
+no_run_chosen : (b : Bool) (first second : List ℕ) → cond b (storm_command first second) None ≡ Some Run → ⊥
 no_run_chosen true first second is = no_run_made (number 256 first) (number (2 ^ 64 - 1) second) is
   where
     no_run_made : (x y : Option ℕ) → storm_of x y ≡ Some Run → ⊥

@@ -1,5 +1,6 @@
 -- No command has a word that begins with a hyphen.
-use Rattle.std.proofs.Common.{◌≡◌, ℕ, ◌||◌, ◌&&◌, Bool, cond, true, false, true≢false, eqb-true, List, [], ◌∷◌, length, codes, refl, sym, ap, subst, ◌∙◌, Option, Some, None, nat_le, nat_lt, ◌^◌, ◌-◌}
+use Rattle.std.proofs.Common.{◌≡◌, ℕ, ◌||◌, ◌&&◌, Bool, cond, true, false, true≢false, eqb-true, List, [], ◌∷◌, length}
+use Rattle.std.proofs.Common.{codes, refl, sym, ap, subst, ◌∙◌, Option, Some, None, nat_le, nat_lt, ◌^◌, ◌-◌}
 use Rattle.std.specs.Str.{bytes_eq, all_ascii_digits}
 use Rattle.std.specs.Str.Parse.{digits_value}
 use Rattle.std.specs.List.{list_any}
@@ -44,7 +45,11 @@ no_seed None = refl
 
 one_word : (word : List ℕ) (a : Bool) → is_flag word ≡ a → (a || false) ≡ true → command (word ∷ []) ≡ None
 one_word word true flag some =
-    rw (other_text word (codes "replay") flag refl, other_text word (codes "run") flag refl, other_text word (codes "check") flag refl)
+    rw (
+      other_text word (codes "replay") flag refl,
+      other_text word (codes "run") flag refl,
+      other_text word (codes "check") flag refl,
+    )
     refl
 one_word word false flag some = absurd (true≢false (sym some))
 

@@ -36,7 +36,8 @@ met_in name rows (Some b) is_name is_rows other no_run no_check =
     let found : Option Command = asked (rows_of (found_of sub.matches)) in
     ap asked same_rows
     ∙ (ap (λ d. cond d (Some Check) found) (sym not_check)
-    ∙ ap₂ (λ b c. cond b (Some Replay) (cond c (Some Run) (cond (bytes_eq sub.name.now (codes "check")) (Some Check) found)))
+    ∙ ap₂ (λ b c. cond b (Some Replay)
+    (cond c (Some Run) (cond (bytes_eq sub.name.now (codes "check")) (Some Check) found)))
     (sym no_replay) (sym not_run))
 
 -- a subcommand that is none of `replay`, `run` and `check` is the storm of its two words

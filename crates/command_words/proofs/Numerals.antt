@@ -1,5 +1,6 @@
 -- What `parse` returns for a word that should write a number.
-use Rattle.std.proofs.Common.{◌≡◌, ◌≢◌, ◌∙◌, ℕ, ◌<◌, ◌≤◌, ◌^◌, ◌&&◌, Bool, cond, true, false, List, length, get_or, arith, refl, ap, subst}
+use Rattle.std.proofs.Common.{◌≡◌, ◌≢◌, ◌∙◌, ℕ, ◌<◌, ◌≤◌, ◌^◌, ◌&&◌, Bool, cond, true, false, List, length, get_or}
+use Rattle.std.proofs.Common.{arith, refl, ap, subst}
 use Rattle.std.proofs.Common.{Some, None, nat_le, nat_lt}
 use Rattle.std.proofs.lemmas.Bool.Decides.{nat_tests}
 use Rattle.std.specs.Str.{all_ascii_digits}

@@ -1,6 +1,7 @@
 -- What clap makes of the words of a command line: one of `replay`, `run`, `check` and `storm`, with words of
 -- which only the shape is known.
-use Rattle.std.proofs.Common.{◌≡◌, ◌∙◌, ℕ, ◌==◌, Bool, cond, true, false, List, [], ◌∷◌, refl, sym, ap, ap₂, codes, option_map}
+use Rattle.std.proofs.Common.{◌≡◌, ◌∙◌, ℕ, ◌==◌, Bool, cond, true, false, List, [], ◌∷◌, refl, sym, ap, ap₂, codes}
+use Rattle.std.proofs.Common.{option_map}
 use Rattle.std.proofs.Common.{◌||◌, Option, Some, None, fold, is_some, subst, true≢false, inl, inr}
 use Rattle.std.proofs.lemmas.Bool.Decides.{same_from_decides, Decides-like}
 use Rattle.std.specs.Prelude.{find, unwrap_or}
@@ -16,13 +17,17 @@ use Rattle.clap.specs.declared.error.Error.{Error}
 use Rattle.clap.specs.declared.parser.matches.ArgMatches.{ArgMatches}
 use Rattle.clap.specs.declared.error.kind.ErrorKind.{ErrorKind}
 use Rattle.clap.specs.declared.error.kind.ErrorKind.TheVariants as kind
-use Rattle.clap.specs.Walk.{Held, Names, Rule, Step, Text, Walk, after_step, answers_to, arg_by_index, finished, idle, long_or_other, nothing_held, settled, short_or_plain, subcommand_or_other, to_positional, trailing, value, walk, walk_from, walked}
-use Rattle.clap.specs.Simple.{App, HasMatchesOf, Shape, built, entered, is_simple, label_of, names_of, subcommand_of, subcommand_rows_of}
-use Rattle.clap.specs.Faults.{bundle_fault, entered_fault, fault_of, flag_word_fault, is_simple_and_free, other_fault, settle_fault, defaults_fault, check_fault, step_fault, turn_fault, walk_fault}
+use Rattle.clap.specs.Walk.{Held, Names, Rule, Step, Text, Walk, after_step, answers_to, arg_by_index, finished, idle}
+use Rattle.clap.specs.Walk.{long_or_other, nothing_held, settled, short_or_plain, subcommand_or_other, to_positional}
+use Rattle.clap.specs.Walk.{trailing, value, walk, walk_from, walked}
+use Rattle.clap.specs.Simple.{App, HasMatchesOf, Shape, built, entered, is_simple, label_of, names_of, subcommand_of}
+use Rattle.clap.specs.Simple.{subcommand_rows_of}
+use Rattle.clap.specs.Faults.{bundle_fault, entered_fault, fault_of, flag_word_fault, is_simple_and_free, other_fault}
+use Rattle.clap.specs.Faults.{settle_fault, defaults_fault, check_fault, step_fault, turn_fault, walk_fault}
 use Rattle.clap.proofs.OnLiterals.{clap_on_literals}
 use Rattle.clap.proofs.WalkLemmas.{walk_stopped}
 use Rattle.clap.proofs.FaultLemmas.{stopped_fault}
-use Rattle.program_rules.specs.Commands.Words.{command, storm_command as storm}
+use Rattle.program_rules.specs.Commands.Words.{command, storm_command}
 use Rattle.command_words.specs.Line.{is_flag, line, met, storm_arguments as storm_line}
 
 neither : (a b : Bool) → (a || b) ≡ false → (a ≡ false) × (b ≡ false)
@@ -172,7 +177,8 @@ module _ (n : Text) (plain_n : is_flag n ≡ false) where
   one_word : fault_of line (codes "storm" ∷ n ∷ []) ≡ kind.MissingRequiredArgument ∷ []
   unfolding clap_on_literals
   one_word = storm_fault (n ∷ [])
-      ∙ ap₂ (λ w faults. level app.top (stopped_at (codes "storm") (n ∷ [])) true (level storm_shape w false [] faults) [])
+      ∙ ap₂ (λ w faults. level app.top (stopped_at (codes "storm") (n ∷ [])) true
+      (level storm_shape w false [] faults) [])
       walk_n (fault_n [])
 
   module _ (seed : Text) (plain_seed : is_flag seed ≡ false) where
@@ -203,7 +209,7 @@ module _ (n : Text) (plain_n : is_flag n ≡ false) where
     two_words = storm_fault (n ∷ seed ∷ [])
         ∙ ap₂ (after_storm (n ∷ seed ∷ [])) (walk_seed []) (fault_seed [])
 
-    two_read : met (subcommand_of line (codes "storm" ∷ n ∷ seed ∷ [])) ≡ storm n seed
+    two_read : met (subcommand_of line (codes "storm" ∷ n ∷ seed ∷ [])) ≡ storm_command n seed
     unfolding clap_on_literals
     two_read = ap (λ (w : Walk). met (entered app w.stopped)) (storm_stops (n ∷ seed ∷ []))
         ∙ ap (λ (w : Walk). met (Some (codes "storm", finished storm_shape.rules w.held))) (walk_seed [])
@@ -352,7 +358,8 @@ same_either_way xs ys = same_from_decides (bytes_eq xs ys) (bytes_eq ys xs) (byt
     (Decides-like (bytes_eq ys xs) sym sym (bytes_eq-Decides ys xs))
 
 other_command : (word : Text) (rest : List Text) → bytes_eq (codes "replay") word ≡ false
-    → bytes_eq (codes "run") word ≡ false → bytes_eq (codes "check") word ≡ false → bytes_eq (codes "storm") word ≡ false
+    → bytes_eq (codes "run") word ≡ false → bytes_eq (codes "check") word ≡ false → bytes_eq (codes "storm") word
+    ≡ false
     → command (word ∷ rest) ≡ None
 other_command word [] no_replay no_run no_check no_storm =
     rw (
@@ -369,7 +376,8 @@ other_command word (n ∷ seed ∷ []) no_replay no_run no_check no_storm =
 other_command word (n ∷ seed ∷ next ∷ more) no_replay no_run no_check no_storm = refl
 
 other_fits : (word : Text) (rest : List Text) → bytes_eq (codes "replay") word ≡ false
-    → bytes_eq (codes "run") word ≡ false → bytes_eq (codes "check") word ≡ false → bytes_eq (codes "storm") word ≡ false
+    → bytes_eq (codes "run") word ≡ false → bytes_eq (codes "check") word ≡ false → bytes_eq (codes "storm") word
+    ≡ false
     → is_flag word ≡ false → Fits (word ∷ rest)
 unfolding clap_on_literals
 other_fits word rest no_replay no_run no_check no_storm plain =
@@ -390,7 +398,8 @@ fits (word ∷ rest) plain =
     by_storm : (is_flag word ≡ false) × (list_any is_flag rest ≡ false)
         → bytes_eq (codes "replay") word ≡ false → bytes_eq (codes "run") word ≡ false
         → bytes_eq (codes "check") word ≡ false → (b : Bool) → bytes_eq (codes "storm") word ≡ b → Fits (word ∷ rest)
-    by_storm p no_replay no_run no_check true is = subst (λ t. Fits (t ∷ rest)) ((bytes_eq-Decides (codes "storm") word).0 is)
+    by_storm p no_replay no_run no_check true is =
+        subst (λ t. Fits (t ∷ rest)) ((bytes_eq-Decides (codes "storm") word).0 is)
         (storm_fits rest p.1)
     by_storm p no_replay no_run no_check false is = other_fits word rest no_replay no_run no_check is p.0
 

@@ -11,7 +11,7 @@ use Rattle.phys_memory.proofs.RunParts.{drop_append, drop_run, run_append}
 use Rattle.busdma_rules.specs.Segments.Obeying.{segments_bytes}
 use Rattle.busdma_rules.specs.Segments.Segmentation.{segment_bytes}
 use Rattle.busdma_rules.proofs.Segments.Places.{run_length}
-use Rattle.device_model.specs.Walking.{BeginsLow, rest_from}
+use Rattle.device_model.specs.AccessSteps.{BeginsLow, rest_from}
 
 -- the segment that is read at a place outside the list
 abbrev pub no_segment : Segment

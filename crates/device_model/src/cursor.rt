@@ -3,7 +3,7 @@
 ghost use Rattle.std.specs.Prelude.{◌≡◌, ◌<◌, ◌≤◌, ◌++◌, drop, length};
 ghost use Rattle.busdma_machine.specs.Runs.{IsExtent, run_of};
 ghost use Rattle.busdma_rules.specs.Segments.Segmentation.{segment_bytes};
-ghost use Rattle.device_model.specs.Walking.{BeginsLow, rest_of};
+ghost use Rattle.device_model.specs.AccessSteps.{BeginsLow, rest_of};
 
 use busdma_machine::{Extent, Pa, Segment};
 

@@ -2,7 +2,7 @@
 
 ghost use Rattle.std.specs.Prelude.{◌≡◌, ◌+◌, ◌%◌, ◌≤◌, length, map};
 ghost use Rattle.std.specs.List.{AllByRecursion};
-ghost use Rattle.busdma_machine.specs.Machine.PageList.{frames_of};
+ghost use Rattle.busdma_machine.specs.Machine.PageList.{page_frames};
 ghost use Rattle.busdma_machine.specs.Machine.Wire.{with_bytes_of};
 ghost use Rattle.busdma_machine.specs.Runs.{run_of};
 ghost use Rattle.phys_memory.specs.Frames.{AreApart};
@@ -21,9 +21,9 @@ use phys_memory::LanePages;
 /// map lends for the access, in any order.
 pub fn bus_read(segments: &[Segment], off: u64, out: &mut [u8], memory: &LanePages, pages: &[Page])
     requires range { off + length out.old ≤ segments_bytes segments.now }
-    requires there { AllByRecursion (IsThere memory.now.memory (frames_of pages.now))
+    requires there { AllByRecursion (IsThere memory.now.memory (page_frames pages.now))
         (bus_range off (length out.old) segments.now) }
-    requires apart { AreApart memory.now.memory (frames_of pages.now) }
+    requires apart { AreApart memory.now.memory (page_frames pages.now) }
     ensures { out.new ≡ map (with_bytes_of pages.now (wire memory.now.memory))
         (bus_range off (length out.old) segments.now) }
 {
@@ -42,8 +42,8 @@ pub fn bus_read(segments: &[Segment], off: u64, out: &mut [u8], memory: &LanePag
 /// Reads bytes that lie in one frame, and returns the place of the page that is likely to be next.
 fn read_in_frame(at: Pa, out: &mut [u8], memory: &LanePages, pages: &[Page], near: usize) -> usize
     requires inside { at.0 % 4096 + length out.old ≤ 4096 }
-    requires there { IsThere memory.now.memory (frames_of pages.now) at.0 }
-    requires apart { AreApart memory.now.memory (frames_of pages.now) }
+    requires there { IsThere memory.now.memory (page_frames pages.now) at.0 }
+    requires apart { AreApart memory.now.memory (page_frames pages.now) }
     ensures { out.new ≡ map (with_bytes_of pages.now (wire memory.now.memory)) (run_of at.0 (length out.old)) }
 {
     let frame = at.0 / 4096;

@@ -2,7 +2,7 @@
 
 ghost use Rattle.std.specs.Prelude.{◌≡◌, ◌+◌, ◌%◌, ◌≤◌, length};
 ghost use Rattle.std.specs.List.{AllByRecursion};
-ghost use Rattle.busdma_machine.specs.Machine.PageList.{frames_of};
+ghost use Rattle.busdma_machine.specs.Machine.PageList.{page_frames};
 ghost use Rattle.busdma_machine.specs.Machine.Wire.{put, with_bytes_of};
 ghost use Rattle.busdma_machine.specs.Runs.{run_of};
 ghost use Rattle.phys_memory.specs.Frames.{AreApart, SamePages};
@@ -28,13 +28,13 @@ pub fn bus_write(
     pages: &mut [Page],
 )
     requires range { off + length bytes.now ≤ segments_bytes segments.now }
-    requires there { AllByRecursion (IsThere memory.old.memory (frames_of pages.old))
+    requires there { AllByRecursion (IsThere memory.old.memory (page_frames pages.old))
         (bus_range off (length bytes.now) segments.now) }
-    requires apart { AreApart memory.old.memory (frames_of pages.old) }
+    requires apart { AreApart memory.old.memory (page_frames pages.old) }
     ensures wire { with_bytes_of pages.new (wire memory.new.memory)
         ≡ put (bus_range off (length bytes.now) segments.now) bytes.now
         (with_bytes_of pages.old (wire memory.old.memory)) }
-    ensures frames { frames_of pages.new ≡ frames_of pages.old }
+    ensures frames { page_frames pages.new ≡ page_frames pages.old }
     ensures same { SamePages memory.old.memory memory.new.memory }
     ensures spare { memory.new.spare ≡ memory.old.spare }
 {
@@ -59,11 +59,11 @@ fn write_in_frame(
     near: usize,
 ) -> usize
     requires inside { at.0 % 4096 + length bytes.now ≤ 4096 }
-    requires there { IsThere memory.old.memory (frames_of pages.old) at.0 }
-    requires apart { AreApart memory.old.memory (frames_of pages.old) }
+    requires there { IsThere memory.old.memory (page_frames pages.old) at.0 }
+    requires apart { AreApart memory.old.memory (page_frames pages.old) }
     ensures wire { with_bytes_of pages.new (wire memory.new.memory)
         ≡ put (run_of at.0 (length bytes.now)) bytes.now (with_bytes_of pages.old (wire memory.old.memory)) }
-    ensures frames { frames_of pages.new ≡ frames_of pages.old }
+    ensures frames { page_frames pages.new ≡ page_frames pages.old }
     ensures same { SamePages memory.old.memory memory.new.memory }
     ensures spare { memory.new.spare ≡ memory.old.spare }
 {

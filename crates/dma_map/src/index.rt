@@ -4,7 +4,7 @@ ghost use Rattle.std.specs.Prelude.{◌≡◌, ◌^◌, ◌<◌};
 ghost use Rattle.std.specs.List.{AllByRecursion};
 ghost use Rattle.std.specs.Option.{option_map};
 ghost use Rattle.ring_device.specs.Ends.{EndsLow};
-ghost use Rattle.busdma_rules.specs.Rings.Ranges.{address_of, byte_count, place_of};
+ghost use Rattle.busdma_rules.specs.Rings.Ranges.{address_of, segments_byte_count, place_of};
 ghost use Rattle.dma_map.specs.Parts.{IsIndexed, part_len};
 
 use crate::part::Part;
@@ -41,7 +41,7 @@ impl Index {
     /// first segment that has all of them, or `None` if no segment has all of them.
     pub fn find(&self, segments: &[Segment], addr: u64, len: u64) -> Option<u64>
         requires indexed { IsIndexed segments.now self.now }
-        requires short { byte_count segments.now < 2 ^ 64 }
+        requires short { segments_byte_count segments.now < 2 ^ 64 }
         ensures { result ≡ place_of addr len segments.now }
     {
         if !self.whole.may_have(addr, len) {
@@ -67,7 +67,7 @@ impl Index {
     /// if its segment does not have all of the `len` bytes from there on.
     pub fn address_of(&self, segments: &[Segment], off: u64, len: u64) -> Option<Pa>
         requires indexed { IsIndexed segments.now self.now }
-        requires short { byte_count segments.now < 2 ^ 64 }
+        requires short { segments_byte_count segments.now < 2 ^ 64 }
         requires low { AllByRecursion EndsLow segments.now }
         ensures { option_map (λ pa. pa.0) result ≡ address_of off len segments.now }
     {

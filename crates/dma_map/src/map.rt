@@ -4,11 +4,11 @@ ghost use Rattle.std.specs.Prelude.{◌≡◌, ◌^◌, ◌<◌, true, false, So
 ghost use Rattle.std.specs.List.{AllByRecursion};
 ghost use Rattle.std.specs.Option.{option_map};
 ghost use Rattle.ring_device.specs.Ends.{EndsLow};
-ghost use Rattle.busdma_rules.specs.Rings.Ranges.{address_of, byte_count, place_of};
+ghost use Rattle.busdma_rules.specs.Rings.Ranges.{address_of, segments_byte_count, place_of};
 ghost use Rattle.dma_map.specs.declared.state.MapState.TheVariants.{Idle, Waiting, Loaded, Returning};
-ghost use Rattle.busdma_machine.specs.Machine.PageList.{frames_of};
-ghost use Rattle.dma_map.specs.MapView.{idle, waiting, loaded, state_of, waiting_load, chunks_of, segments_of};
-ghost use Rattle.dma_map.specs.MapView.{pages_of, lent_frames, with_pages, without_pages, left_by};
+ghost use Rattle.busdma_machine.specs.Machine.PageList.{page_frames};
+ghost use Rattle.dma_map.specs.MapView.{idle, waiting, loaded, state_of, held_waiting_load, held_chunks, segments_of};
+ghost use Rattle.dma_map.specs.MapView.{held_pages_of, lent_frames, with_pages, without_pages, left_by};
 
 use crate::callback::Callback;
 use crate::room::LoadRoom;
@@ -61,7 +61,7 @@ impl<C: Callback> Model for DmaMap<C> {
 
     ghost Value = { MapView C };
 
-    ghost use Rattle.dma_map.specs.Held.{stage_of};
+    ghost use Rattle.dma_map.specs.Held.{held_stage as stage_of};
 
     ghost view = { λ m. record {
       id = m.id;
@@ -143,7 +143,7 @@ impl<C: Callback> DmaMap<C> {
     /// is then `Idle`.
     pub fn take_waiting(&mut self) -> (u32, C, LoadRoom)
         requires { state_of self.old.stage ≡ Waiting }
-        ensures taken { waiting_load self.old.stage ≡ Some result }
+        ensures taken { held_waiting_load self.old.stage ≡ Some result }
         ensures idle { self.new ≡ record self.old { stage = idle } }
     {
         match mem::replace(&mut self.held, Held::Idle) {
@@ -174,7 +174,7 @@ impl<C: Callback> DmaMap<C> {
 
     /// Returns the bounced chunks that `finish` stored, or an empty slice if the map is not `Loaded`.
     pub fn chunks(&self) -> &[Chunk]
-        ensures { result.now ≡ chunks_of self.now.stage }
+        ensures { result.now ≡ held_chunks self.now.stage }
     {
         match &self.held {
             Held::Loaded { load, .. } | Held::Lent { load, .. } => load.bounced.as_slice(),
@@ -196,7 +196,7 @@ impl<C: Callback> DmaMap<C> {
     /// first segment that has all of them, or `None` if no segment has all of them. If the load has many
     /// segments and all lie elsewhere, no segment is looked at.
     pub fn find(&self, addr: u64, len: u64) -> Option<u64>
-        requires { byte_count (segments_of self.now.stage) < 2 ^ 64 }
+        requires { segments_byte_count (segments_of self.now.stage) < 2 ^ 64 }
         ensures { result ≡ place_of addr len (segments_of self.now.stage) }
     {
         match &self.held {
@@ -209,7 +209,7 @@ impl<C: Callback> DmaMap<C> {
     /// if its segment does not have all of the `len` bytes from there on. No segment that has a byte ends
     /// above 2^64.
     pub fn address_of(&self, off: u64, len: u64) -> Option<Pa>
-        requires short { byte_count (segments_of self.now.stage) < 2 ^ 64 }
+        requires short { segments_byte_count (segments_of self.now.stage) < 2 ^ 64 }
         requires low { AllByRecursion EndsLow (segments_of self.now.stage) }
         ensures { option_map (λ pa. pa.0) result ≡ address_of off len (segments_of self.now.stage) }
     {
@@ -225,7 +225,7 @@ impl<C: Callback> DmaMap<C> {
     pub fn lend_pages(&mut self) -> PageList
         requires loaded { state_of self.old.stage ≡ Loaded }
         requires unlent { lent_frames self.old.stage ≡ None }
-        ensures pages { pages_of self.old.stage ≡ Some result }
+        ensures pages { held_pages_of self.old.stage ≡ Some result }
         ensures lent { self.new ≡ record self.old { stage = without_pages result.items self.old.stage } }
     {
         match mem::replace(&mut self.held, Held::Idle) {
@@ -242,7 +242,7 @@ impl<C: Callback> DmaMap<C> {
 
     /// Takes the lent pages back: the same frames in the same order. Their bytes can have changed.
     pub fn restore_pages(&mut self, pages: PageList)
-        requires { lent_frames self.old.stage ≡ Some (frames_of pages.items) }
+        requires { lent_frames self.old.stage ≡ Some (page_frames pages.items) }
         ensures { self.new ≡ record self.old { stage = with_pages pages self.old.stage } }
     {
         match mem::replace(&mut self.held, Held::Idle) {
@@ -256,7 +256,7 @@ impl<C: Callback> DmaMap<C> {
     pub fn unload(&mut self) -> PageList
         requires loaded { state_of self.old.stage ≡ Loaded }
         requires unlent { lent_frames self.old.stage ≡ None }
-        ensures pages { pages_of self.old.stage ≡ Some result }
+        ensures pages { held_pages_of self.old.stage ≡ Some result }
         ensures left { self.new ≡ record self.old { stage = left_by result.items } }
     {
         match mem::replace(&mut self.held, Held::Idle) {

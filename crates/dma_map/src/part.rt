@@ -21,7 +21,7 @@ pub struct Part {
 
 impl Part {
     ghost use Rattle.busdma_machine.specs.declared.machine.address.Segment.{Segment};
-    ghost use Rattle.dma_map.specs.Parts.{IsPart};
+    ghost use Rattle.dma_map.specs.Parts.{IsMapPart};
 
     /// What is known of no segments.
     pub const EMPTY: Part = Part {
@@ -33,7 +33,7 @@ impl Part {
 
     /// Returns what is known of these segments.
     pub fn of(segments: &[Segment]) -> Part
-        ensures { IsPart segments.now result }
+        ensures { IsMapPart segments.now result }
     {
         let mut part = Part::EMPTY;
         for segment in segments {
@@ -47,7 +47,7 @@ impl Part {
 
     /// Returns `false` only if none of the segments has the `len` bytes from the bus address `addr` on.
     pub fn may_have(self, addr: u64, len: u64) -> bool
-        ensures { (segments : List Segment) → IsPart segments self → result ≡ false → place_of addr len segments ≡ None }
+        ensures { (segments : List Segment) → IsMapPart segments self → result ≡ false → place_of addr len segments ≡ None }
     {
         if addr < self.least || self.end < addr.saturating_add(len) {
             return false;

@@ -4,7 +4,7 @@ ghost use Rattle.std.specs.Prelude.{◌≡◌, ◌^◌, ◌<◌};
 ghost use Rattle.std.specs.List.{AllByRecursion};
 ghost use Rattle.std.specs.Option.{option_map};
 ghost use Rattle.ring_device.specs.Ends.{EndsLow};
-ghost use Rattle.busdma_rules.specs.Rings.Ranges.{address_of, byte_count, place_of};
+ghost use Rattle.busdma_rules.specs.Rings.Ranges.{address_of, segments_byte_count, place_of};
 
 use crate::index::{Index, PARTS};
 use busdma_base::{Pa, Segment, SegmentList};
@@ -54,7 +54,7 @@ impl LoadSegments {
     /// Returns the offset in the load, in bytes, of the `len` bytes from the bus address `addr` on, in the
     /// first segment that has all of them, or `None` if no segment has all of them.
     pub fn find(&self, addr: u64, len: u64) -> Option<u64>
-        requires { byte_count self.now < 2 ^ 64 }
+        requires { segments_byte_count self.now < 2 ^ 64 }
         ensures { result ≡ place_of addr len self.now }
     {
         match &self.index {
@@ -66,7 +66,7 @@ impl LoadSegments {
     /// Returns the bus address of the byte `off` of the load. Returns `None` if no segment has the byte, or
     /// if its segment does not have all of the `len` bytes from there on.
     pub fn address_of(&self, off: u64, len: u64) -> Option<Pa>
-        requires short { byte_count self.now < 2 ^ 64 }
+        requires short { segments_byte_count self.now < 2 ^ 64 }
         requires low { AllByRecursion EndsLow self.now }
         ensures { option_map (λ pa. pa.0) result ≡ address_of off len self.now }
     {

@@ -7,7 +7,8 @@ use Rattle.std.proofs.Math.Seq.{get_or-append_seam}
 use Rattle.std.proofs.lemmas.List.{map_push, take_more, length-append}
 use Rattle.std.proofs.lemmas.List.Elements.{All-push, All-weaker, All-nil, Contains-push, Contains-append_left}
 use Rattle.busdma_machine.specs.declared.tags.tag.TagLimits.{TagLimits}
-use Rattle.busdma_machine.specs.Tags.Tag.{IsAccepted, is_accepted, rounded, effective, inherit, least_boundary, frame_end}
+use Rattle.busdma_machine.specs.Tags.Tag.{IsAccepted, is_accepted, rounded, effective, inherit, least_boundary}
+use Rattle.busdma_machine.specs.Tags.Tag.{frame_end}
 use Rattle.busdma_rules.proofs.Tags.Choices.{either_max, either_min, either_boundary, least_boundary-left}
 use Rattle.busdma_rules.proofs.Tags.Choices.{least_boundary-right}
 use Rattle.dma_tag.specs.Chain.{IsGreatest, IsLeast, IsLeastBoundary, IsNarrowest, IsOwn, last_of}

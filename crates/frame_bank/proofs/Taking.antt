@@ -11,7 +11,7 @@ use Rattle.busdma_machine.specs.Machine.Page.{FrameBytes}
 use Rattle.busdma_machine.specs.Bounce.History.{IsRising}
 use Rattle.busdma_machine.specs.Bounce.MemoryRuns.{frames_for, follow, crosses_none, begins_run, frames_from}
 use Rattle.busdma_machine.specs.Machine.PageList.{page_address, page_addresses}
-use Rattle.frame_bank.specs.FrameBank.{is_in_run}
+use Rattle.frame_bank.specs.FrameBank.{is_in_bank_run}
 use Rattle.frame_bank.proofs.Rising.{AreRising, rising_pages, rising_drop, rising_below}
 use Rattle.frame_bank.proofs.Runs.{AreFrom, from_next, from_place, no_page, address_at, follow-long, begins_run-at}
 
@@ -78,15 +78,15 @@ filter-page_addresses t (p ∷ ps) =
 
 -- of pages that begin with the last n of a run, those n are the run's
 record Taken (first m n a : ℕ) (ps : List FrameBytes) : Type 0 where
-  run : filter (is_in_run first m) ps ≡ take n ps
-  left : filter (λ p. not (is_in_run first m p)) ps ≡ drop n ps
+  run : filter (is_in_bank_run first m) ps ≡ take n ps
+  left : filter (λ p. not (is_in_bank_run first m p)) ps ≡ drop n ps
   placed : page_addresses (take n ps) ≡ frames_from n a
 
 taken : (n f first m a : ℕ) (ps : List FrameBytes) → first ≤ 4096 * f → 4096 * f + 4096 * n ≡ first + 4096 * m →
     a ≡ 4096 * f → AreRising ps → AreFrom f ps → follow n a (page_addresses ps) ≡ true → Taken first m n a ps
 taken zero f first m a ps low end e h from t =
-    let past = filter_none (is_in_run first m) ps
-    (All-weaker (λ p. f ≤ p.frame) (λ p. is_in_run first m p ≡ false)
+    let past = filter_none (is_in_bank_run first m) ps
+    (All-weaker (λ p. f ≤ p.frame) (λ p. is_in_bank_run first m p ≡ false)
     (λ p l. and_right (leb first (page_address p)) (ltb (page_address p) (first + 4096 * m))
     (le-ltb (page_address p) (first + 4096 * m) (omega arith))) ps from) in
     record { run = past.0; left = past.1; placed = refl }
@@ -94,26 +94,26 @@ taken (suc n) f first m a [] low end e h from t = absurd (false≢true t)
 taken (suc n) f first m a (p ∷ ps) low end e h from t =
     let parts = and_parts (eqb (page_address p) a) (follow n (a + 4096) (page_addresses ps)) t in
     let here : page_address p ≡ a = eqb-true (page_address p) a parts.0 in
-    let inside : is_in_run first m p ≡ true =
+    let inside : is_in_bank_run first m p ≡ true =
     and_from (leb first (page_address p)) (ltb (page_address p) (first + 4096 * m))
     (le-leb first (page_address p) (omega arith)) (lt-ltb (page_address p) (first + 4096 * m) (omega arith)) in
     let rest =
     taken n (f + 1) first m (a + 4096) ps (omega arith) (omega arith) (omega arith) h.1
     (from_next p.frame (f + 1) ps (omega arith) h.0) parts.1 in
     record {
-      run = ap (λ v. cond v (p ∷ filter (is_in_run first m) ps) (filter (is_in_run first m) ps)) inside
+      run = ap (λ v. cond v (p ∷ filter (is_in_bank_run first m) ps) (filter (is_in_bank_run first m) ps)) inside
           ∙ ap (λ qs. p ∷ qs) rest.run;
       left =
-          ap (λ v. cond (not v) (p ∷ filter (λ q. not (is_in_run first m q)) ps)
-          (filter (λ q. not (is_in_run first m q)) ps)) inside ∙ rest.left;
+          ap (λ v. cond (not v) (p ∷ filter (λ q. not (is_in_bank_run first m q)) ps)
+          (filter (λ q. not (is_in_bank_run first m q)) ps)) inside ∙ rest.left;
       placed = ap (λ b. b ∷ page_addresses (take n ps)) here ∙ ap (λ bs. a ∷ bs) rest.placed;
     }
 
 -- the n pages of a run that begins at a place
 pub record TakenAt (first n at : ℕ) (ps : List FrameBytes) : Type 0 where
   pub inside : at + n ≤ length ps
-  pub run : filter (is_in_run first n) ps ≡ take n (drop at ps)
-  pub left : filter (λ p. not (is_in_run first n p)) ps ≡ take at ps ++ drop (at + n) ps
+  pub run : filter (is_in_bank_run first n) ps ≡ take n (drop at ps)
+  pub left : filter (λ p. not (is_in_bank_run first n p)) ps ≡ take at ps ++ drop (at + n) ps
   pub placed : page_addresses (take n (drop at ps)) ≡ frames_from n first
 
 pub taken_at : (n at : ℕ) (ps : List FrameBytes) → IsRising (page_addresses ps) → at < length ps →
@@ -128,8 +128,8 @@ taken_at n at ps rising inside t =
     taken n f first n first (drop at ps) (omega arith) (omega arith) is
     (rising_drop at ps h) (from_place ps at h inside)
     (ap (follow n first) (sym (drop-map page_address at ps)) ∙ t) in
-    let before = filter_none (is_in_run first n) (take at ps)
-    (All-weaker (λ p. p.frame < f) (λ p. is_in_run first n p ≡ false)
+    let before = filter_none (is_in_bank_run first n) (take at ps)
+    (All-weaker (λ p. p.frame < f) (λ p. is_in_bank_run first n p ≡ false)
     (λ p l. and_left (leb first (page_address p)) (ltb (page_address p) (first + 4096 * n))
     (lt-leb first (page_address p) (omega arith))) (take at ps) (rising_below ps at no_page h inside)) in
     let split : ps ≡ take at ps ++ drop at ps = sym (take-append-drop at ps) in
@@ -142,11 +142,12 @@ taken_at n at ps rising inside t =
             length-map ps page_address,
             length-drop at (page_addresses ps),
           );
-      run = ap (filter (is_in_run first n)) split ∙ filter_append (is_in_run first n) (take at ps) (drop at ps)
-          ∙ ap (λ qs. qs ++ filter (is_in_run first n) (drop at ps)) before.0 ∙ behind.run;
-      left = ap (filter (λ p. not (is_in_run first n p))) split
-          ∙ filter_append (λ p. not (is_in_run first n p)) (take at ps) (drop at ps)
-          ∙ ap (λ qs. qs ++ filter (λ p. not (is_in_run first n p)) (drop at ps)) before.1
+      run = ap (filter (is_in_bank_run first n)) split ∙ filter_append (is_in_bank_run first n) (take at ps)
+          (drop at ps)
+          ∙ ap (λ qs. qs ++ filter (is_in_bank_run first n) (drop at ps)) before.0 ∙ behind.run;
+      left = ap (filter (λ p. not (is_in_bank_run first n p))) split
+          ∙ filter_append (λ p. not (is_in_bank_run first n p)) (take at ps) (drop at ps)
+          ∙ ap (λ qs. qs ++ filter (λ p. not (is_in_bank_run first n p)) (drop at ps)) before.1
           ∙ ap (λ qs. take at ps ++ qs) (behind.left ∙ drop-drop n at ps);
       placed = behind.placed;
     }

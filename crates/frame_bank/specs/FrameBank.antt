@@ -41,18 +41,18 @@ frames_left None n frames = frames
 frames_left (Some first) n frames = frames_but first n frames
 
 -- a page is one of the n frames from an address on
-abbrev pub is_in_run : ℕ → ℕ → FrameBytes → Bool
-is_in_run first n p = in_run first n (page_address p)
+abbrev pub is_in_bank_run : ℕ → ℕ → FrameBytes → Bool
+is_in_bank_run first n p = in_run first n (page_address p)
 
 -- the pages that are among the n frames from the first of a run on, or none if there is no run
 abbrev pub run_pages : Option ℕ → ℕ → List FrameBytes → Option (List FrameBytes)
 run_pages None n pages = None
-run_pages (Some first) n pages = Some (filter (is_in_run first n) pages)
+run_pages (Some first) n pages = Some (filter (is_in_bank_run first n) pages)
 
 -- the pages that are not among the n frames from the first of a run on, or all if there is no run
 abbrev pub pages_left : Option ℕ → ℕ → List FrameBytes → List FrameBytes
 pages_left None n pages = pages
-pages_left (Some first) n pages = filter (λ p. not (is_in_run first n p)) pages
+pages_left (Some first) n pages = filter (λ p. not (is_in_bank_run first n p)) pages
 
 -- what is true of each bank: its pages rise, their frames have numbers below 2^30, it has room for all of them, and
 -- that room is for at most 8192 frames

@@ -11,6 +11,6 @@ page_of (Fresh number) = fresh_page number
 page_of (Back page) = page
 
 -- the number of a free frame is below 2^30
-abbrev pub IsNumbered : State → Type 0
-IsNumbered (Fresh number) = number < 2 ^ 30
-IsNumbered (Back page) = page.frame < 2 ^ 30
+abbrev pub IsBankNumbered : State → Type 0
+IsBankNumbered (Fresh number) = number < 2 ^ 30
+IsBankNumbered (Back page) = page.frame < 2 ^ 30

@@ -28,13 +28,13 @@ pub struct Frame {
 
 impl Model for Frame {
     ghost use Rattle.busdma_machine.specs.Machine.Page.{FrameBytes};
-    ghost use Rattle.frame_bank.specs.Frames.{IsNumbered, page_of};
+    ghost use Rattle.frame_bank.specs.Frames.{IsBankNumbered, page_of};
 
     ghost Value = { FrameBytes };
 
     ghost view = { λ f. page_of f.state };
 
-    ghost invariant = { λ f. IsNumbered f.state };
+    ghost invariant = { λ f. IsBankNumbered f.state };
 }
 
 impl Frame {

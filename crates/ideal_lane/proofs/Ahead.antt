@@ -11,7 +11,7 @@ use Rattle.busdma_base.specs.declared.scenarios.scenario.Driver.{Driver}
 use Rattle.busdma_base.specs.declared.scenarios.script.Op.{Op}
 use Rattle.busdma_base.specs.Scenarios.Operations.{items_of}
 use Rattle.lane_agreement.specs.View as view
-use Rattle.busdma_base.specs.Scenarios.Queues.{queued_items as queued}
+use Rattle.busdma_base.specs.Scenarios.Queues.{queued_items}
 use Rattle.ideal_lane.specs.State.{LaneState, LaneMap, Idle, Waiting, Loaded, Returning}
 use Rattle.ideal_lane.specs.Ahead.{awaited_items, items_ahead}
 use Rattle.ideal_lane.specs.Asking.{by_reply}
@@ -21,9 +21,12 @@ use Rattle.ideal_lane.specs.Outcomes.{Outcome}
 use Rattle.ideal_lane.specs.Sends.{copied, is_too_big}
 use Rattle.ideal_lane.specs.Turns.{Turned, lane_step}
 use Rattle.ideal_lane.specs.Unloads.{pages_of, after_return}
-use Rattle.ideal_lane.proofs.Effects.{Work, Operation, Transfer, Callback, Touches, Same, Makes, Touched, Maps, Creates, Unmaps, Places, Frees}
-use Rattle.ideal_lane.proofs.Effects.{Refuses, Waits, Loads, Overflows, Unloads, Ends, AtOnce, Granted, Called, Device, Kicks}
-use Rattle.ideal_lane.proofs.Effects.{Declines, Keeps, Resends, Vain, Steps, Stays, Advances, Leaves, Releases, Calls, waits_for, map_in}
+use Rattle.ideal_lane.proofs.Effects.{Work, Operation, Transfer, Callback, Touches, Same, Makes, Touched, Maps, Creates}
+use Rattle.ideal_lane.proofs.Effects.{Unmaps, Places, Frees}
+use Rattle.ideal_lane.proofs.Effects.{Refuses, Waits, Loads, Overflows, Unloads, Ends, AtOnce, Granted, Called, Device}
+use Rattle.ideal_lane.proofs.Effects.{Kicks}
+use Rattle.ideal_lane.proofs.Effects.{Declines, Keeps, Resends, Vain, Steps, Stays, Advances, Leaves, Releases, Calls}
+use Rattle.ideal_lane.proofs.Effects.{waits_for, map_in}
 use Rattle.ideal_lane.proofs.Stepping.{turn-steps}
 use Rattle.ideal_lane.proofs.Effects.{was_in, place_in, asked_in, chunks_in, pages_in, there_in}
 use Rattle.ideal_lane.proofs.Falling.{queued-from, rest-of}
@@ -119,14 +122,14 @@ module _ (l : LaneState) where
           arith,
           brings k,
           queued-from (place_in k) 0 (asked_in k).items,
-          length-append l.queue (queued (place_in k) (asked_in k).items),
+          length-append l.queue (queued_items (place_in k) (asked_in k).items),
           weigh-put w l.maps (map_in k) (was_in k) (record (was_in k) {
             tried = true;
             stage = Loaded (bounced_in l (map_in k) (was_in k) (place_in k) (asked_in k) (chunks_in k) (pages_in k))
                 (segments_of l (map_in k) (was_in k) (place_in k) (asked_in k) (chunks_in k) (pages_in k)) (pages_in k);
           }) (there_in k),
         );
-    longer = omega (arith, length-append l.queue (queued (place_in k) (asked_in k).items));
+    longer = omega (arith, length-append l.queue (queued_items (place_in k) (asked_in k).items));
     script = refl;
     place = refl;
   }
@@ -138,8 +141,8 @@ module _ (l : LaneState) where
       (empty-stage (pages_of o.stage))) refl refl refl
   few (Kicks k steps r there) = record {
     low =
-        omega (arith, queued-from l.place 0 steps, length-append l.queue (queued l.place steps));
-    longer = omega (arith, length-append l.queue (queued l.place steps));
+        omega (arith, queued-from l.place 0 steps, length-append l.queue (queued_items l.place steps));
+    longer = omega (arith, length-append l.queue (queued_items l.place steps));
     script = refl;
     place = refl;
   }

@@ -1,5 +1,6 @@
 -- The callback of each load is called at most once.
-use Rattle.std.proofs.Common.{◌≡◌, ℕ, ◌+◌, ◌≤◌, ◌==◌, ◌&&◌, not, Bool, true, false, if◌then◌else◌, List, [], ◌∷◌, Option}
+use Rattle.std.proofs.Common.{◌≡◌, ℕ, ◌+◌, ◌≤◌, ◌==◌, ◌&&◌, not, Bool, true, false, if◌then◌else◌, List, [], ◌∷◌}
+use Rattle.std.proofs.Common.{Option}
 use Rattle.std.proofs.Common.{Some, None, refl, ap, sym, ◌∙◌, subst, arith, nat_le, slice_get}
 use Rattle.std.proofs.lemmas.Bool.Decides.{nat_tests}
 use Rattle.std.specs.FinMap.{get, insert}
@@ -12,7 +13,9 @@ use Rattle.lane_agreement.specs.View as view
 use Rattle.busdma_base.specs.declared.scenarios.queued.QueuedItem.{QueuedItem}
 use Rattle.ideal_lane.specs.State.{LaneState, LaneMap, Stage, Idle, Waiting, Loaded, Returning}
 use Rattle.ideal_lane.specs.Asking.{Asking, Gives, Asks, by_reply}
-use Rattle.ideal_lane.specs.Callbacks.{ends, is_load, awaits, awaited, called_by, Made, IsRun, times_called}
+use Rattle.ideal_lane.specs.Callbacks.{ends, is_load, awaits, awaited}
+use Rattle.ideal_lane.specs.Callbacks.{turn_calls, MadeStep}
+use Rattle.ideal_lane.specs.Callbacks.{IsRun, times_called_in_run}
 use Rattle.ideal_lane.specs.Outcomes.{Outcome}
 use Rattle.ideal_lane.specs.Standing.{Stands, KeepsStanding}
 use Rattle.ideal_lane.specs.Loads.{load, emptied}
@@ -28,8 +31,8 @@ use Rattle.ideal_lane.proofs.Effects.{Unwaited, Vain, Waits, Work, asked_in, chu
 use Rattle.ideal_lane.proofs.Effects.{place_in, there_in, waits_for, was_in}
 use Rattle.ideal_lane.proofs.Stepping.{turn-steps}
 use Rattle.ideal_lane.proofs.Endings.{fitting, too_big, bounced_in, segments_of}
-use Rattle.ideal_lane.proofs.Openings.{opens-standing}
-use Rattle.ideal_lane.proofs.Standings.{turn-stands}
+use Rattle.ideal_lane.proofs.OpeningLaws.{opens-standing}
+use Rattle.ideal_lane.proofs.StandingLaws.{turn-stands}
 use Rattle.ideal_lane.proofs.Weights.{weigh, weigh-new, weigh-put, weigh-cut, weigh-empty}
 use Rattle.busdma_machine.specs.declared.bounce.hold.HubCall.{HubCall}
 use Rattle.busdma_machine.specs.declared.name.MapId.{MapId}
@@ -142,7 +145,7 @@ module _ (p : ℕ) where
 
   -- a turn calls at most what was owed before it and no longer is
   abbrev Settles : LaneState → Turned → Type 0
-  Settles l t = owed t.lane + called_by p l t.turn ≤ owed l
+  Settles l t = owed t.lane + turn_calls p l t.turn ≤ owed l
 
   module _ (l : LaneState) (s : Stands l) where
     place-count : one (nat_le (l.place + 1) p) + one (l.place == p) ≡ one (nat_le l.place p)
@@ -259,10 +262,10 @@ module _ (p : ℕ) where
   stands-on (Asks c k) r h = h r
 
   -- a run calls at most what is owed at its beginning
-  run-settles : (l : LaneState) (ms : List Made) → Stands l → IsRun l ms → times_called p l ms ≤ owed l
+  run-settles : (l : LaneState) (ms : List MadeStep) → Stands l → IsRun l ms → times_called_in_run p l ms ≤ owed l
   run-settles l [] s h = omega arith
   run-settles l (m ∷ ms) s h =
-      let step : owed m.turned.lane + called_by p l m.turned.turn ≤ owed l =
+      let step : owed m.turned.lane + turn_calls p l m.turned.turn ≤ owed l =
       subst (Settles l) (sym h.0) (settles l s m.side m.reply) in
       let on : Stands m.turned.lane =
       subst (λ (t : Turned). Stands t.lane) (sym h.0)
@@ -274,8 +277,8 @@ module _ (p : ℕ) where
   at-most false = omega arith
 
 -- from the opening of a driver on, each callback is called at most once
-pub called-once : (p id maxmem : ℕ) (driver : _) (ms : List Made) → IsRun (opening_lane id maxmem driver) ms →
-    times_called p (opening_lane id maxmem driver) ms ≤ 1
+pub called-once : (p id maxmem : ℕ) (driver : _) (ms : List MadeStep) → IsRun (opening_lane id maxmem driver) ms →
+    times_called_in_run p (opening_lane id maxmem driver) ms ≤ 1
 called-once p id maxmem driver ms h =
     omega (
       arith,

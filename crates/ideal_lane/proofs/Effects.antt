@@ -44,40 +44,42 @@ use Rattle.busdma_base.specs.Journals.Reports.{is_report}
 use Rattle.busdma_base.specs.Scenarios.Operations.{bytes_of}
 use Rattle.busdma_machine.specs.Tags.Tag.{effective, could_bounce, space_limits}
 use Rattle.busdma_machine.specs.Tags.TagFlags.{allocnow}
-use Rattle.busdma_rules.specs.Tags.LoadFlags.{load_nowait_bit as nowait_bit}
+use Rattle.busdma_rules.specs.Tags.LoadFlags.{load_nowait_bit}
 use Rattle.busdma_rules.specs.Tags.SyncOps.{is_mixed}
-use Rattle.lane_agreement.specs.After.{addresses_of_pages as addresses}
+use Rattle.lane_agreement.specs.After.{addresses_of_pages}
 use Rattle.lane_agreement.specs.View.{Return}
 use Rattle.busdma_base.specs.declared.scenarios.queued.QueuedItem.{QueuedItem}
-use Rattle.busdma_base.specs.Scenarios.Queues.{queued_items as queued}
+use Rattle.busdma_base.specs.Scenarios.Queues.{queued_items}
 use Rattle.busdma_rules.specs.Lending.Access.{cpu_read_answer, cpu_write_answer, dev_read_answer, dev_write_answer}
 use Rattle.busdma_rules.specs.Lending.Access.{dev_write_refusal}
-use Rattle.busdma_rules.specs.Lending.Syncing.{sync_answer, synced, lost}
+use Rattle.busdma_rules.specs.Lending.SyncEffects.{sync_answer, synced, lost}
 use Rattle.busdma_rules.specs.Lending.Loans.{loan_of, load_bytes}
 use Rattle.busdma_rules.specs.declared.descriptor.Descriptor.{Descriptor}
 use Rattle.busdma_rules.specs.Rings.Descriptors.{descriptor_bytes}
 use Rattle.busdma_rules.specs.Iommu.Device.{device_chunks, load_frames}
 use Rattle.busdma_rules.specs.Iommu.Space.{Space, first_free}
 use Rattle.busdma_rules.specs.Segments.Chunks.{need_of}
-use Rattle.ideal_lane.specs.State.{LaneState, LaneTag, LaneMap, LaneMemory, LaneRing, Stage, Waiting, WaitingLoad, named}
+use Rattle.ideal_lane.specs.State.{LaneState, LaneTag, LaneMap, LaneMemory, LaneRing, Stage, Waiting, WaitingLoad}
+use Rattle.ideal_lane.specs.State.{named}
 use Rattle.ideal_lane.specs.State.{no_space}
 use Rattle.ideal_lane.specs.Accesses.{raw_bytes, raw_refusal}
 use Rattle.ideal_lane.specs.IdealMemory.{is_known, written, forgotten}
 use Rattle.ideal_lane.specs.Loads.{Asked, are_few, asked, limits_of, chunks_for, granted, is_device, ended}
-use Rattle.ideal_lane.specs.Loads.{load_judged, unpaged, waiting_load, with_run, with_spaces, zone_of_map as zone_of}
+use Rattle.ideal_lane.specs.Loads.{load_judged, unpaged, waiting_load, with_run, with_spaces, zone_of_map}
 use Rattle.ideal_lane.specs.Maps.{bounces, with_map, without_map}
-use Rattle.ideal_lane.specs.Memories.{memory_by_reply as placed, without_memory}
+use Rattle.ideal_lane.specs.Memories.{memory_by_reply, without_memory}
 use Rattle.ideal_lane.specs.Outcomes.{Outcome, is_idle, is_loaded}
 use Rattle.ideal_lane.specs.Outcomes.{load_length}
-use Rattle.ideal_lane.specs.Places.{virtual_at, first_unreached as reached, bytes_at}
-use Rattle.ideal_lane.specs.Rings.{Candidate, allowed, candidates, fetched, fits_in, head_at, head_of, is_work, may_post}
+use Rattle.ideal_lane.specs.Places.{virtual_at, first_unreached, bytes_at}
+use Rattle.ideal_lane.specs.Rings.{Candidate, allowed, candidates, fetched, fits_in, head_at, head_of, is_work}
+use Rattle.ideal_lane.specs.Rings.{may_post}
 use Rattle.ideal_lane.specs.Rings.{moved_on, posted, retired, slot_place, stored, told, used, with_ring}
 use Rattle.ideal_lane.specs.Sends.{Send, chain_bytes, cluster_bytes, copied, due_send, is_too_big, send_of}
 use Rattle.ideal_lane.specs.Syncs.{copies, counted}
 use Rattle.ideal_lane.specs.Tags.{with_tag, with_device_tag, has_maps, with_space}
 use Rattle.ideal_lane.specs.Turns.{Turn, Turned, Blocked, Ended, stays, stepped, bio_at}
-use Rattle.ideal_lane.specs.Turns.{never_waits, waits, advanced, kept, resent, maps_completed as served, left_queue}
-use Rattle.ideal_lane.specs.Unloads.{loan_forgotten as unlent, unmapped, pages_of, segments_in, restaged, after_return}
+use Rattle.ideal_lane.specs.Turns.{never_waits, waits, advanced, kept, resent, maps_completed, left_queue}
+use Rattle.ideal_lane.specs.Unloads.{loan_forgotten, unmapped, pages_of, segments_in, restaged, after_return}
 use Rattle.ideal_lane.proofs.Endings.{fits, fitting, too_big}
 
 -- what a step does: an operation, an item, or the callback of a map
@@ -194,7 +196,7 @@ module _ {l : LaneState} {d : Work} (b : Begins l d) where
   waits_for = waiting_load l asks chunks
 
   abbrev pub grab : HubCall
-  grab = call.Grab (named l b.m) (record { 0 = zone_of b.o }) (need_of chunks) asks.nowait
+  grab = call.Grab (named l b.m) (record { 0 = zone_of_map b.o }) (need_of chunks) asks.nowait
 
   pub here : IsNext l d → slice_get l.script l.place ≡ Some (op.Load b.m b.buffer b.flags b.items)
   here at = subst (IsNext l) b.is at
@@ -272,8 +274,8 @@ module _ {l : LaneState} where
 
   abbrev pub pages_in : {d : Work} {c : Option HubCall} {r : HubReply} → Ends l d c r → List ℕ
   pages_in (AtOnce b plain e) = []
-  pages_in (Granted b plain e pages) = addresses pages
-  pages_in (Called m pages o v e w) = addresses pages
+  pages_in (Granted b plain e pages) = addresses_of_pages pages
+  pages_in (Called m pages o v e w) = addresses_of_pages pages
   pages_in (Device b device first spaces taken) = []
 
   pub there_in : {d : Work} {c : Option HubCall} {r : HubReply} (k : Ends l d c r) →
@@ -355,7 +357,7 @@ pub data Touches (l : LaneState) : Work → Outcome → Type 0 where
       Touches l d (record { lane = after_sync l m o off len ops; answer = answer.Done })
   -- cpu_write: the bytes at a place are Known, with the values that the driver writes
   Writes : (place : Place) (bs : Bytes) (va : ℕ) → virtual_at l place ≡ Some va →
-      reached l va (length (bytes_of bs)) ≡ Fine →
+      first_unreached l va (length (bytes_of bs)) ≡ Fine →
       cpu_write_answer l.loans (bytes_at l (run_of va (length (bytes_of bs)))) ≡ Fine →
       Touches l (Operation (op.CpuWrite place bs)) (record {
         lane = after_write l (bytes_at l (run_of va (length (bytes_of bs)))) (bytes_of bs);
@@ -364,7 +366,7 @@ pub data Touches (l : LaneState) : Work → Outcome → Type 0 where
   -- ring_post: a slot of a ring has the bytes of a descriptor, which the driver writes as it writes any
   Posts : (k slot m off len kind fill : ℕ) (r : LaneRing) → get l.rings k ≡ Some r → (o : LaneMap) →
       get l.maps m ≡ Some o → is_loaded o.stage ≡ true → may_post r slot m o off len kind l ≡ true →
-      (va : ℕ) → virtual_at l (slot_place r slot) ≡ Some va → reached l va 16 ≡ Fine →
+      (va : ℕ) → virtual_at l (slot_place r slot) ≡ Some va → first_unreached l va 16 ≡ Fine →
       cpu_write_answer l.loans (bytes_at l (run_of va 16)) ≡ Fine →
       Touches l (Operation (op.RingPost k slot m off len kind fill)) (record {
         lane =
@@ -441,7 +443,7 @@ pub data Makes (l : LaneState) : Work → Option HubCall → HubReply → Outcom
   -- dmamem: the driver has one more memory, with its idle map and its bytes
   Places : (name : List ℕ) (t flags : ℕ) (g : LaneTag) → get l.tags t ≡ Some g → (first : Pa) (count : ℕ) →
       Makes l (Operation (op.Dmamem name t flags)) (Some (call.MemAlloc (named l l.place) g.limits))
-      (reply.Run first count) (placed t g.limits flags l (reply.Run first count))
+      (reply.Run first count) (memory_by_reply t g.limits flags l (reply.Run first count))
   -- dmamem_free: a memory whose map is idle is gone, with its map and its bytes
   Frees : {r : HubReply} (m : ℕ) (x : LaneMemory) → get l.mems m ≡ Some x → (o : LaneMap) → get l.maps m ≡ Some o →
       is_idle o.stage ≡ true →
@@ -467,7 +469,7 @@ pub data Makes (l : LaneState) : Work → Option HubCall → HubReply → Outcom
   -- device pages ends
   Unloads : {r : HubReply} (m : ℕ) (o : LaneMap) → get l.maps m ≡ Some o → is_loaded o.stage ≡ true →
       Makes l (Operation (op.Unload m)) None r
-      (record { lane = unmapped o (unpaged m o (pages_of o.stage) (unlent m l)); answer = answer.Done })
+      (record { lane = unmapped o (unpaged m o (pages_of o.stage) (loan_forgotten m l)); answer = answer.Done })
   -- await: the wait has ended, and the driver is the same
   Awaits : {r : HubReply} (m : ℕ) →
       Makes l (Operation (op.Await m)) None r (record { lane = l; answer = answer.Done })
@@ -481,13 +483,13 @@ pub data Makes (l : LaneState) : Work → Option HubCall → HubReply → Outcom
   -- kick: the steps of a ring's device join the transfer queue
   Kicks : {r : HubReply} (k : ℕ) (steps : List Item) (q : LaneRing) → get l.rings k ≡ Some q →
       Makes l (Operation (op.Kick k steps)) None r
-      (record { lane = record l { queue = l.queue ++ queued l.place steps }; answer = answer.Done })
+      (record { lane = record l { queue = l.queue ++ queued_items l.place steps }; answer = answer.Done })
 
 -- ---- sends
 
 -- the load of a send's clusters, as an operation: it loads a vector, and must not wait
 abbrev pub again : Send → Op
-again s = op.Load s.map (buffer.Vector s.clusters) nowait_bit s.items
+again s = op.Load s.map (buffer.Vector s.clusters) load_nowait_bit s.items
 
 -- the first load of a send found its map idle, its chain may be loaded, and it is not longer than the tag allows
 pub record Held (l : LaneState) (s : Send) : Type 0 where
@@ -568,7 +570,7 @@ pub data Steps (l : LaneState) : Side → Option HubCall → HubReply → Turned
       (Some (call.Release (named l q.map) (record { 0 = q.zone }) (record { 0 = q.page }))) r
       (stepped side.Script (did.Release (named l q.map) (record { 0 = q.page })) (record {
         lane = record (restaged q.map y (after_return q.map rest) l) { returns = rest };
-        answer = answer.Served (served r);
+        answer = answer.Served (maps_completed r);
       }))
   -- the callback of a map is taken, with the pages of its load
   Calls : {x : Outcome} (m : MapId) (pages : List Pa) →

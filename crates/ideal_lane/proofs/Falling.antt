@@ -21,25 +21,26 @@ use Rattle.busdma_base.specs.declared.scenarios.script.Op.TheVariants as op
 use Rattle.busdma_machine.specs.Machine.Spans.{span_bytes}
 use Rattle.lane_agreement.specs.View as view
 use Rattle.lane_agreement.specs.View.{Return, queued_back}
-use Rattle.lane_agreement.specs.After.{addresses_of_pages as addresses}
+use Rattle.lane_agreement.specs.After.{addresses_of_pages}
 use Rattle.lane_agreement.specs.Agreement.{Agrees, IsFit}
 use Rattle.lane_agreement.proofs.Left.{addresses-length, queued-length}
 use Rattle.lane_agreement.proofs.Whole.{granted-length, called-length}
 use Rattle.busdma_base.specs.declared.scenarios.queued.QueuedItem.{QueuedItem}
-use Rattle.busdma_base.specs.Scenarios.Queues.{queued_items as queued, queued_from}
+use Rattle.busdma_base.specs.Scenarios.Queues.{queued_items, queued_from}
 use Rattle.busdma_rules.specs.Segments.Chunks.{need_of}
 use Rattle.ideal_lane.specs.State.{LaneState, LaneMap, Stage, Idle, Waiting, Loaded, Returning, WaitingLoad, named}
 use Rattle.ideal_lane.specs.Asking.{Asking, Gives, Asks, call_of, by_reply}
 use Rattle.ideal_lane.specs.Outcomes.{Outcome}
 use Rattle.ideal_lane.specs.Standing.{Stands}
 use Rattle.ideal_lane.specs.Maps.{with_map}
-use Rattle.ideal_lane.specs.Loads.{zone_of_map as zone_of, unpaged, emptied, with_spaces}
+use Rattle.ideal_lane.specs.Loads.{zone_of_map, unpaged, emptied, with_spaces}
 use Rattle.ideal_lane.specs.Unloads.{pages_of, after_return}
 use Rattle.ideal_lane.specs.Turns.{never_waits, lane_step, Turned}
 use Rattle.ideal_lane.specs.View.{view_of}
 use Rattle.ideal_lane.specs.Left.{op_weight, script_weight, stage_weight, maps_weight, left, Falls, FallsOrStays}
 use Rattle.ideal_lane.specs.Sends.{HaveClusters, Send, copied, due_send, is_too_big, send_at, send_of}
-use Rattle.ideal_lane.proofs.Effects.{Advances, AtOnce, Begins, Callback, Called, Calls, Creates, Device, Ends, Frees, Granted}
+use Rattle.ideal_lane.proofs.Effects.{Advances, AtOnce, Begins, Callback, Called, Calls, Creates, Device, Ends, Frees}
+use Rattle.ideal_lane.proofs.Effects.{Granted}
 use Rattle.ideal_lane.proofs.Effects.{Declines, Keeps, Resends, again, grab, spaces_in}
 use Rattle.ideal_lane.proofs.Effects.{IsReplyOf, IsUnwaited, IsUnwaiting, Kicks, Leaves, Loads, Makes, Maps}
 use Rattle.ideal_lane.proofs.Effects.{NothingLeft, Operation, Overflows, Places, Refuses, Releases, Same, Stays, Steps}
@@ -50,7 +51,7 @@ use Rattle.ideal_lane.proofs.Stepping.{turn-steps}
 use Rattle.ideal_lane.proofs.Endings.{fitting, too_big, bounced_in, segments_of}
 use Rattle.ideal_lane.proofs.Needs.{need-few, bytes-counted, bytes-few}
 use Rattle.ideal_lane.proofs.Sent.{due-clusters, sent, sent-bytes, sent-items, unqueued}
-use Rattle.ideal_lane.proofs.Turning.{WaitsAt, waits-at}
+use Rattle.ideal_lane.proofs.TurnLaws.{WaitsAt, waits-at}
 use Rattle.ideal_lane.proofs.Weights.{weigh-new, weigh-put, weigh-cut}
 use Rattle.busdma_machine.specs.declared.bounce.hold.HubCall.{HubCall}
 use Rattle.busdma_machine.specs.declared.name.MapId.{MapId}
@@ -118,7 +119,13 @@ module _ (l : LaneState) where
   stage-low : (more : ℕ) (k : ℕ) (o n : LaneMap) → get l.maps k ≡ Some o → weight n ≤ weight o + more →
       Low l more (record l { maps = insert l.maps k n })
   stage-low more k o n found few =
-      record { cost_low = omega (arith, few, weigh-put weight l.maps k o n found); script = refl; place = refl; due = refl }
+      record {
+        cost_low = omega (arith, few, weigh-put weight l.maps k o n found);
+        script = refl;
+        place = refl;
+        due =
+            refl;
+      }
 
   empty-weight : (ps : List ℕ) → stage_weight (emptied ps) ≡ 0
   empty-weight [] = refl
@@ -132,7 +139,7 @@ module _ (l : LaneState) where
         omega (
           arith,
           queued-from (place_in k) 0 (asked_in k).items,
-          length-append l.queue (queued (place_in k) (asked_in k).items),
+          length-append l.queue (queued_items (place_in k) (asked_in k).items),
           weigh-put weight l.maps (map_in k) (was_in k) (record (was_in k) {
             tried = true;
             stage = Loaded (bounced_in l (map_in k) (was_in k) (place_in k) (asked_in k) (chunks_in k) (pages_in k))
@@ -146,8 +153,8 @@ module _ (l : LaneState) where
       omega (
         arith,
         empty-weight pages,
-        queued-length m (zone_of o) pages,
-        length-append l.returns (queued_back m (zone_of o) pages),
+        queued-length m (zone_of_map o) pages,
+        length-append l.returns (queued_back m (zone_of_map o) pages),
         weigh-put weight l.maps m o (record o { tried = true; stage = emptied pages }) e,
       )
 
@@ -214,7 +221,7 @@ module _ (l : LaneState) where
         omega (
           arith,
           addresses-length pages,
-          granted-length (named l b.m) (zone_of b.o) (need_of (chunks b)) (asks b).nowait a pages e,
+          granted-length (named l b.m) (zone_of_map b.o) (need_of (chunks b)) (asks b).nowait a pages e,
         )
     pages-few e (Device b device first spaces taken) = omega arith
 
@@ -286,8 +293,9 @@ module _ (l : LaneState) where
       never-queued : (have : ℕ) → IsReplyOf l.id a (Some (grab b)) (reply.Queued have) → ⊥
       never-queued have e =
           let never : (asks b).nowait ≡ true = sym (ap waits_in b.is) in
-          unqueued l.id (named l b.m) (record { 0 = zone_of b.o }) (need_of (chunks b)) a have
-          (ap (λ w. (account_step l.id (call.Grab (named l b.m) (record { 0 = zone_of b.o }) (need_of (chunks b)) w) a).reply)
+          unqueued l.id (named l b.m) (record { 0 = zone_of_map b.o }) (need_of (chunks b)) a have
+          (ap (λ w. (account_step l.id (call.Grab (named l b.m) (record { 0 = zone_of_map b.o }) (need_of (chunks b)) w)
+          a).reply)
           (sym never) ∙ e)
 
     again-low : (s : Send) {c : Option HubCall} {r : HubReply} {x : Outcome} → IsReplyOf l.id a c r →
@@ -326,7 +334,7 @@ module _ (l : LaneState) where
       due = refl;
     }
     makes-low e (Kicks k steps q there) = record {
-      cost_low = omega (arith, queued-from l.place 0 steps, length-append l.queue (queued l.place steps));
+      cost_low = omega (arith, queued-from l.place 0 steps, length-append l.queue (queued_items l.place steps));
       script = refl;
       place = refl;
       due = refl;
@@ -354,7 +362,7 @@ module _ (l : LaneState) (a : Account) (stands : Stands l) (fit : IsFit a) (agre
     (clusters : HaveClusters l.script) where
   -- a callback brings a map that waits as many pages as it needs
   waited : {m : MapId} {pages : List Pa} → (account_step l.id call.TakeCallback a).reply ≡ reply.Called m pages →
-      (z need : ℕ) × (length (addresses pages) ≡ need) × WaitsAt l m.made_at z need
+      (z need : ℕ) × (length (addresses_of_pages pages) ≡ need) × WaitsAt l m.made_at z need
   waited {m} {pages} e =
       let c = called-length (view_of l) a.ready a m pages fit.well agrees refl e in
       (c.2, c.0, addresses-length pages ∙ c.4, waits-at l m.made_at c.2 c.0 c.3)
@@ -402,7 +410,7 @@ module _ (l : LaneState) (a : Account) (stands : Stands l) (fit : IsFit a) (agre
       let w = waited e in
       omega (
         arith,
-        unpaged-cost l m.made_at o (addresses pages) there,
+        unpaged-cost l m.made_at o (addresses_of_pages pages) there,
         ap stage_weight waits,
         needs w.3 there waits,
         w.2,

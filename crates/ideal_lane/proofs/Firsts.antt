@@ -1,7 +1,9 @@
 -- The candidate that a step of a ring uses is the first of those that allow the access.
-use Rattle.std.proofs.Common.{◌≡◌, ℕ, ◌≤◌, ◌<◌, ◌&&◌, Bool, true, false, cond, if◌then◌else◌, List, [], ◌∷◌, Option, Some, None}
+use Rattle.std.proofs.Common.{◌≡◌, ℕ, ◌≤◌, ◌<◌, ◌&&◌, Bool, true, false, cond, if◌then◌else◌, List, [], ◌∷◌, Option}
+use Rattle.std.proofs.Common.{Some, None}
 use Rattle.std.proofs.Common.{ap, arith, refl, slice_get, subst, T}
-use Rattle.std.proofs.lemmas.List.Elements.{All-contains, All-contains_itself, All-filter, All-from_recursion, filter_passes}
+use Rattle.std.proofs.lemmas.List.Elements.{All-contains, All-contains_itself, All-filter, All-from_recursion}
+use Rattle.std.proofs.lemmas.List.Elements.{filter_passes}
 use Rattle.std.proofs.lemmas.Option.{slice_get_within, get_or_from_slice_get}
 use Rattle.std.specs.declared.cmp.Ordering.{Ordering}
 use Rattle.std.specs.declared.cmp.Ordering.TheVariants.{Less, Equal, Greater}
@@ -15,7 +17,8 @@ use Rattle.busdma_machine.specs.declared.report.Judged.TheVariants.{Fine, Refuse
 use Rattle.busdma_rules.specs.declared.descriptor.Descriptor.{Descriptor}
 use Rattle.busdma_rules.specs.Rings.Ranges.{place_of}
 use Rattle.ideal_lane.specs.State.{LaneState, LaneMap, LaneRing}
-use Rattle.ideal_lane.specs.Rings.{Candidate, allowed, before_others, candidates, candidates_in, head_of, is_fine, is_left_out}
+use Rattle.ideal_lane.specs.Rings.{Candidate, allowed, before_others, candidates, candidates_in, head_of, is_fine}
+use Rattle.ideal_lane.specs.Rings.{is_left_out}
 use Rattle.ideal_lane.specs.Rings.{judged_at}
 use Rattle.ideal_lane.specs.Unloads.{segments_in}
 

@@ -14,7 +14,7 @@ use Rattle.busdma_machine.specs.Tags.Tag.{could_bounce}
 use Rattle.busdma_machine.specs.Tags.TagFlags.{allocnow}
 use Rattle.busdma_rules.specs.Segments.Chunks.{need_of}
 use Rattle.lane_agreement.specs.View as view
-use Rattle.lane_agreement.specs.After.{IsLike, after, addresses_of_pages as addresses}
+use Rattle.lane_agreement.specs.After.{IsLike, after, addresses_of_pages}
 use Rattle.lane_agreement.specs.After as calls
 use Rattle.lane_agreement.specs.Agreement.{Agrees}
 use Rattle.lane_agreement.proofs.Left.{agrees-like}
@@ -26,7 +26,7 @@ use Rattle.ideal_lane.specs.Standing.{Stands, IsPageless}
 use Rattle.ideal_lane.specs.View.{view_of, own_map, own_frames, in_zone, stage_of}
 use Rattle.ideal_lane.specs.Tags.{with_tag}
 use Rattle.ideal_lane.specs.Maps.{with_map, without_map}
-use Rattle.ideal_lane.specs.Loads.{Asked, zone_of_map as zone_of, staged, unpaged, emptied}
+use Rattle.ideal_lane.specs.Loads.{Asked, zone_of_map, staged, unpaged, emptied}
 use Rattle.ideal_lane.specs.Unloads.{pages_of}
 use Rattle.std.proofs.Common.{not}
 use Rattle.busdma_rules.specs.Iommu.Device.{device_chunks}
@@ -36,8 +36,8 @@ use Rattle.ideal_lane.proofs.Effects.{AtOnce, Attaches, Begins, Creates, Frees, 
 use Rattle.ideal_lane.proofs.Effects.{IsUnplaced, Loads, Makes, Maps, Operation, Overflows, Places, Refuses, Same}
 use Rattle.ideal_lane.proofs.Effects.{TooLong, Touched, Touches, Unattached, Uncreated, Ungranted, Unloads, Unmaps}
 use Rattle.ideal_lane.proofs.Effects.{Unplaced, Vain, Waits, Work, asks, chunks, end_call, grab, waits_for}
-use Rattle.ideal_lane.proofs.Views.{like-refl, like-unseen, like-staged, like-unloaded, like-gone, like-unseen_gone}
-use Rattle.ideal_lane.proofs.Views.{like-memory, like-no_memory, like-unpaged, stage-emptied, zoned}
+use Rattle.ideal_lane.proofs.ViewLaws.{like-refl, like-unseen, like-staged, like-unloaded, like-gone, like-unseen_gone}
+use Rattle.ideal_lane.proofs.ViewLaws.{like-memory, like-no_memory, like-unpaged, stage-emptied, zoned}
 use Rattle.ideal_lane.proofs.Direct.{need-direct}
 use Rattle.ideal_lane.proofs.Endings.{fitting, too_big, bounced_in, segments_of}
 use Rattle.lane_agreement.specs.View.{View}
@@ -82,7 +82,7 @@ pageless-pages Returning h = refl
 seen : (l : LaneState) (m : ℕ) (o : LaneMap) → get l.maps m ≡ Some o → own_map (get l.maps m) ≡ in_zone o.stage o.zone
 seen l m o e = ap own_map e
 
-seen-in : (l : LaneState) (m z : ℕ) (o : LaneMap) (s : view.Stage) → get l.maps m ≡ Some o →
+seen-in : (l : LaneState) (m z : ℕ) (o : LaneMap) (s : view.SeenStage) → get l.maps m ≡ Some o →
     o.zone ≡ Some z → stage_of o.stage ≡ s →
     own_map (get l.maps m) ≡ Some (record { zone = z; stage = s })
 seen-in l m z o s e zone st =
@@ -95,7 +95,7 @@ seen-out l m o e zone = seen l m o e ∙ ap (in_zone o.stage) zone
 -- ---- replies that bring nothing
 
 uncreated : (v : View) (k : ℕ) (r : HubReply) → IsUnmade r → calls.after_create v k r ≡ v
-uncreated v k (reply.Grown g) u = ap (λ b. if b then view.staged v k g.zone.0 view.Idle else v) u
+uncreated v k (reply.Grown g) u = ap (λ b. if b then view.view_staged v k g.zone.0 view.Idle else v) u
 uncreated v k _ u = refl
 
 unplaced : (v : View) (k : ℕ) (r : HubReply) → IsUnplaced r → calls.after_mem_alloc v k r ≡ v
@@ -115,9 +115,14 @@ vain l v e = subst (λ y. IsLike y (view_of l)) (sym e) (like-refl (view_of l))
 module _ (l : LaneState) (m : ℕ) (o : LaneMap) (at : ℕ) (x : Asked) (chunks : List Chunk) (pages : List ℕ) where
   -- if the map has a zone
   pub ended-like : (z : ℕ) → o.zone ≡ Some z → (b : Bool) →
-      IsLike (view.ended b (view_of l) m z pages) (view_of (if b then fitting l m o at x chunks pages else too_big l m o at x chunks pages).lane)
+      IsLike (view.view_ended b (view_of l) m z pages)
+      (view_of (if b then fitting l m o at x chunks pages else too_big l m o at x chunks pages).lane)
   ended-like z zone true =
-      like-staged l m (record o { tried = true; stage = Loaded (bounced_in l m o at x chunks pages) (segments_of l m o at x chunks pages) pages }) z (view.Loaded pages)
+      like-staged l m (record o {
+        tried = true;
+        stage = Loaded (bounced_in l m o at x chunks pages)
+            (segments_of l m o at x chunks pages) pages;
+      }) z (view.Loaded pages)
       (ap (in_zone (Loaded (bounced_in l m o at x chunks pages) (segments_of l m o at x chunks pages) pages)) zone)
   ended-like z zone false =
       subst (λ y. IsLike (view.unloaded (view_of l) m z pages)
@@ -170,18 +175,18 @@ module _ (l : LaneState) (s : Stands l) where
     seen-idle z zone = seen-in l b.m z b.o view.Idle b.there zone (ap stage_of (idle-is b.o.stage b.idle))
 
     module _ (plain : is_device l b.o ≡ false) (some : (need_of (chunks b) == 0) ≡ false) where
-      zone-at : (zone : Option ℕ) → b.o.zone ≡ zone → b.o.zone ≡ Some (zone_of b.o)
+      zone-at : (zone : Option ℕ) → b.o.zone ≡ zone → b.o.zone ≡ Some (zone_of_map b.o)
       zone-at (Some z) e = e ∙ ap (λ w. Some w) (sym (ap (λ w. unwrap_or w 0) e))
       zone-at None e =
           let none : need_of (chunks b) ≡ 0 = need-direct l b.m b.o (asks b).entries (s.each b.m b.o b.there) plain e in
           let more : 1 ≤ need_of (chunks b) = some-need (need_of (chunks b)) some in
           absurd (omega (arith, none, more))
 
-      zone-is : b.o.zone ≡ Some (zone_of b.o)
+      zone-is : b.o.zone ≡ Some (zone_of_map b.o)
       zone-is = zone-at b.o.zone refl
 
       asks-grab : calls.MayAsk (view_of l) (grab b)
-      asks-grab = (refl, some-need (need_of (chunks b)) some, seen-idle (zone_of b.o) zone-is)
+      asks-grab = (refl, some-need (need_of (chunks b)) some, seen-idle (zone_of_map b.o) zone-is)
 
     -- a load without pages
     loads-pageless : (cs : List Chunk) (a : Account) → Agrees (view_of l) a → (zone : Option ℕ) → b.o.zone ≡ zone →
@@ -192,14 +197,14 @@ module _ (l : LaneState) (s : Stands l) where
         alike l (staged b.m b.o t l) (like-unseen l b.m (record b.o { tried = true; stage = t }) (ap (in_zone t) zone
         ∙ sym (seen-out l b.m b.o b.there zone))) a g
     loads-pageless cs a g (Some z) zone =
-        agrees-like (view.staged (view_of l) b.m z (view.Loaded []))
+        agrees-like (view.view_staged (view_of l) b.m z (view.Loaded []))
         (view_of (fitting l b.m b.o l.place (asks b) cs []).lane) a
         (ended-like l b.m b.o l.place (asks b) cs [] z zone true)
         (agrees-loaded (view_of l) b.m z a g (seen-idle z zone))
 
     overflows-pageless : (a : Account) → Agrees (view_of l) a → Agrees (view_of (unpaged b.m b.o [] l)) a
     overflows-pageless =
-        alike l (unpaged b.m b.o [] l) (like-unpaged l b.m (zone_of b.o) (record b.o { tried = true; stage = Idle })
+        alike l (unpaged b.m b.o [] l) (like-unpaged l b.m (zone_of_map b.o) (record b.o { tried = true; stage = Idle })
         (sym (seen l b.m b.o b.there ∙ ap (λ t. in_zone t b.o.zone) (idle-is b.o.stage b.idle))))
 
   unloads-keep : (m : ℕ) (o : LaneMap) → get l.maps m ≡ Some o → is_loaded o.stage ≡ true → (a : Account) →
@@ -212,7 +217,7 @@ module _ (l : LaneState) (s : Stands l) where
       by o e i a g None zone =
           let none : pages_of o.stage ≡ [] = pageless-pages o.stage ((s.each m o e).pageless zone) in
           subst (λ ps. Agrees (view_of (unpaged m o ps l)) a) (sym none)
-          (alike l (unpaged m o [] l) (like-unpaged l m (zone_of o) (record o { tried = true; stage = Idle })
+          (alike l (unpaged m o [] l) (like-unpaged l m (zone_of_map o) (record o { tried = true; stage = Idle })
           (ap (in_zone Idle) zone ∙ sym (seen-out l m o e zone))) a g)
       by o e i a g (Some z) zone =
           let pages : List ℕ = pages_of o.stage in
@@ -244,7 +249,7 @@ module _ (l : LaneState) (s : Stands l) where
     record {
       fits = true;
       like =
-          subst (λ y. IsLike (if y then view.staged (view_of l) l.place n.zone.0 view.Idle else view_of l)
+          subst (λ y. IsLike (if y then view.view_staged (view_of l) l.place n.zone.0 view.Idle else view_of l)
           (view_of (with_tag t g.limits true (with_map t (Some n.zone.0) l)))) (sym e)
           (like-staged l l.place (record { tag = t; zone = Some n.zone.0; tried = false; stage = Idle }) n.zone.0
           view.Idle refl);
@@ -273,7 +278,7 @@ module _ (l : LaneState) (s : Stands l) where
       fits = true;
       like =
           subst (λ y. IsLike y (view_of (staged b.m b.o Idle l)))
-          (sym (ungranted (view_of l) b.m (zone_of b.o) (need_of (chunks b)) r u)) (back b);
+          (sym (ungranted (view_of l) b.m (zone_of_map b.o) (need_of (chunks b)) r u)) (back b);
     },
   )
   keeps (Waits b plain some have) = (
@@ -281,7 +286,7 @@ module _ (l : LaneState) (s : Stands l) where
     record {
       fits = true;
       like =
-          like-staged l b.m (record b.o { tried = true; stage = Waiting (waits_for b) }) (zone_of b.o)
+          like-staged l b.m (record b.o { tried = true; stage = Waiting (waits_for b) }) (zone_of_map b.o)
           (view.Waiting (need_of (chunks b)))
           (ap (in_zone (Waiting (waits_for b))) (zone-is b plain some));
     },
@@ -293,7 +298,8 @@ module _ (l : LaneState) (s : Stands l) where
     asks-grab b plain some,
     record {
       fits = true;
-      like = ended-like l b.m b.o l.place (asks b) (chunks b) (addresses pages) (zone_of b.o) (zone-is b plain some) true;
+      like = ended-like l b.m b.o l.place (asks b) (chunks b) (addresses_of_pages pages) (zone_of_map b.o)
+          (zone-is b plain some) true;
     },
   )
   keeps (Overflows (AtOnce b plain none) f) = overflows-pageless b
@@ -302,7 +308,8 @@ module _ (l : LaneState) (s : Stands l) where
     asks-grab b plain some,
     record {
       fits = false;
-      like = ended-like l b.m b.o l.place (asks b) (chunks b) (addresses pages) (zone_of b.o) (zone-is b plain some) false;
+      like = ended-like l b.m b.o l.place (asks b) (chunks b) (addresses_of_pages pages) (zone_of_map b.o)
+          (zone-is b plain some) false;
     },
   )
   keeps (Unloads m o there i) = unloads-keep m o there i

@@ -1,5 +1,6 @@
 -- What is found in maps after a change, and in lists.
-use Rattle.std.proofs.Common.{◌≡◌, ℕ, ◌==◌, Bool, true, false, cond, Some, None, refl, ap, sym, ◌∙◌, List, [], ◌∷◌, zero, suc, slice_get}
+use Rattle.std.proofs.Common.{◌≡◌, ℕ, ◌==◌, Bool, true, false, cond, Some, None, refl, ap, sym, ◌∙◌, List, [], ◌∷◌}
+use Rattle.std.proofs.Common.{zero, suc, slice_get}
 use Rattle.std.proofs.Common.{subst}
 use Rattle.std.specs.List.{AllByRecursion}
 use Rattle.std.proofs.lemmas.Map.Views.{exact_unsigned_eq}

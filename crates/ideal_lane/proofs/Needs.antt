@@ -17,7 +17,7 @@ use Rattle.busdma_machine.specs.Machine.Spans.{bio_spans, span_bytes}
 use Rattle.busdma_machine.specs.Runs.{addresses, byte_count, run_of}
 use Rattle.busdma_base.specs.Scenarios.Buffers.{buffer_bytes, counted_bytes}
 use Rattle.busdma_rules.specs.Memory.Bios.{is_rounded}
-use Rattle.busdma_rules.specs.Memory.Extents.{extents_of, with_byte, reached_addresses as reached, then_reached}
+use Rattle.busdma_rules.specs.Memory.Extents.{extents_of, with_byte, reached_addresses, then_reached}
 use Rattle.busdma_rules.specs.Memory.Translation.{Translation}
 use Rattle.busdma_rules.specs.Memory.Vectors.{entries_of, with_entry}
 use Rattle.busdma_rules.specs.Segments.Chunks.{chunk_limit, chunks_within, chunks_of_bytes, chunks_from, chunks_of}
@@ -91,35 +91,37 @@ entry-length rounded [] es = omega arith
 entry-length rounded (pa ∷ pas) es =
     omega (arith, length-append (addresses (extents_of (pa ∷ pas))) (entries_addresses es), extents-length (pa ∷ pas))
 
-reached-length : (t : Translation) (va n : ℕ) → length (reached t va n) ≤ n
+reached-length : (t : Translation) (va n : ℕ) → length (reached_addresses t va n) ≤ n
 reached-length t va zero = omega arith
 reached-length t va (suc n) = by (t va) (reached-length t (va + 1) n)
   where
-    by : (x : Option ℕ) → length (reached t (va + 1) n) ≤ n → length (then_reached x (reached t (va + 1) n)) ≤ suc n
+    by : (x : Option ℕ) → length (reached_addresses t (va + 1) n) ≤ n →
+        length (then_reached x (reached_addresses t (va + 1) n)) ≤ suc n
     by None h = omega arith
     by (Some pa) h = omega (arith, h)
 
 entries-length : (rounded : Bool) (t : Translation) (spans : List Span) →
     length (entries_addresses (entries_of rounded t spans)) ≤ span_bytes spans
 entries-length rounded t [] = omega arith
-entries-length rounded t (s ∷ ss) = by (length (reached t s.va.0 s.len) == s.len) (entries-length rounded t ss)
+entries-length rounded t (s ∷ ss) = by (length (reached_addresses t s.va.0 s.len) == s.len)
+    (entries-length rounded t ss)
   where
     by : (b : Bool) → length (entries_addresses (entries_of rounded t ss)) ≤ span_bytes ss →
         length
-        (entries_addresses (with_entry rounded (reached t s.va.0 s.len) (if b then entries_of rounded t ss
+        (entries_addresses (with_entry rounded (reached_addresses t s.va.0 s.len) (if b then entries_of rounded t ss
         else []))) ≤ span_bytes (s ∷ ss)
     by true h =
         omega (
           arith,
           h,
-          entry-length rounded (reached t s.va.0 s.len) (entries_of rounded t ss),
+          entry-length rounded (reached_addresses t s.va.0 s.len) (entries_of rounded t ss),
           reached-length t s.va.0 s.len,
           sum_by-cons (λ (x : Span). x.len) s ss,
         )
     by false h =
         omega (
           arith,
-          entry-length rounded (reached t s.va.0 s.len) [],
+          entry-length rounded (reached_addresses t s.va.0 s.len) [],
           reached-length t s.va.0 s.len,
           sum_by-cons (λ (x : Span). x.len) s ss,
         )

@@ -14,7 +14,8 @@ use Rattle.ideal_lane.specs.Outcomes.{Outcome}
 use Rattle.ideal_lane.specs.Sends.{Send, copied}
 use Rattle.ideal_lane.specs.Syncs.{copies, counted, greatest_share}
 use Rattle.ideal_lane.specs.Turns.{Turn, Turned, Stepped, Blocked, Ended, lane_step}
-use Rattle.ideal_lane.proofs.Effects.{Work, Touches, Syncs, Makes, Touched, IsStay, NothingLeft, Steps, Stays, Advances, Leaves}
+use Rattle.ideal_lane.proofs.Effects.{Work, Touches, Syncs, Makes, Touched, IsStay, NothingLeft, Steps, Stays, Advances}
+use Rattle.ideal_lane.proofs.Effects.{Leaves}
 use Rattle.ideal_lane.proofs.Effects.{Releases, Calls, Declines, Keeps, Resends}
 use Rattle.ideal_lane.proofs.Stepping.{turn-steps}
 

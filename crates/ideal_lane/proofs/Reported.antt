@@ -13,7 +13,7 @@ use Rattle.busdma_base.specs.declared.journals.journal.Side.TheVariants as side
 use Rattle.busdma_base.specs.Journals.Reports.{is_report}
 use Rattle.busdma_base.specs.Scenarios.Operations.{items_of}
 use Rattle.busdma_base.specs.declared.scenarios.queued.QueuedItem.{QueuedItem}
-use Rattle.busdma_base.specs.Scenarios.Queues.{queued_items as queued}
+use Rattle.busdma_base.specs.Scenarios.Queues.{queued_items}
 use Rattle.busdma_rules.specs.Lending.Loans.{load_bytes}
 use Rattle.busdma_rules.specs.declared.descriptor.Descriptor.{Descriptor}
 use Rattle.ideal_lane.specs.Asking.{by_reply, call_of}
@@ -27,9 +27,11 @@ use Rattle.ideal_lane.specs.State.{LaneState, LaneMap, Stage, Idle, Waiting, Loa
 use Rattle.ideal_lane.specs.Turns.{Turn, Turned, at_next, lane_step}
 use Rattle.ideal_lane.specs.Unloads.{after_return, restaged}
 use Rattle.ideal_lane.proofs.Effects.{Work, Operation, Transfer, Callback, Touches, Same, Makes, Touched, Vain, Loads}
-use Rattle.ideal_lane.proofs.Effects.{Ends, AtOnce, Granted, Called, Device, IsQuiet, IsUndone, IsUntold, IsStay, NothingNow}
+use Rattle.ideal_lane.proofs.Effects.{Ends, AtOnce, Granted, Called, Device, IsQuiet, IsUndone, IsUntold, IsStay}
+use Rattle.ideal_lane.proofs.Effects.{NothingNow}
 use Rattle.ideal_lane.proofs.Effects.{IsSync, Range, RangeItem, Syncs, Whole, WholeItem}
-use Rattle.ideal_lane.proofs.Effects.{Fetches, IsUnwaited, IsUnwaiting, IsVain, Kicks, Unattached, Uncreated, Unplaced, Unwaited}
+use Rattle.ideal_lane.proofs.Effects.{Fetches, IsUnwaited, IsUnwaiting, IsVain, Kicks, Unattached, Uncreated, Unplaced}
+use Rattle.ideal_lane.proofs.Effects.{Unwaited}
 use Rattle.ideal_lane.proofs.Effects.{NothingLeft, NoneCalled, Steps, Stays, Advances, Leaves, Releases, Calls}
 use Rattle.ideal_lane.proofs.Stepping.{turn-steps}
 use Rattle.ideal_lane.proofs.Effects.{Declines, Keeps, Resends, place_in, asked_in}
@@ -43,7 +45,8 @@ module _ (l : LaneState) where
   told-report d c e = by (d.kind == 1) e
     where
       by : (b : Bool) →
-          is_report (if b then answer.Bytes (values l (load_bytes l.loans c.map c.off d.len)) else answer.Done) ≡ true → ⊥
+          is_report (if b then answer.Bytes (values l (load_bytes l.loans c.map c.off d.len)) else answer.Done)
+          ≡ true → ⊥
       by true e = cc
       by false e = cc
 
@@ -103,7 +106,7 @@ module _ (l : LaneState) where
 
   -- the items of what is done
   abbrev items_by : Work → List QueuedItem
-  items_by (Operation o) = queued l.place (items_of o)
+  items_by (Operation o) = queued_items l.place (items_of o)
   items_by (Transfer i) = []
   items_by (Callback m) = items_in (get l.maps m.made_at)
 
@@ -145,7 +148,7 @@ module _ (l : LaneState) where
   vain-items (Unwaited m pages u) = no-await (get l.maps m.made_at) u
 
   same-items : {d : Work} {c : Option HubCall} {r : HubReply} (k : Ends l d c r) →
-      queued (place_in k) (asked_in k).items ≡ items_by d
+      queued_items (place_in k) (asked_in k).items ≡ items_by d
   same-items (AtOnce b plain none) = sym (ap items_by b.is)
   same-items (Granted b plain some pages) = sym (ap items_by b.is)
   same-items (Device b device first spaces taken) = sym (ap items_by b.is)
@@ -194,10 +197,11 @@ module _ (l : LaneState) where
   restaged-queue m (Some o) s = refl
 
   -- the items of a resend are those of the send
-  due-items : (s : Send) → due_send l ≡ Some s → queued l.place s.items ≡ items_at l.place (slice_get l.script l.place)
+  due-items : (s : Send) → due_send l ≡ Some s → queued_items l.place s.items
+      ≡ items_at l.place (slice_get l.script l.place)
   due-items s e =
       let d = due-at l s e in
-      ap (queued l.place) (sent-items d.o s d.is) ∙ ap (items_at l.place) (sym d.at)
+      ap (queued_items l.place) (sent-items d.o s d.is) ∙ ap (items_at l.place) (sym d.at)
 
   steps-join : {s : Side} {c : Option HubCall} {r : HubReply} {t : Turned} → Steps l s c r t → Joins s t
   steps-join {s = s} (Stays t k) = stay-joins s k

@@ -1,5 +1,6 @@
 -- Each send is loaded at most once by its operation, and at most once again by its resend.
-use Rattle.std.proofs.Common.{◌≡◌, ℕ, ◌+◌, ◌≤◌, ◌==◌, Bool, true, false, if◌then◌else◌, List, [], ◌∷◌, Option, Some, None}
+use Rattle.std.proofs.Common.{◌≡◌, ℕ, ◌+◌, ◌≤◌, ◌==◌, Bool, true, false, if◌then◌else◌, List, [], ◌∷◌, Option, Some}
+use Rattle.std.proofs.Common.{None}
 use Rattle.std.proofs.Common.{ap, sym, ◌∙◌, subst, arith, nat_le}
 use Rattle.std.proofs.lemmas.Bool.Decides.{nat_tests}
 use Rattle.std.proofs.lemmas.List.Sums.{sum_by-cons}
@@ -10,14 +11,15 @@ use Rattle.busdma_base.specs.declared.journals.journal.Did.{Did}
 use Rattle.busdma_base.specs.declared.journals.journal.Side.{Side}
 use Rattle.busdma_base.specs.declared.scenarios.scenario.Driver.{Driver}
 use Rattle.ideal_lane.specs.Asking.{by_reply}
-use Rattle.ideal_lane.specs.Callbacks.{IsRun, Made}
+use Rattle.ideal_lane.specs.Callbacks.{IsRun, MadeStep as Made}
 use Rattle.ideal_lane.specs.Opening.{opening_lane}
-use Rattle.ideal_lane.specs.Resends.{done_by, is_operation, is_resend, times_done}
+use Rattle.ideal_lane.specs.Resends.{turn_does, is_operation, is_resend, times_done_in_run}
 use Rattle.ideal_lane.specs.Sends.{Send, due_send, send_at, send_of}
 use Rattle.ideal_lane.specs.State.{LaneState}
 use Rattle.ideal_lane.specs.Turns.{Turned, lane_step}
-use Rattle.ideal_lane.proofs.Dues.{Spares, big-spares, called-spares, touches-spare}
-use Rattle.ideal_lane.proofs.Effects.{Advances, Calls, Declines, Keeps, Leaves, NothingLeft, Releases, Resends, Stays, Steps}
+use Rattle.ideal_lane.proofs.DueLaws.{Spares, big-spares, called-spares, touches-spare}
+use Rattle.ideal_lane.proofs.Effects.{Advances, Calls, Declines, Keeps, Leaves, NothingLeft, Releases, Resends, Stays}
+use Rattle.ideal_lane.proofs.Effects.{Steps}
 use Rattle.ideal_lane.proofs.Stepping.{turn-steps}
 
 abbrev one : Bool → ℕ
@@ -41,10 +43,10 @@ module _ (p : ℕ) where
 
   module _ (l : LaneState) where
     abbrev OperationSettles : Turned → Type 0
-    OperationSettles t = operation_left t.lane + done_by (is_operation p) t.turn ≤ operation_left l
+    OperationSettles t = operation_left t.lane + turn_does (is_operation p) t.turn ≤ operation_left l
 
     abbrev ResendSettles : Turned → Type 0
-    ResendSettles t = resend_left t.lane + done_by (is_resend p) t.turn ≤ resend_left l
+    ResendSettles t = resend_left t.lane + turn_does (is_resend p) t.turn ≤ resend_left l
 
     is-due : (q : Option Send) → due_send l ≡ q → operation_left l ≡ to_do q l.place
     is-due q e = ap (λ y. to_do y l.place) e
@@ -90,17 +92,17 @@ module _ (p : ℕ) where
 -- beginning
 module _ (chosen : Did → Bool) (left : LaneState → ℕ)
     (settles : (l : LaneState) (s : Side) (r : HubReply) →
-    left (by_reply (lane_step l s) r).lane + done_by chosen (by_reply (lane_step l s) r).turn ≤ left l) where
-  run-settles : (l : LaneState) (ms : List Made) → IsRun l ms → times_done chosen ms ≤ left l
+    left (by_reply (lane_step l s) r).lane + turn_does chosen (by_reply (lane_step l s) r).turn ≤ left l) where
+  run-settles : (l : LaneState) (ms : List Made) → IsRun l ms → times_done_in_run chosen ms ≤ left l
   run-settles l [] h = omega arith
   run-settles l (m ∷ ms) h =
-      let step : left m.turned.lane + done_by chosen m.turned.turn ≤ left l =
-      subst (λ (t : Turned). left t.lane + done_by chosen t.turn ≤ left l) (sym h.0) (settles l m.side m.reply) in
+      let step : left m.turned.lane + turn_does chosen m.turned.turn ≤ left l =
+      subst (λ (t : Turned). left t.lane + turn_does chosen t.turn ≤ left l) (sym h.0) (settles l m.side m.reply) in
       omega (
         arith,
         step,
         run-settles m.turned.lane ms h.1,
-        sum_by-cons (λ (q : Made). done_by chosen q.turned.turn) m ms,
+        sum_by-cons (λ (q : Made). turn_does chosen q.turned.turn) m ms,
       )
 
 at-most : (b : Bool) → one b ≤ 1
@@ -108,7 +110,7 @@ at-most true = omega arith
 at-most false = omega arith
 
 pub operation-once : (p id maxmem : ℕ) (driver : Driver) (ms : List Made) → IsRun (opening_lane id maxmem driver) ms →
-    times_done (is_operation p) ms ≤ 1
+    times_done_in_run (is_operation p) ms ≤ 1
 operation-once p id maxmem driver ms h =
     omega (
       arith,
@@ -118,7 +120,7 @@ operation-once p id maxmem driver ms h =
     )
 
 pub resend-once : (p id maxmem : ℕ) (driver : Driver) (ms : List Made) → IsRun (opening_lane id maxmem driver) ms →
-    times_done (is_resend p) ms ≤ 1
+    times_done_in_run (is_resend p) ms ≤ 1
 resend-once p id maxmem driver ms h =
     omega (
       arith,

@@ -11,7 +11,7 @@ use Rattle.busdma_base.specs.declared.journals.journal.Side.TheVariants as side
 use Rattle.busdma_base.specs.declared.scenarios.script.Op.{Op}
 use Rattle.lane_agreement.specs.View.{Return}
 use Rattle.ideal_lane.specs.Asking.{Asking, Gives, Asks, by_reply, goes_on}
-use Rattle.ideal_lane.specs.Callbacks.{IsRun, Made}
+use Rattle.ideal_lane.specs.Callbacks.{IsRun, MadeStep}
 use Rattle.ideal_lane.specs.Scripts.{AreBelow, LooksSame, NoneEnded, is_ended, is_step_below, looks_same, made_under}
 use Rattle.ideal_lane.specs.Scripts.{turned_under, with_script}
 use Rattle.ideal_lane.specs.Sends as sends
@@ -21,7 +21,7 @@ use Rattle.ideal_lane.specs.Turns as turns
 use Rattle.ideal_lane.proofs.Effects.{Steps, Stays, Advances, Keeps, Declines, Resends, Releases, IsStay}
 use Rattle.ideal_lane.proofs.Effects.{NothingLeft}
 use Rattle.ideal_lane.proofs.Own.{turn-own}
-use Rattle.ideal_lane.proofs.Scripted.{turn-same, waits-same}
+use Rattle.ideal_lane.proofs.ScriptLaws.{turn-same, waits-same}
 use Rattle.ideal_lane.proofs.Stepping.{turn-steps}
 
 -- ---- what a longer list has at a place
@@ -122,7 +122,7 @@ module _ (base more : List Op) where
   whole = base ++ more
 
   -- a driver whose script is the shorter one
-  pub runs-longer : (l : LaneState) (ms : List Made) → l.script ≡ base → IsRun l ms → NoneEnded ms →
+  pub runs-longer : (l : LaneState) (ms : List MadeStep) → l.script ≡ base → IsRun l ms → NoneEnded ms →
       IsRun (with_script whole l) (map (made_under whole) ms)
   runs-longer l [] is run going = tt
   runs-longer l (m ∷ ms) is run going =
@@ -140,7 +140,7 @@ module _ (base more : List Op) where
       (turned, runs-longer m.turned.lane ms same run.1 going.1)
 
   -- a driver whose script is the longer one
-  pub runs-shorter : (l : LaneState) (ms : List Made) → l.script ≡ whole → IsRun l ms → AreBelow (length base) ms →
+  pub runs-shorter : (l : LaneState) (ms : List MadeStep) → l.script ≡ whole → IsRun l ms → AreBelow (length base) ms →
       IsRun (with_script base l) (map (made_under base) ms)
   runs-shorter l [] is run below = tt
   runs-shorter l (m ∷ ms) is run below =

@@ -14,7 +14,7 @@ use Rattle.busdma_machine.specs.declared.bounce.hold.HubReply.TheVariants as rep
 use Rattle.busdma_machine.specs.declared.name.MapId.{MapId}
 use Rattle.busdma_machine.specs.declared.name.ZoneId.{ZoneId}
 use Rattle.busdma_machine.specs.Bounce.Account.{Account, free, zone_at}
-use Rattle.busdma_machine.specs.Bounce.AccountStep.{account_step, as_pages, AccountReply as Outcome}
+use Rattle.busdma_machine.specs.Bounce.AccountStep.{account_step, as_pages, AccountReply}
 use Rattle.busdma_machine.specs.Bounce.Serving.{handed}
 use Rattle.ideal_lane.specs.Sends.{HaveClusters, Send, due_send, send_of}
 use Rattle.ideal_lane.specs.State.{LaneState}
@@ -28,7 +28,11 @@ pub record IsSend (o : Op) (s : Send) : Type 0 where
 pub sent : (o : Op) (s : Send) → send_of o ≡ Some s → IsSend o s
 sent (op.Load m (buffer.Send chain (Some clusters)) flags items) s e =
     let same : record { map = m; chain = chain; clusters = clusters; items = items } ≡ s = cc in
-    record { flags = flags; is = ap (λ (z : Send). op.Load z.map (buffer.Send z.chain (Some z.clusters)) flags z.items) same }
+    record {
+      flags = flags;
+      is = ap (λ (z : Send). op.Load z.map (buffer.Send z.chain (Some z.clusters)) flags z.items)
+          same;
+    }
 sent _ s e = absurd (cc)
 
 pub sent-items : (o : Op) (s : Send) → send_of o ≡ Some s → s.items ≡ items_of o
@@ -66,7 +70,12 @@ pub unqueued : (lane : ℕ) (m : MapId) (z : ZoneId) (need : ℕ) (a : Account) 
 unqueued lane m z need a have h = by (nat_le need (free a z.0)) h
   where
     by : (b : Bool) →
-        Outcome.reply (if b then record { account = handed a m z.0 need; reply = reply.Granted (as_pages (take need (zone_at a z.0).avail)) }
+        AccountReply.reply (if b
+        then record {
+          account = handed a m z.0 need;
+          reply =
+              reply.Granted (as_pages (take need (zone_at a z.0).avail));
+        }
         else record { account = a; reply = reply.NoPages }) ≡ reply.Queued have → ⊥
     by true h = cc
     by false h = cc

@@ -14,7 +14,8 @@ use Rattle.busdma_machine.specs.declared.report.Errno.TheVariants.{EBUSY, EFBIG,
 use Rattle.busdma_machine.specs.declared.report.Judged.{Judged}
 use Rattle.busdma_machine.specs.declared.report.Judged.TheVariants.{Fine, Refused}
 use Rattle.busdma_machine.specs.declared.report.Report.{Report}
-use Rattle.busdma_machine.specs.declared.report.ReportName.TheVariants.{DeviceReadUnlent, DeviceWriteUnlent, MapBusy, MixedSync}
+use Rattle.busdma_machine.specs.declared.report.ReportName.TheVariants.{DeviceReadUnlent, DeviceWriteUnlent, MapBusy}
+use Rattle.busdma_machine.specs.declared.report.ReportName.TheVariants.{MixedSync}
 use Rattle.busdma_machine.specs.declared.machine.address.Pa.{Pa}
 use Rattle.busdma_machine.specs.declared.machine.address.Segment.{Segment}
 use Rattle.busdma_machine.specs.declared.machine.chunk.Chunk.{Chunk}
@@ -38,14 +39,14 @@ use Rattle.busdma_base.specs.Journals.Reports.{is_report}
 use Rattle.busdma_base.specs.Scenarios.Operations.{bytes_of}
 use Rattle.busdma_machine.specs.Tags.Tag.{effective, could_bounce, space_limits}
 use Rattle.busdma_machine.specs.Tags.TagFlags.{allocnow}
-use Rattle.busdma_rules.specs.Tags.LoadFlags.{load_nowait_bit as nowait_bit}
+use Rattle.busdma_rules.specs.Tags.LoadFlags.{load_nowait_bit}
 use Rattle.busdma_rules.specs.Tags.SyncOps.{is_mixed}
-use Rattle.lane_agreement.specs.After.{addresses_of_pages as addresses}
+use Rattle.lane_agreement.specs.After.{addresses_of_pages}
 use Rattle.lane_agreement.specs.View.{Return}
 use Rattle.busdma_base.specs.declared.scenarios.queued.QueuedItem.{QueuedItem}
 use Rattle.busdma_rules.specs.Lending.Access.{cpu_read_answer, cpu_write_answer, dev_read_answer, dev_write_answer}
 use Rattle.busdma_rules.specs.Lending.Access.{dev_read_refusal, dev_write_refusal}
-use Rattle.busdma_rules.specs.Lending.Syncing.{sync_answer}
+use Rattle.busdma_rules.specs.Lending.SyncEffects.{sync_answer}
 use Rattle.busdma_rules.specs.Lending.Loans.{loan_of, load_bytes}
 use Rattle.busdma_rules.specs.Iommu.Device.{device_chunks}
 use Rattle.busdma_rules.specs.Iommu.Space.{first_free}
@@ -58,18 +59,19 @@ use Rattle.ideal_lane.specs.Asking.{Asking, Gives, Asks, call_of, by_reply, goes
 use Rattle.ideal_lane.specs.IdealMemory.{is_known}
 use Rattle.ideal_lane.specs.Loads.{asked, device_load, is_device, limits_of, finished, granted, load_chunks, load}
 use Rattle.ideal_lane.specs.Loads.{ended, load_judged, taken, with_spaces}
-use Rattle.ideal_lane.specs.Maps.{bounces, with_map, without_map, map_by_reply as created}
+use Rattle.ideal_lane.specs.Maps.{bounces, with_map, without_map, map_by_reply}
 use Rattle.ideal_lane.specs.Maps.{map, end_map, map_destroy, await}
-use Rattle.ideal_lane.specs.Memories.{memory_by_reply as placed, dmamem, dmamem_free}
+use Rattle.ideal_lane.specs.Memories.{memory_by_reply, dmamem, dmamem_free}
 use Rattle.ideal_lane.specs.Outcomes.{Outcome, gives, refused, unless_absent, unless_busy, unless_past, unless_refused}
 use Rattle.ideal_lane.specs.Outcomes.{is_idle, is_loaded, load_length}
-use Rattle.ideal_lane.specs.Places.{virtual_at, first_unreached as reached, bytes_at}
-use Rattle.ideal_lane.specs.Rings.{Candidate, allowed, at_first, blame, candidates, fetch, fits_in, head_at, head_of, is_work}
+use Rattle.ideal_lane.specs.Places.{virtual_at, first_unreached, bytes_at}
+use Rattle.ideal_lane.specs.Rings.{Candidate, allowed, at_first, blame, candidates, fetch, fits_in, head_at, head_of}
+use Rattle.ideal_lane.specs.Rings.{is_work}
 use Rattle.ideal_lane.specs.Rings.{kick, may_post, ring, ring_post, ring_step, slot_place, told}
 use Rattle.ideal_lane.specs.Sends.{Send, chain_bytes, cluster_bytes, copied, due_send, is_kept, is_too_big, load_again}
 use Rattle.ideal_lane.specs.Sends.{resend, send_of}
 use Rattle.ideal_lane.specs.Syncs.{sync_part, sync, sync_range}
-use Rattle.ideal_lane.specs.Tags.{with_tag, tag_by_reply as attached, tag_or_invalid, tag}
+use Rattle.ideal_lane.specs.Tags.{with_tag, tag_by_reply, tag_or_invalid, tag}
 use Rattle.ideal_lane.specs.Tags.{device_tag, iommu_tag, tag_destroy, has_maps}
 use Rattle.ideal_lane.specs.Turns.{Turned, Blocked, Ended, stays, operation, bio_at, load_buffer}
 use Rattle.ideal_lane.specs.Turns.{never_waits, transfer, waits, advanced, due_turn, kept, left_queue, next_operation}
@@ -81,15 +83,20 @@ use Rattle.ideal_lane.proofs.Endings.{fits, fitting, too_big}
 use Rattle.ideal_lane.proofs.Refusing.{absent, judged, either, busy, unloaded, past}
 use Rattle.ideal_lane.proofs.Unread.{same-judged}
 use Rattle.ideal_lane.proofs.Effects.{Advances, AtOnce, Attaches, Awaits, Begins, Below, Callback, Called, Calls}
-use Rattle.ideal_lane.proofs.Effects.{Creates, Device, DeviceWrites, Ends, Frees, Granted, IsNew, IsQuiet, IsSync, IsUndone}
-use Rattle.ideal_lane.proofs.Effects.{IsUnwaited, IsUnwaiting, Leaves, Loads, Makes, Maps, NoFrame, NoRun, NoneCalled, NothingLeft}
-use Rattle.ideal_lane.proofs.Effects.{NothingNow, Operation, Overflows, Places, Range, RangeItem, RawWrites, Refuses, Releases, Run, frames}
-use Rattle.ideal_lane.proofs.Effects.{Same, Spaces, Stays, Steps, Syncs, Tags, TooLong, Top, Touched, Touches, Transfer, spaces_in}
+use Rattle.ideal_lane.proofs.Effects.{Creates, Device, DeviceWrites, Ends, Frees, Granted, IsNew, IsQuiet, IsSync}
+use Rattle.ideal_lane.proofs.Effects.{IsUndone}
+use Rattle.ideal_lane.proofs.Effects.{IsUnwaited, IsUnwaiting, Leaves, Loads, Makes, Maps, NoFrame, NoRun, NoneCalled}
+use Rattle.ideal_lane.proofs.Effects.{NothingLeft}
+use Rattle.ideal_lane.proofs.Effects.{NothingNow, Operation, Overflows, Places, Range, RangeItem, RawWrites, Refuses}
+use Rattle.ideal_lane.proofs.Effects.{Releases, Run, frames}
+use Rattle.ideal_lane.proofs.Effects.{Same, Spaces, Stays, Steps, Syncs, Tags, TooLong, Top, Touched, Touches, Transfer}
+use Rattle.ideal_lane.proofs.Effects.{spaces_in}
 use Rattle.ideal_lane.proofs.Effects.{Unattached, Uncreated, Ungranted, Unloads, Unmaps, Unplaced, Untags, Unwaited}
 use Rattle.ideal_lane.proofs.Effects.{Vain, Waits, Whole, WholeItem, Work, Writes, asked_in, asks, chunks, chunks_in}
 use Rattle.ideal_lane.proofs.Effects.{end_call, grab, map_in, pages_in, place_in, was_in}
 use Rattle.ideal_lane.proofs.Effects.{Fetches, Kicks, Posts, Rings, fetched-is}
-use Rattle.ideal_lane.proofs.Effects.{BusyMap, Copies, Declines, Held, IsAgain, IsFree, Keeps, NoMap, Resends, Unloadable}
+use Rattle.ideal_lane.proofs.Effects.{BusyMap, Copies, Declines, Held, IsAgain, IsFree, Keeps, NoMap, Resends}
+use Rattle.ideal_lane.proofs.Effects.{Unloadable}
 use Rattle.ideal_lane.proofs.Effects.{Unreadable, Unwritable, again}
 
 -- ---- each operation, item and callback is one of them
@@ -125,7 +132,7 @@ module _ (l : LaneState) (name : List ℕ) (parent : Option ℕ) (limits : TagLi
   making = Operation (op.Tag name parent limits)
 
   attached-makes : (t : TagLimits) → IsNew l parent limits t → (could_bounce t l.maxmem && allocnow t.flags) ≡ true →
-      Made l making (Asks (call.AttachTag t) (attached t l))
+      Made l making (Asks (call.AttachTag t) (tag_by_reply t l))
   attached-makes t new b (reply.Grown g) = by g.made refl
     where
       by : (made : Bool) → g.made ≡ made →
@@ -140,7 +147,7 @@ module _ (l : LaneState) (name : List ℕ) (parent : Option ℕ) (limits : TagLi
   tag_or-makes None new = answers l making (answer.Refused EINVAL) tt tt
   tag_or-makes (Some t) new =
       either l (Made l making) (report l making) (could_bounce t l.maxmem && allocnow t.flags)
-      (Asks (call.AttachTag t) (attached t l)) (gives (with_tag l.place t false l) answer.Done)
+      (Asks (call.AttachTag t) (tag_by_reply t l)) (gives (with_tag l.place t false l) answer.Done)
       (attached-makes t (new t refl)) (λ b r. Tags name parent limits t (new t refl))
 
 tag-makes : (l : LaneState) (name : List ℕ) (parent : Option ℕ) (limits : TagLimits) →
@@ -169,7 +176,7 @@ module _ (l : LaneState) where
   created-makes : (name : List ℕ) (t : ℕ) (g : LaneTag) → get l.tags t ≡ Some g →
       bounces l.maxmem g ≡ true →
       Made l (Operation (op.Map name t))
-      (Asks (call.CreateMap (named l l.place) g.limits g.first_done) (created t g l))
+      (Asks (call.CreateMap (named l l.place) g.limits g.first_done) (map_by_reply t g l))
   created-makes name t g there b (reply.Grown n) = by n.made refl
     where
       by : (made : Bool) → n.made ≡ made →
@@ -208,7 +215,7 @@ module _ (l : LaneState) where
 
   placed-makes : (name : List ℕ) (t flags : ℕ) (g : LaneTag) → get l.tags t ≡ Some g →
       Made l (Operation (op.Dmamem name t flags))
-      (Asks (call.MemAlloc (named l l.place) g.limits) (placed t g.limits flags l))
+      (Asks (call.MemAlloc (named l l.place) g.limits) (memory_by_reply t g.limits flags l))
   placed-makes name t flags g there (reply.Run first count) = Places name t flags g there first count
   placed-makes name t flags g there _ = Vain (Unplaced g tt) (answer.Refused ENOMEM) tt
 
@@ -279,7 +286,8 @@ module _ (l : LaneState) (d : Work) where
   chunks-make : (b : Begins l d) → is_device l b.o ≡ false →
       Made l d (load_chunks b.m b.o (asks b) (chunks b) l)
   chunks-make b plain =
-      either l (Made l d) (report l d) (need_of (chunks b) == 0) (Gives (finished b.m b.o l.place (asks b) (chunks b) [] l))
+      either l (Made l d) (report l d) (need_of (chunks b) == 0)
+      (Gives (finished b.m b.o l.place (asks b) (chunks b) [] l))
       (Asks (grab b) (granted b.m b.o (asks b) (chunks b) l)) (λ none r. ends-makes (AtOnce b plain none))
       (granted-makes b plain)
 
@@ -339,8 +347,9 @@ module _ (l : LaneState) (d : Work) where
   pub cpu_read-touches : (place : Place) (len : ℕ) → Only l d (cpu_read place len l)
   cpu_read-touches place len =
       absent l (Only l d) (same l d) (virtual_at l place) _ (λ va e.
-      judged l (Only l d) (same l d) (reached l va len) _ (λ reaches.
-      judged l (Only l d) (same l d) (cpu_read_answer (is_known l.memory) l.loans (bytes_at l (run_of va len))) _ (λ fine.
+      judged l (Only l d) (same l d) (first_unreached l va len) _ (λ reaches.
+      judged l (Only l d) (same l d) (cpu_read_answer (is_known l.memory) l.loans (bytes_at l (run_of va len))) _
+      (λ fine.
       Same (answer.Bytes (values l (bytes_at l (run_of va len)))) tt tt)))
 
   pub dev_read-touches : (m off len : ℕ) → Only l d (dev_read m off len l)
@@ -354,7 +363,7 @@ pub cpu_write-touches : (l : LaneState) (place : Place) (bs : Bytes) →
     Only l (Operation (op.CpuWrite place bs)) (cpu_write place (bytes_of bs) l)
 cpu_write-touches l place bs =
     absent l (Only l _) (same l _) (virtual_at l place) _ (λ va at.
-    judged l (Only l _) (same l _) (reached l va (length (bytes_of bs))) _ (λ reaches.
+    judged l (Only l _) (same l _) (first_unreached l va (length (bytes_of bs))) _ (λ reaches.
     judged l (Only l _) (same l _) (cpu_write_answer l.loans (bytes_at l (run_of va (length (bytes_of bs))))) _
     (Writes place bs va at reaches)))
 
@@ -403,7 +412,7 @@ module _ (l : LaneState) where
       past l (Only l _) (same l _) m off len _
       (either l (Only l _) (same l _) (may_post r slot m o off len kind l) _ _ (λ may.
       absent l (Only l _) (same l _) (virtual_at l (slot_place r slot)) _ (λ va at.
-      judged l (Only l _) (same l _) (reached l va 16) _ (λ reaches.
+      judged l (Only l _) (same l _) (first_unreached l va 16) _ (λ reaches.
       judged l (Only l _) (same l _) (cpu_write_answer l.loans (bytes_at l (run_of va 16))) _
       (Posts k slot m off len kind fill r ring o there i may va at reaches))))
       (λ no. Same (answer.Refused EINVAL) tt tt)))))
@@ -490,7 +499,7 @@ transfer-touches l (item.RingStep k) = ring_step-touches l k
 
 pub called-makes : (l : LaneState) (m : MapId) (pages : List Pa) →
     Makes l (Callback m) (Some call.TakeCallback) (reply.Called m pages)
-    (called m.made_at (get l.maps m.made_at) (addresses pages) l)
+    (called m.made_at (get l.maps m.made_at) (addresses_of_pages pages) l)
 called-makes l m pages = by (get l.maps m.made_at) refl
   where
     none : (y : Option LaneMap) → get l.maps m.made_at ≡ y → IsUnwaited y →
@@ -499,13 +508,13 @@ called-makes l m pages = by (get l.maps m.made_at) refl
 
     in-stage : (o : LaneMap) → get l.maps m.made_at ≡ Some o → (s : Stage) → o.stage ≡ s →
         Makes l (Callback m) (Some call.TakeCallback) (reply.Called m pages)
-        (called_in m.made_at o s (addresses pages) l)
+        (called_in m.made_at o s (addresses_of_pages pages) l)
     in-stage o e (Waiting v) s = ends-makes l _ (Called m pages o v e s)
     in-stage o e _ s = none (Some o) e (subst IsUnwaiting (sym s) tt)
 
     by : (y : Option LaneMap) → get l.maps m.made_at ≡ y →
         Makes l (Callback m) (Some call.TakeCallback) (reply.Called m pages)
-        (called m.made_at y (addresses pages) l)
+        (called m.made_at y (addresses_of_pages pages) l)
     by None e = none None e tt
     by (Some o) e = in-stage o e o.stage refl
 
@@ -578,7 +587,7 @@ module _ (l : LaneState) where
         by false = taken-answers (first_free (l.spaces b.o.tag) (length (frames b)))
 
     granted-answers : (r : HubReply) → Q (granted b.m b.o (asks b) (chunks b) l r).answer
-    granted-answers (reply.Granted pages) = finished-answers l.place (chunks b) (addresses pages)
+    granted-answers (reply.Granted pages) = finished-answers l.place (chunks b) (addresses_of_pages pages)
     granted-answers (reply.Queued have) = waiting have (need_of (chunks b))
     granted-answers _ = refuses
 
@@ -617,7 +626,7 @@ module _ (l : LaneState) (s : Send) (now : IsAgain l s) where
     begins = record {
       m = s.map;
       buffer = buffer.Vector s.clusters;
-      flags = nowait_bit;
+      flags = load_nowait_bit;
       items = s.items;
       is = refl;
       bio = Vector s.clusters;
@@ -640,7 +649,8 @@ module _ (l : LaneState) (s : Send) (now : IsAgain l s) where
     load-again =
         found filled Again-by s.map _ k.o k.there k.idle
         (passed filled Again-by (load_judged filled s.map (Vector s.clusters)) _ fine
-        (resends _ (begun-makes filled (Operation (again s)) begins) (begun-answers filled begins IsTold (λ ss. refl) (λ have need. refl) refl refl (λ long. refl))))
+        (resends _ (begun-makes filled (Operation (again s)) begins)
+        (begun-answers filled begins IsTold (λ ss. refl) (λ have need. refl) refl refl (λ long. refl))))
 
   -- each refusal comes before the next
   module _ (o : LaneMap) (there : get l.maps s.map ≡ Some o) (idle : is_idle o.stage ≡ true) where

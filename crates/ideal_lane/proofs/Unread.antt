@@ -1,5 +1,6 @@
 -- What a load looks at, the call that it makes and how it ends are the same, whatever the bytes of the driver.
-use Rattle.std.proofs.Common.{◌≡◌, ℕ, ◌==◌, Bool, true, false, if◌then◌else◌, List, [], length, Option, Some, None, refl}
+use Rattle.std.proofs.Common.{◌≡◌, ℕ, ◌==◌, Bool, true, false, if◌then◌else◌, List, [], length, Option, Some, None}
+use Rattle.std.proofs.Common.{refl}
 use Rattle.std.proofs.Common.{ap, ◌∙◌, map, nat_lt}
 use Rattle.std.specs.FinMap.{contains_key, get}
 use Rattle.std.specs.List.{enumerate_from}
@@ -21,7 +22,7 @@ use Rattle.busdma_base.specs.declared.scenarios.script.Item.{Item}
 use Rattle.busdma_base.specs.Scenarios.PageRuns.{physical_in}
 use Rattle.busdma_rules.specs.Iommu.Device.{device_chunks, load_frames}
 use Rattle.busdma_rules.specs.Iommu.Space.{first_free}
-use Rattle.lane_agreement.specs.After.{addresses_of_pages as addresses}
+use Rattle.lane_agreement.specs.After.{addresses_of_pages}
 use Rattle.busdma_rules.specs.Memory.Bios.{bio_translation, is_rounded}
 use Rattle.busdma_rules.specs.Memory.Translation.{physical_or_0}
 use Rattle.busdma_rules.specs.Memory.Vectors.{entries_of}
@@ -34,16 +35,16 @@ use Rattle.ideal_lane.specs.Loads.{is_foreign_to, load_addresses, load_entries, 
 use Rattle.ideal_lane.specs.Loads.{are_few, chunks_for, device_load, ended}
 use Rattle.ideal_lane.specs.Loads.{finished, granted, is_device, limits_of, load}
 use Rattle.ideal_lane.specs.Loads.{load_chunks, load_refusal, load_translation}
-use Rattle.ideal_lane.specs.Loads.{taken, with_run, with_spaces, zone_of_map as zone_of}
+use Rattle.ideal_lane.specs.Loads.{taken, with_run, with_spaces, zone_of_map}
 use Rattle.ideal_lane.specs.Outcomes.{Outcome, is_idle, refused, unless_absent, unless_refused}
 use Rattle.ideal_lane.specs.Places.{or_in_memory, physical}
-use Rattle.ideal_lane.specs.Sends.{outcome_with, with_bytes as with_memory}
+use Rattle.ideal_lane.specs.Sends.{outcome_with, with_bytes}
 use Rattle.ideal_lane.proofs.Endings.{fits, fitting, too_big}
 
 module _ (w : IdealMemory) (l : LaneState) where
   -- the driver with other bytes
   abbrev n : LaneState
-  n = with_memory w l
+  n = with_bytes w l
 
   same-place : (va : ℕ) (q : Option ℕ) → or_in_memory n va q ≡ or_in_memory l va q
   same-place va (Some pa) = refl
@@ -117,12 +118,12 @@ module _ (w : IdealMemory) (l : LaneState) where
         by false = taken-same (first_free (l.spaces o.tag) (length (load_frames x.entries)))
 
     granted-same : (chunks : List Chunk) (r : HubReply) → granted m o x chunks n r ≡ other (granted m o x chunks l r)
-    granted-same chunks (reply.Granted pages) = finished-same l.place chunks (addresses pages)
+    granted-same chunks (reply.Granted pages) = finished-same l.place chunks (addresses_of_pages pages)
     granted-same chunks (reply.Queued have) = refl
     granted-same chunks _ = refl
 
     abbrev grab : List Chunk → HubCall
-    grab chunks = Grab (named l m) (record { 0 = zone_of o }) (need_of chunks) x.nowait
+    grab chunks = Grab (named l m) (record { 0 = zone_of_map o }) (need_of chunks) x.nowait
 
     chunks-same : (chunks : List Chunk) → load_chunks m o x chunks n ≡ goes_on other (load_chunks m o x chunks l)
     chunks-same chunks = by (need_of chunks == 0)
@@ -175,7 +176,7 @@ module _ (w : IdealMemory) (l : LaneState) where
 
 -- the load of a bio, by the driver with these bytes
 pub bytes-unread : (m : ℕ) (b : Bio) (nowait : Bool) (items : List Item) (w : IdealMemory) (l : LaneState) →
-    load m (asked m b nowait items (with_memory w l)) (with_memory w l)
+    load m (asked m b nowait items (with_bytes w l)) (with_bytes w l)
     ≡ goes_on (outcome_with w) (load m (asked m b nowait items l) l)
 bytes-unread m b nowait items w l =
-    ap (λ x. load m x (with_memory w l)) (same-asked w l m b nowait items) ∙ load-same w l m (asked m b nowait items l)
+    ap (λ x. load m x (with_bytes w l)) (same-asked w l m b nowait items) ∙ load-same w l m (asked m b nowait items l)

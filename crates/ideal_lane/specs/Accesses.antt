@@ -4,7 +4,8 @@ use Rattle.std.specs.Prelude.{Some, None, if◌then◌else◌, is_some, nat_le, 
 use Rattle.std.specs.FinMap.{entries, get}
 use Rattle.busdma_base.specs.declared.journals.answer.Answer.TheVariants.{Done, Bytes}
 use Rattle.busdma_machine.specs.declared.report.ReportName.{ReportName}
-use Rattle.busdma_machine.specs.declared.report.ReportName.TheVariants.{DeviceReadUnlent, DeviceWriteUnlent, Untranslated}
+use Rattle.busdma_machine.specs.declared.report.ReportName.TheVariants.{DeviceReadUnlent, DeviceWriteUnlent}
+use Rattle.busdma_machine.specs.declared.report.ReportName.TheVariants.{Untranslated}
 use Rattle.busdma_machine.specs.declared.machine.address.Segment.{Segment}
 use Rattle.busdma_base.specs.declared.scenarios.script.Place.{Place}
 use Rattle.busdma_machine.specs.Judging.{judged}

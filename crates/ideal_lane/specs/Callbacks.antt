@@ -56,23 +56,23 @@ calls p l (did.Release m page) a = false
 calls p l (did.Item load_at place) a = false
 
 -- how often a turn calls the callback of the load at a place of the script
-abbrev pub called_by : ℕ → LaneState → Turn → ℕ
-called_by p l (Stepped e) = if calls p l e.did e.answer then 1 else 0
-called_by p l Blocked = 0
-called_by p l Ended = 0
+abbrev pub turn_calls : ℕ → LaneState → Turn → ℕ
+turn_calls p l (Stepped e) = if calls p l e.did e.answer then 1 else 0
+turn_calls p l Blocked = 0
+turn_calls p l Ended = 0
 
 -- a turn of a run: its side, the reply to its call if it made one, and what it made
-pub record Made : Type 0 where
+pub record MadeStep : Type 0 where
   pub side : Side
   pub reply : HubReply
   pub turned : Turned
 
 -- these turns were made one after another, from this state of the driver on
-abbrev pub IsRun : LaneState → List Made → Type 0
+abbrev pub IsRun : LaneState → List MadeStep → Type 0
 IsRun l [] = Unit {0}
 IsRun l (m ∷ ms) = (m.turned ≡ by_reply (lane_step l m.side) m.reply) × IsRun m.turned.lane ms
 
 -- how often the turns of a run call the callback of the load at a place of the script
-abbrev pub times_called : ℕ → LaneState → List Made → ℕ
-times_called p l [] = 0
-times_called p l (m ∷ ms) = called_by p l m.turned.turn + times_called p m.turned.lane ms
+abbrev pub times_called_in_run : ℕ → LaneState → List MadeStep → ℕ
+times_called_in_run p l [] = 0
+times_called_in_run p l (m ∷ ms) = turn_calls p l m.turned.turn + times_called_in_run p m.turned.lane ms

@@ -166,7 +166,10 @@ zone_of_map o = unwrap_or o.zone 0
 
 -- these pages leave the map and join the return queue
 abbrev pub unpaged : ℕ → LaneMap → List ℕ → LaneState → LaneState
-unpaged m o pages l = record (staged m o (emptied pages) l) { returns = l.returns ++ queued_back m (zone_of_map o) pages }
+unpaged m o pages l = record (staged m o (emptied pages) l) {
+  returns = l.returns ++ queued_back m (zone_of_map o)
+      pages;
+}
 
 -- a load that has its pages ends with the segments of its chunks, or with EFBIG if they are more than the tag allows
 abbrev pub finished : ℕ → LaneMap → ℕ → Asked → List Chunk → List ℕ → LaneState → Outcome

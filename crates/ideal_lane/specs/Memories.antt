@@ -36,7 +36,8 @@ memory_by_reply t limits flags l _ = record { lane = l; answer = Refused ENOMEM 
 -- dmamem: a new memory of a tag, named by this place of the script
 abbrev pub dmamem : ℕ → ℕ → LaneState → Asking Outcome
 dmamem t flags l =
-    unless_absent (get l.tags t) l (λ o. Asks (MemAlloc (named l l.place) o.limits) (memory_by_reply t o.limits flags l))
+    unless_absent (get l.tags t) l
+    (λ o. Asks (MemAlloc (named l l.place) o.limits) (memory_by_reply t o.limits flags l))
 
 -- the driver without a memory, its map and its bytes
 abbrev pub without_memory : ℕ → LaneMemory → LaneState → LaneState

@@ -73,7 +73,8 @@ posted segments off len kind fill = record {
 abbrev pub may_post : LaneRing → ℕ → ℕ → LaneMap → ℕ → ℕ → ℕ → LaneState → Bool
 may_post r slot m o off len kind l =
     nat_lt slot r.slots
-    && (is_work kind len && (not (m == r.mem) && (not (is_device l o) && is_some (address_of off len (segments_in o.stage)))))
+    && (is_work kind len && (not (m == r.mem)
+    && (not (is_device l o) && is_some (address_of off len (segments_in o.stage)))))
 
 -- ring_post: the driver writes the descriptor as it writes any bytes. The write is never refused, because no load lends
 -- a byte of a coherent memory.

@@ -7,7 +7,7 @@ use Rattle.busdma_base.specs.declared.journals.journal.Side.{Side}
 use Rattle.busdma_base.specs.declared.journals.journal.Side.TheVariants as side
 use Rattle.busdma_base.specs.declared.scenarios.script.Op.{Op}
 use Rattle.lane_agreement.specs.View.{Return}
-use Rattle.ideal_lane.specs.Callbacks.{Made}
+use Rattle.ideal_lane.specs.Callbacks.{MadeStep}
 use Rattle.ideal_lane.specs.Outcomes.{Outcome}
 use Rattle.ideal_lane.specs.State.{LaneState}
 use Rattle.ideal_lane.specs.Turns.{Turn, Turned, Stepped, Blocked, Ended}
@@ -25,7 +25,7 @@ abbrev pub turned_under : List Op → Turned → Turned
 turned_under script t = record { lane = with_script script t.lane; turn = t.turn }
 
 -- a turn of a run whose driver has this script
-abbrev pub made_under : List Op → Made → Made
+abbrev pub made_under : List Op → MadeStep → MadeStep
 made_under script m = record { side = m.side; reply = m.reply; turned = turned_under script m.turned }
 
 -- if the turn of a side looks at the script, this one has the same operation at the driver's place as the driver's own,
@@ -47,7 +47,7 @@ is_ended Blocked = false
 is_ended Ended = true
 
 -- none of these turns found the script at its end
-abbrev pub NoneEnded : List Made → Type 0
+abbrev pub NoneEnded : List MadeStep → Type 0
 NoneEnded steps = AllByRecursion (λ m. is_ended m.turned.turn ≡ false) steps
 
 -- what was done is an operation or a resend at a place below n, or it is neither
@@ -65,5 +65,5 @@ is_step_below n Blocked = false
 is_step_below n Ended = false
 
 -- each of these turns is a step, and the operation or resend that it did, if any, is at a place below n
-abbrev pub AreBelow : ℕ → List Made → Type 0
+abbrev pub AreBelow : ℕ → List MadeStep → Type 0
 AreBelow n steps = AllByRecursion (λ m. is_step_below n m.turned.turn ≡ true) steps

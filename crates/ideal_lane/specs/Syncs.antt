@@ -6,7 +6,7 @@ use Rattle.busdma_base.specs.declared.journals.answer.Answer.TheVariants.{Done}
 use Rattle.busdma_machine.specs.declared.report.ReportName.TheVariants.{MixedSync}
 use Rattle.busdma_machine.specs.declared.machine.chunk.Chunk.{Chunk}
 use Rattle.busdma_rules.specs.Tags.SyncOps.{is_mixed, prewrite, postread}
-use Rattle.busdma_rules.specs.Lending.Syncing.{sync_answer, synced, lost}
+use Rattle.busdma_rules.specs.Lending.SyncEffects.{sync_answer, synced, lost}
 use Rattle.busdma_rules.specs.Segments.Trace.{chunk_len}
 use Rattle.ideal_lane.specs.IdealMemory.{forgotten}
 use Rattle.ideal_lane.specs.State.{LaneState, LaneMap, Stage, Idle, Waiting, Loaded, Returning}

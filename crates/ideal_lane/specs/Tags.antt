@@ -18,7 +18,8 @@ use Rattle.ideal_lane.specs.Outcomes.{Outcome, gives, unless_absent}
 
 -- the driver with a tag at a place
 abbrev pub with_tag : ℕ → TagLimits → Bool → LaneState → LaneState
-with_tag k t first_done l = record l { tags = insert l.tags k (record { limits = t; first_done = first_done; device = false }) }
+with_tag k t first_done l =
+    record l { tags = insert l.tags k (record { limits = t; first_done = first_done; device = false }) }
 
 -- the driver after the call to grow a new tag's zone: there is no tag if too few pages came
 abbrev pub tag_by_reply : TagLimits → LaneState → HubReply → Outcome

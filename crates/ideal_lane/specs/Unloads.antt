@@ -5,7 +5,7 @@ use Rattle.busdma_base.specs.declared.journals.answer.Answer.TheVariants.{Done}
 use Rattle.busdma_machine.specs.declared.machine.address.Segment.{Segment}
 use Rattle.busdma_rules.specs.Iommu.Space.{run_unmapped}
 use Rattle.lane_agreement.specs.View.{Return, returning}
-use Rattle.busdma_rules.specs.Lending.Syncing.{lost_by_forgetting}
+use Rattle.busdma_rules.specs.Lending.SyncEffects.{lost_by_forgetting}
 use Rattle.ideal_lane.specs.IdealMemory.{forgotten}
 use Rattle.ideal_lane.specs.State.{LaneState, LaneMap, Stage, Idle, Waiting, Loaded, Returning}
 use Rattle.ideal_lane.specs.Asking.{Asking}

@@ -8,7 +8,7 @@ use Rattle.ideal_lane.specs.State.{LaneState, LaneMap, LaneMemory, Stage, Idle, 
 use Rattle.busdma_base.specs.Scenarios.PageRuns.{is_own}
 
 -- the stage of a map as the account sees it: only its need and its pages
-abbrev pub stage_of : Stage → view.Stage
+abbrev pub stage_of : Stage → view.SeenStage
 stage_of Idle = view.Idle
 stage_of (Waiting w) = view.Waiting w.need
 stage_of (Loaded bounced segments pages) = view.Loaded pages

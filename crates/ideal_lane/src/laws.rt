@@ -26,14 +26,14 @@ ghost use Rattle.busdma_base.specs.Scenarios.Queues.{script_items};
 ghost use Rattle.ideal_lane.specs.Agreement.{AgreesWith, IsAllowed, KeepsAgreement};
 ghost use Rattle.ideal_lane.specs.Ahead.{items_ahead};
 ghost use Rattle.ideal_lane.specs.Asking.{by_reply, call_of, goes_on};
-ghost use Rattle.ideal_lane.specs.Callbacks.{IsRun, Made, times_called};
+ghost use Rattle.ideal_lane.specs.Callbacks.{IsRun, MadeStep, times_called_in_run};
 ghost use Rattle.ideal_lane.specs.Due.{DueStands, is_unfit_turn};
 ghost use Rattle.ideal_lane.specs.IdealMemory.{IdealMemory};
 ghost use Rattle.ideal_lane.specs.Left.{FallsOrStays};
 ghost use Rattle.ideal_lane.specs.Loads.{asked, load, load_entries, load_judged};
 ghost use Rattle.ideal_lane.specs.Opening.{opening_lane};
 ghost use Rattle.ideal_lane.specs.Reported.{gone_on, is_reported, joining, remaining};
-ghost use Rattle.ideal_lane.specs.Resends.{is_operation, is_resend, times_done};
+ghost use Rattle.ideal_lane.specs.Resends.{is_operation, is_resend, times_done_in_run};
 ghost use Rattle.ideal_lane.specs.Scripts.{AreBelow, LooksSame, NoneEnded, made_under, turned_under, with_script};
 ghost use Rattle.ideal_lane.specs.Sends.{HaveClusters, Send, due_send, outcome_with, with_bytes};
 ghost use Rattle.ideal_lane.specs.Standing.{KeepsStanding, Stands};
@@ -93,18 +93,18 @@ pub fn resends_find_their_map()
 /// each place of the script is called at most once: in the load's own step, in its resend, or in the later
 /// step that takes the callback.
 pub fn each_load_is_called_once()
-    ensures { (place id maxmem : ℕ) (driver : Driver) (steps : List Made) →
+    ensures { (place id maxmem : ℕ) (driver : Driver) (steps : List MadeStep) →
         IsRun (opening_lane id maxmem driver) steps →
-        times_called place (opening_lane id maxmem driver) steps ≤ 1 }
+        times_called_in_run place (opening_lane id maxmem driver) steps ≤ 1 }
 {}
 
 /// In each run of a driver from its opening, whatever the replies to its calls, the operation at each place of the
 /// script is done at most once, and so is the resend of a send there: no send is loaded a third time.
 pub fn no_send_has_a_third_load()
-    ensures first { (place id maxmem : ℕ) (driver : Driver) (steps : List Made) →
-        IsRun (opening_lane id maxmem driver) steps → times_done (is_operation place) steps ≤ 1 }
-    ensures again { (place id maxmem : ℕ) (driver : Driver) (steps : List Made) →
-        IsRun (opening_lane id maxmem driver) steps → times_done (is_resend place) steps ≤ 1 }
+    ensures first { (place id maxmem : ℕ) (driver : Driver) (steps : List MadeStep) →
+        IsRun (opening_lane id maxmem driver) steps → times_done_in_run (is_operation place) steps ≤ 1 }
+    ensures again { (place id maxmem : ℕ) (driver : Driver) (steps : List MadeStep) →
+        IsRun (opening_lane id maxmem driver) steps → times_done_in_run (is_resend place) steps ≤ 1 }
 {}
 
 /// A load looks at no byte of the driver's memory. If the driver has other bytes, the judgement, the entries
@@ -135,9 +135,9 @@ pub fn steps_look_at_one_operation()
 /// operations after its own, whatever they are. Conversely, a run of the driver with more operations is a run
 /// of the driver without them, if each turn is a step and none does an added operation.
 pub fn runs_go_on_behind_more()
-    ensures longer { (l : LaneState) (more : List Op) (steps : List Made) → IsRun l steps → NoneEnded steps →
+    ensures longer { (l : LaneState) (more : List Op) (steps : List MadeStep) → IsRun l steps → NoneEnded steps →
         IsRun (with_script (l.script ++ more) l) (map (made_under (l.script ++ more)) steps) }
-    ensures shorter { (l : LaneState) (more : List Op) (steps : List Made) →
+    ensures shorter { (l : LaneState) (more : List Op) (steps : List MadeStep) →
         IsRun (with_script (l.script ++ more) l) steps → AreBelow (length l.script) steps →
         IsRun l (map (made_under l.script) steps) }
 {}

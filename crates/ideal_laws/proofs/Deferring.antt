@@ -22,17 +22,19 @@ use Rattle.busdma_base.specs.Scenarios.Valid.{IsValid}
 use Rattle.ideal_lane.specs.Asking.{Asking, Gives, Asks, by_reply}
 use Rattle.ideal_lane.specs.State.{LaneState}
 use Rattle.ideal_lane.specs.Turns.{Turn, Turned, Stepped, Blocked, Ended, is_waiting, lane_step, waits_in}
-use Rattle.ideal_lane.proofs.Turning.{callback-waits}
+use Rattle.ideal_lane.proofs.TurnLaws.{callback-waits}
 use Rattle.ideal_world.specs.Legal.{IsLegal, Leads}
 use Rattle.ideal_world.specs.WellFormed.{IsDriverOf, IsWellFormed}
-use Rattle.ideal_world.specs.World.{WorldState, WorldTurned, entry_of, opening_world, replied, step, step_entry, step_of}
+use Rattle.ideal_world.specs.World.{WorldState, WorldTurned, entry_of, opening_world, replied, step, step_entry}
+use Rattle.ideal_world.specs.World.{step_of}
 use Rattle.ideal_world.proofs.Keeping.{fits, step-keeps}
 use Rattle.ideal_world.proofs.Lanes.{opening_at, set-here, within}
 use Rattle.ideal_world.proofs.Opens.{opens-well}
 use Rattle.ideal_world.proofs.Turns.{other-step}
 use Rattle.ideal_laws.specs.Deferrals.{calls_back, defers, is_callback_of, is_in_progress, loads_by, driver_script}
 use Rattle.ideal_laws.specs.Deferrals.{times_called_back, times_deferred}
-use Rattle.ideal_laws.proofs.Pending.{Counts, CountsIn, callback-counts, one, pend, pending, queue-counts, script-counts}
+use Rattle.ideal_laws.proofs.Pending.{Counts, CountsIn, callback-counts, one, pend, pending, queue-counts}
+use Rattle.ideal_laws.proofs.Pending.{script-counts}
 
 -- the account's reply to the call of a step, if it makes one
 abbrev reply_to : ℕ → Account → Asking Turned → HubReply

@@ -1,6 +1,8 @@
 -- Bytes that are written are Known: the bytes of the clusters of a resend, and two bytes of a ring's descriptor.
-use Rattle.std.proofs.Common.{◌≡◌, ℕ, zero, suc, ◌+◌, ◌≤◌, ◌==◌, Bool, true, false, cond, if◌then◌else◌, List, [], ◌∷◌, length, map}
-use Rattle.std.proofs.Common.{take, drop, slice_get, Option, Some, None, is_some, refl, sym, ap, ◌∙◌, subst, arith, eq-eqb}
+use Rattle.std.proofs.Common.{◌≡◌, ℕ, zero, suc, ◌+◌, ◌≤◌, ◌==◌, Bool, true, false, cond, if◌then◌else◌, List, [], ◌∷◌}
+use Rattle.std.proofs.Common.{length, map}
+use Rattle.std.proofs.Common.{take, drop, slice_get, Option, Some, None, is_some, refl, sym, ap, ◌∙◌, subst, arith}
+use Rattle.std.proofs.Common.{eq-eqb}
 use Rattle.std.proofs.Common.{length-take}
 use Rattle.std.proofs.lemmas.List.{length-map}
 use Rattle.std.proofs.lemmas.Option.{slice_get-map}
@@ -31,22 +33,24 @@ use Rattle.ideal_lane.specs.Sends.{Send, chain_bytes, cluster_bytes, copied, due
 use Rattle.ideal_lane.specs.Standing.{Stands}
 use Rattle.ideal_lane.specs.State.{LaneState}
 use Rattle.ideal_lane.specs.Turns.{Turn, Turned, Stepped, Blocked, Ended, at_next, lane_step}
-use Rattle.ideal_lane.proofs.Effects.{Advances, Calls, Copies, Declines, Fetching, IsAgain, Keeps, Leaves, Makes, Operation, Releases}
-use Rattle.ideal_lane.proofs.Effects.{NoneCalled, NothingLeft, NothingNow, Resends, Same, Stays, Steps, Syncs, Touched, Vain, Refuses, Waits, Loads, Overflows, after_fetch, again}
+use Rattle.ideal_lane.proofs.Effects.{Advances, Calls, Copies, Declines, Fetching, IsAgain, Keeps, Leaves, Makes}
+use Rattle.ideal_lane.proofs.Effects.{Operation, Releases}
+use Rattle.ideal_lane.proofs.Effects.{NoneCalled, NothingLeft, NothingNow, Resends, Same, Stays, Steps, Syncs, Touched}
+use Rattle.ideal_lane.proofs.Effects.{Vain, Refuses, Waits, Loads, Overflows, after_fetch, again}
 use Rattle.ideal_lane.proofs.Sent.{due-clusters}
 use Rattle.ideal_lane.proofs.Stepping.{turn-steps}
 use Rattle.ideal_wire.specs.Apart.{IsApart}
 use Rattle.ideal_wire.specs.Laid.{AreLaid}
 use Rattle.ideal_wire.specs.Machine.{IsInMachine}
 use Rattle.ideal_wire.specs.RingSteps.{HandsBack, HandsBackIn, IfFetched}
-use Rattle.ideal_wire.proofs.Clusters.{bytes-own, copied-values, same-count}
-use Rattle.ideal_wire.proofs.Copies.{known_value}
-use Rattle.ideal_wire.proofs.Frames.{agreeing-apart}
-use Rattle.ideal_wire.proofs.Placing.{Load, load-of, loadable-own}
-use Rattle.ideal_wire.proofs.Positions.{fine_at, found_one, of_range}
-use Rattle.ideal_wire.proofs.RingBytes.{ring-hands-back}
-use Rattle.ideal_wire.proofs.RingCases.{IsUnfetched, by-fetch, ring-is}
-use Rattle.ideal_wire.proofs.Wiring.{own-written}
+use Rattle.ideal_wire.proofs.Loads.Clusters.{bytes-own, copied-values, same-count}
+use Rattle.ideal_wire.proofs.Faithful.BytesPut.{known_value}
+use Rattle.ideal_wire.proofs.Apart.Frames.{agreeing-apart}
+use Rattle.ideal_wire.proofs.Faithful.PlacedLoads.{Load, load-of, loadable-own}
+use Rattle.ideal_wire.proofs.Laid.Positions.{fine_at, found_one, of_range}
+use Rattle.ideal_wire.proofs.Faithful.RingBytes.{ring-hands-back}
+use Rattle.ideal_wire.proofs.Faithful.RingCases.{IsUnfetched, by-fetch, ring-is}
+use Rattle.ideal_wire.proofs.Faithful.Wiring.{own-written}
 use Rattle.ideal_world.specs.WellFormed.{IsWellFormed}
 use Rattle.ideal_world.specs.World.{WorldState, entry_of, step, step_entry}
 use Rattle.ideal_world.proofs.Turns.{own-step}
@@ -54,7 +58,8 @@ use Rattle.ideal_laws.specs.KnownBytes.{AreKnown, IsCopied, LeavesDone}
 
 -- ---- what is written is Known
 
-one-known : (a k v : ℕ) (c : Option Content) → known c ≡ true → known (cond (a == k) (option_map (λ x. Known v) c) c) ≡ true
+one-known : (a k v : ℕ) (c : Option Content) → known c ≡ true → known (cond (a == k) (option_map (λ x. Known v) c) c)
+    ≡ true
 one-known a k v c h = by (a == k) c h
   where
     by : (b : Bool) (c : Option Content) → known c ≡ true → known (cond b (option_map (λ x. Known v) c) c) ≡ true
@@ -150,14 +155,17 @@ module _ (l : LaneState) (laid : AreLaid l) (k : ℕ) where
         own = range-own l laid g.r.mem (head_at g.r + 14) 2 i a at
 
         by : (b : Bool) → is_known (retired g.r (if b then l
-            else stored g.c.map g.c.off (head_of g.r l).len (replicate (head_of g.r l).len (head_of g.r l).fill) l)).memory a
+            else stored g.c.map g.c.off (head_of g.r l).len (replicate (head_of g.r l).len (head_of g.r l).fill)
+            l)).memory a
             ≡ true
         by true = written-knows keys (0 ∷ 1 ∷ []) l.memory (range-few l laid g.r.mem (head_at g.r + 14) 2) i a at own
         by false =
             written-knows keys (0 ∷ 1 ∷ [])
-            (written (load_bytes l.loans g.c.map g.c.off (head_of g.r l).len) (replicate (head_of g.r l).len (head_of g.r l).fill) l.memory)
+            (written (load_bytes l.loans g.c.map g.c.off (head_of g.r l).len)
+            (replicate (head_of g.r l).len (head_of g.r l).fill) l.memory)
             (range-few l laid g.r.mem (head_at g.r + 14) 2) i a at
-            (own-written (load_bytes l.loans g.c.map g.c.off (head_of g.r l).len) (replicate (head_of g.r l).len (head_of g.r l).fill) l.memory a
+            (own-written (load_bytes l.loans g.c.map g.c.off (head_of g.r l).len)
+            (replicate (head_of g.r l).len (head_of g.r l).fill) l.memory a
             ∙ own)
 
     hands-known : HandsBack g.r l after → AreKnown after.memory keys (0 ∷ 1 ∷ [])
@@ -166,10 +174,12 @@ module _ (l : LaneState) (laid : AreLaid l) (k : ℕ) where
     fetched-known : Known-by (Gives (record { lane = after; answer = told (head_of g.r l) g.c l }))
     fetched-known =
         subst (λ q. IfFetched (told (head_of g.r l) g.c l) (HandsBack q l after) →
-        IfFetched (told (head_of g.r l) g.c l) (AreKnown after.memory (load_bytes after.loans q.mem (head_at q + 14) 2) (0 ∷ 1 ∷ [])))
+        IfFetched (told (head_of g.r l) g.c l) (AreKnown after.memory (load_bytes after.loans q.mem (head_at q + 14) 2)
+        (0 ∷ 1 ∷ [])))
         (sym (ring-is l k g)) (by ((head_of g.r l).kind == 1))
       where
-        by : (b : Bool) → let a : Answer = if b then answer.Bytes (values l (load_bytes l.loans g.c.map g.c.off (head_of g.r l).len)) else answer.Done in
+        by : (b : Bool) → let a : Answer = if b
+            then answer.Bytes (values l (load_bytes l.loans g.c.map g.c.off (head_of g.r l).len)) else answer.Done in
             IfFetched a (HandsBack g.r l after) → IfFetched a (AreKnown after.memory keys (0 ∷ 1 ∷ []))
         by true h = hands-known h
         by false h = hands-known h
@@ -196,7 +206,8 @@ module _ (l : LaneState) (a : Account) (stands : Stands l) (agrees : AgreesWith 
   same-bytes (Overflows k e) = refl
 
   module _ (now : IsAgain l s) (k : Copies l s) where
-    pub read-known : (b t : Bool) → (if b then Some CpuReadLent else if t then None else Some StaleByte) ≡ None → t ≡ true
+    pub read-known : (b t : Bool) → (if b then Some CpuReadLent else if t then None else Some StaleByte) ≡ None → t
+        ≡ true
     read-known true t e = absurd (cc)
     read-known false true e = refl
     read-known false false e = absurd (cc)
@@ -209,7 +220,8 @@ module _ (l : LaneState) (a : Account) (stands : Stands l) (agrees : AgreesWith 
     clusters-known : (i b : ℕ) → slice_get (cluster_bytes s l) i ≡ Some b → is_known (copied s l).memory b ≡ true
     clusters-known i b at =
         written-knows (cluster_bytes s l) (values l (chain_bytes s l)) l.memory
-        (let same = same-count l laid s apart machine (due-clusters l s now.due machine.clusters) k.fine in omega (arith, same))
+        (let same = same-count l laid s apart machine (due-clusters l s now.due machine.clusters) k.fine in
+        omega (arith, same))
         i b at (bytes-own l laid s s.clusters k.fine i b at)
 
     is-copied : (m : LaneState) → m.memory ≡ (copied s l).memory → IsCopied s l m
@@ -251,7 +263,8 @@ module _ (l : LaneState) (a : Account) (stands : Stands l) (agrees : AgreesWith 
   steps-copy (Resends {x = x} s now k untold m) = λ told d at.
       let same : s ≡ d = found_one (send_at l.script l.place) s d (due-is s now.due) at in
       subst (λ z. IsCopied z l (at_next l.place x.lane)) same
-      (let c = is-copied l a stands agrees laid machine s now k x.lane (same-bytes l a stands agrees laid machine s m) in
+      (let c = is-copied l a stands agrees laid machine s now k x.lane
+      (same-bytes l a stands agrees laid machine s m) in
       record { chain = c.chain; clusters = c.clusters })
   steps-copy (Leaves q rest is k) = tt
   steps-copy (Releases q rest is y there) = tt
@@ -277,4 +290,5 @@ resend-copies s w e l m place d well is again told there after at =
     entry-copies l w.account own.stands own.agrees own.laid own.machine t.turn t.lane e (sym (ap entry_of o.turn) ∙ is)
     (steps-copy l w.account own.stands own.agrees own.laid own.machine (turn-steps l e.actor.side o.reply)) in
     subst (λ n. IsCopied d l n) same
-    (subst (λ z. CopiesBy l w.account own.stands own.agrees own.laid own.machine z e.answer t.lane) again copies told d at)
+    (subst (λ z. CopiesBy l w.account own.stands own.agrees own.laid own.machine z e.answer t.lane) again copies told d
+    at)

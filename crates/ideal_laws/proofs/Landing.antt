@@ -25,10 +25,10 @@ use Rattle.ideal_wire.specs.Mapped.{AreMapped}
 use Rattle.ideal_wire.specs.Spaced.{AreSpaced, is_spaced}
 use Rattle.ideal_wire.specs.Traces.{bus_at, stage_at, stage_in, traces_of}
 use Rattle.ideal_wire.specs.WireStep.{load_buses}
-use Rattle.ideal_wire.proofs.Buses.{placed-at, placed-buffers}
-use Rattle.ideal_wire.proofs.Copies.{map_own, same_range}
-use Rattle.ideal_wire.proofs.Positions.{Twin, found_one, twin_of}
-use Rattle.ideal_wire.proofs.RawPlaces.{HasByte, position-found}
+use Rattle.ideal_wire.proofs.Faithful.Buses.{placed-at, placed-buffers}
+use Rattle.ideal_wire.proofs.Faithful.BytesPut.{map_own, same_range}
+use Rattle.ideal_wire.proofs.Laid.Positions.{Twin, found_one, twin_of}
+use Rattle.ideal_wire.proofs.Faithful.RawPlaces.{HasByte, position-found}
 use Rattle.ideal_laws.specs.RawReached.{IsJudgedByte}
 use Rattle.ideal_laws.proofs.NamedRanges.{found_bytes}
 use Rattle.ideal_laws.proofs.Unbounced.{unbounced}
@@ -121,7 +121,8 @@ module _ (l : LaneState) (stands : Stands l) (laid : AreLaid l) (spaced : AreSpa
 
       by : (high some : Bool) → is_some (translated (l.spaces t) a) ≡ some → (o : Option Position) →
           position_in l t a (entries l.maps) ≡ o →
-          cond (high || not some) (Some Untranslated) (unless_unlent unlent refusal o) ≡ None → IsJudgedByte l t a refusal
+          cond (high || not some) (Some Untranslated) (unless_unlent unlent refusal o) ≡ None →
+          IsJudgedByte l t a refusal
       by true some e o is h = absurd (cc)
       by false false e o is h = absurd (cc)
       by false true e None is h = absurd (cc)
@@ -134,12 +135,14 @@ module _ (l : LaneState) (laid : AreLaid l) (m : ℕ) (o : LaneMap) (addr len at
       load_buses l m at len ≡ run_of addr len
   named-range there direct found = by o.stage (subst (λ q. LiesIn l m (stage_in q)) there (laid.each m)) found
     where
-      by : (s : Stage) → LiesIn l m s → place_of addr len (segments_in s) ≡ Some at → load_buses l m at len ≡ run_of addr len
+      by : (s : Stage) → LiesIn l m s → place_of addr len (segments_in s) ≡ Some at → load_buses l m at len
+          ≡ run_of addr len
       by Idle lies e = absurd (cc)
       by (Waiting w) lies e = absurd (cc)
       by (Loaded bounced segments pages) lies e =
           same_range (λ (p : Placed). p.bus) (λ (b : ℕ). b) at len (traces_of l m) (segment_bytes segments)
-          (sym (lies.trace (ap (λ q. option_map_or (is_device l) q false) there ∙ direct)) ∙ sym (map_own (segment_bytes segments)))
+          (sym (lies.trace (ap (λ q. option_map_or (is_device l) q false) there ∙ direct))
+          ∙ sym (map_own (segment_bytes segments)))
           ∙ map_own (stretch at len (segment_bytes segments))
           ∙ found_bytes addr len segments at e
       by Returning lies e = absurd (cc)

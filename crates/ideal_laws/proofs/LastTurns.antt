@@ -26,7 +26,8 @@ use Rattle.busdma_base.specs.declared.scenarios.script.Op.TheVariants as op
 use Rattle.busdma_base.specs.declared.scenarios.script.Place.{Place}
 use Rattle.busdma_rules.specs.declared.position.Position.{Position}
 use Rattle.busdma_rules.specs.Iommu.Space.{translated}
-use Rattle.busdma_rules.specs.Lending.Access.{cpu_read_answer, cpu_read_refusal, dev_read_answer, dev_read_refusal, dev_write_answer}
+use Rattle.busdma_rules.specs.Lending.Access.{cpu_read_answer, cpu_read_refusal, dev_read_answer, dev_read_refusal}
+use Rattle.busdma_rules.specs.Lending.Access.{dev_write_answer}
 use Rattle.busdma_rules.specs.Lending.Loans.{lent, load_bytes, loan_of, to_write}
 use Rattle.lane_agreement.specs.View.{Return}
 use Rattle.ideal_lane.specs.Accesses.{cpu_read, dev_read, dev_read_at, raw_bytes, raw_refusal, values}
@@ -39,9 +40,12 @@ use Rattle.ideal_lane.specs.Rings.{candidates_in, head_of, ring_of, ring_step, t
 use Rattle.ideal_lane.specs.Sends.{Send, chain_bytes, cluster_bytes, copied, due_send, is_kept, resend, send_of}
 use Rattle.ideal_lane.specs.Standing.{Stands}
 use Rattle.ideal_lane.specs.State.{LaneState}
-use Rattle.ideal_lane.specs.Turns.{Turn, Turned, Stepped, Blocked, Ended, advanced, due_turn, kept, lane_step, left_queue}
-use Rattle.ideal_lane.specs.Turns.{called_back, next_operation, operation, resent, script_turn, stays, transfer, transfer_turn, waits, went_on}
-use Rattle.ideal_lane.proofs.Effects.{Advances, Calls, Declines, Fetching, IsStay, Keeps, NoneCalled, NothingLeft, NothingNow, Releases}
+use Rattle.ideal_lane.specs.Turns.{Turn, Turned, Stepped, Blocked, Ended, advanced, due_turn, kept, lane_step}
+use Rattle.ideal_lane.specs.Turns.{left_queue}
+use Rattle.ideal_lane.specs.Turns.{called_back, next_operation, operation, resent, script_turn, stays, transfer}
+use Rattle.ideal_lane.specs.Turns.{transfer_turn, waits, went_on}
+use Rattle.ideal_lane.proofs.Effects.{Advances, Calls, Declines, Fetching, IsStay, Keeps, NoneCalled, NothingLeft}
+use Rattle.ideal_lane.proofs.Effects.{NothingNow, Releases}
 use Rattle.ideal_lane.proofs.Effects.{Resends, Stays, Steps, Transfer}
 use Rattle.ideal_lane.proofs.Firsts.{first-allowed, first-candidate}
 use Rattle.ideal_lane.proofs.Refusing.{absent, judged, past, unloaded}
@@ -51,13 +55,15 @@ use Rattle.ideal_wire.specs.Machine.{IsInMachine}
 use Rattle.ideal_wire.specs.Mapped.{AreMapped}
 use Rattle.ideal_wire.specs.Spaced.{AreSpaced}
 use Rattle.ideal_wire.specs.WireStep.{Reads, place_bytes}
-use Rattle.ideal_wire.proofs.Positions.{fine_at, found_one}
-use Rattle.ideal_wire.proofs.RingCases.{IsUnfetched, by-fetch, ring-is}
-use Rattle.ideal_laws.specs.LastWrites.{IfBytes, ReadsCandidate, ReadsFirst, ReadsItem, ReadsLast, ReadsNext, Written, by_did, by_first, by_item}
+use Rattle.ideal_wire.proofs.Laid.Positions.{fine_at, found_one}
+use Rattle.ideal_wire.proofs.Faithful.RingCases.{IsUnfetched, by-fetch, ring-is}
+use Rattle.ideal_laws.specs.LastWrites.{IfBytes, ReadsCandidate, ReadsFirst, ReadsItem, ReadsLast, ReadsNext, Written}
+use Rattle.ideal_laws.specs.LastWrites.{by_did, by_first, by_item}
 use Rattle.ideal_laws.specs.LastWrites.{by_next, by_operation, by_send}
 use Rattle.ideal_laws.proofs.Knowing.{chain-known, due-is, same-bytes}
 use Rattle.ideal_laws.proofs.Landing.{judged-byte}
-use Rattle.ideal_laws.proofs.LastValues.{IsLast, IsPlain, callback-last, head-last, item-last, last-values, operation-last, range-values}
+use Rattle.ideal_laws.proofs.LastValues.{IsLast, IsPlain, callback-last, head-last, item-last, last-values}
+use Rattle.ideal_laws.proofs.LastValues.{operation-last, range-values}
 use Rattle.ideal_laws.proofs.LastValues.{step-last, write-last}
 
 -- an operation writes the same if it leaves the same memories
@@ -113,7 +119,8 @@ module _ (l : LaneState) (a : Account) (stands : Stands l) (agrees : AgreesWith 
       (sym (due-is l a stands agrees laid machine s now.due)) last
   script-last {t = t} (Resends {x = x} s now k untold m) =
       subst (λ q. IsLast x.lane.memory (by_send q x.answer l w)) (sym (due-is l a stands agrees laid machine s now.due))
-      (subst (λ b. IsLast x.lane.memory (if b then w else put (cluster_bytes s l) (map w (chain_bytes s l)) w)) (sym untold)
+      (subst (λ b. IsLast x.lane.memory (if b then w else put (cluster_bytes s l) (map w (chain_bytes s l)) w))
+      (sym untold)
       (subst (λ memory. IsLast memory (put (cluster_bytes s l) (map w (chain_bytes s l)) w))
       (sym (same-bytes l a stands agrees laid machine s m))
       (chain-last s (chain-known l a stands agrees laid machine s now k))))
@@ -138,8 +145,10 @@ module _ (l : LaneState) (a : Account) (stands : Stands l) (agrees : AgreesWith 
   item-turn (item.Sync m ops) = plain-item (item.Sync m ops) tt _ (transfer-touches l (item.Sync m ops))
   item-turn (item.SyncRange m off len ops) =
       plain-item (item.SyncRange m off len ops) tt _ (transfer-touches l (item.SyncRange m off len ops))
-  item-turn (item.DevRead m off len) = plain-item (item.DevRead m off len) tt _ (transfer-touches l (item.DevRead m off len))
-  item-turn (item.DevWrite m off bs) = plain-item (item.DevWrite m off bs) tt _ (transfer-touches l (item.DevWrite m off bs))
+  item-turn (item.DevRead m off len) = plain-item (item.DevRead m off len) tt _
+      (transfer-touches l (item.DevRead m off len))
+  item-turn (item.DevWrite m off bs) = plain-item (item.DevWrite m off bs) tt _
+      (transfer-touches l (item.DevWrite m off bs))
   item-turn (item.DevReadAt t addr len) =
       plain-item (item.DevReadAt t addr len) tt _ (transfer-touches l (item.DevReadAt t addr len))
   item-turn (item.DevWriteAt t addr bs) =
@@ -255,7 +264,8 @@ module _ (l : LaneState) (stands : Stands l) (laid : AreLaid l) (spaced : AreSpa
   device-reads : (m off len : ℕ) → ReadsAt (load_bytes l.loans m off len) (dev_read m off len l)
   device-reads m off len =
       unloaded l (ReadsAt bytes) (report bytes) m _ (λ o there i. past l (ReadsAt bytes) (report bytes) m off len _
-      (judged l (ReadsAt bytes) (report bytes) (dev_read_answer (is_known l.memory) (loan_of l.loans m) off len) _ (λ fine.
+      (judged l (ReadsAt bytes) (report bytes) (dev_read_answer (is_known l.memory) (loan_of l.loans m) off len) _
+      (λ fine.
       range-values l w last m off len fine)))
     where
       bytes : List ℕ
@@ -273,7 +283,8 @@ module _ (l : LaneState) (stands : Stands l) (laid : AreLaid l) (spaced : AreSpa
   raw-known : (t a : ℕ) → raw_refusal DeviceReadUnlent (dev_read_refusal (is_known l.memory) false) l t a ≡ None →
       is_known l.memory (unwrap_or (translated (l.spaces t) a) 0) ≡ true
   raw-known t a e =
-      let h = judged-byte l stands laid spaced mapped DeviceReadUnlent (dev_read_refusal (is_known l.memory) false) t a e in
+      let h = judged-byte l stands laid spaced mapped DeviceReadUnlent (dev_read_refusal (is_known l.memory) false) t a
+      e in
       ap (λ y. is_known l.memory (unwrap_or y 0)) h.lands ∙ device-known h.position h.allowed
 
   raw-values : (t : ℕ) (keys : List ℕ) →
@@ -290,7 +301,8 @@ module _ (l : LaneState) (stands : Stands l) (laid : AreLaid l) (spaced : AreSpa
           by None q e = absurd (cc)
           by (Some a) q e =
               subst (λ k. is_known l.memory k ≡ true)
-              (found_one (Some (unwrap_or (translated (l.spaces t) a) 0)) (unwrap_or (translated (l.spaces t) a) 0) b refl e)
+              (found_one (Some (unwrap_or (translated (l.spaces t) a) 0)) (unwrap_or (translated (l.spaces t) a) 0) b
+              refl e)
               (raw-known t a (fine_at (raw_refusal DeviceReadUnlent (dev_read_refusal (is_known l.memory) false) l t) 0
               keys fine i a q))
 
@@ -316,9 +328,11 @@ module _ (l : LaneState) (stands : Stands l) (laid : AreLaid l) (spaced : AreSpa
   fetched-reads : (k : ℕ) (g : Fetching l k) → IfBytes (told (head_of g.r l) g.c l) (ReadsCandidate g.r l w)
   fetched-reads k g = by ((head_of g.r l).kind == 1) (first-allowed g.r l g.c g.first)
     where
-      by : (b : Bool) → (if b then dev_read_answer (is_known l.memory) (loan_of l.loans g.c.map) g.c.off (head_of g.r l).len
+      by : (b : Bool) → (if b then dev_read_answer (is_known l.memory) (loan_of l.loans g.c.map) g.c.off
+          (head_of g.r l).len
           else dev_write_answer (loan_of l.loans g.c.map) g.c.off (head_of g.r l).len) ≡ Fine →
-          IfBytes (if b then answer.Bytes (values l (load_bytes l.loans g.c.map g.c.off (head_of g.r l).len)) else answer.Done)
+          IfBytes (if b then answer.Bytes (values l (load_bytes l.loans g.c.map g.c.off (head_of g.r l).len))
+          else answer.Done)
           (ReadsCandidate g.r l w)
       by true fine = record {
         candidate = g.c;
@@ -335,7 +349,8 @@ module _ (l : LaneState) (stands : Stands l) (laid : AreLaid l) (spaced : AreSpa
   ring-reads : (k : ℕ) → RingReads k (ring_step k l)
   ring-reads k =
       by-fetch l k (RingReads k) (unfetched-reads k) (λ g.
-      subst (λ r. IfBytes (told (head_of g.r l) g.c l) (ReadsCandidate r l w)) (sym (ring-is l k g)) (fetched-reads k g))
+      subst (λ r. IfBytes (told (head_of g.r l) g.c l) (ReadsCandidate r l w)) (sym (ring-is l k g))
+      (fetched-reads k g))
 
   -- ---- items
   abbrev ItemReads : Item → Asking Outcome → Type 0
@@ -348,7 +363,8 @@ module _ (l : LaneState) (stands : Stands l) (laid : AreLaid l) (spaced : AreSpa
   item-reads (item.RingStep k) = ring-reads k
   item-reads i = nothing-read (transfer i l)
 
-  queue-reads : (qs : List QueuedItem) → l.queue ≡ qs → (r : HubReply) → TurnReads (by_reply (transfer_turn qs l) r).turn
+  queue-reads : (qs : List QueuedItem) → l.queue ≡ qs → (r : HubReply) →
+      TurnReads (by_reply (transfer_turn qs l) r).turn
   queue-reads [] e r = tt
   queue-reads (q ∷ rest) e r = by (transfer q.item l) (item-reads q.item)
     where

@@ -1,5 +1,6 @@
 -- What is Known of a driver's bytes is what was last written, after each turn.
-use Rattle.std.proofs.Common.{◌≡◌, ℕ, suc, ◌+◌, ◌==◌, ◌||◌, Bool, true, false, if◌then◌else◌, List, [], ◌∷◌, map, length}
+use Rattle.std.proofs.Common.{◌≡◌, ℕ, suc, ◌+◌, ◌==◌, ◌||◌, Bool, true, false, if◌then◌else◌, List, [], ◌∷◌, map}
+use Rattle.std.proofs.Common.{length}
 use Rattle.std.proofs.Common.{Option, Some, None, slice_get, unwrap_or, refl, sym, ap, ◌∙◌, subst}
 use Rattle.std.specs.Prelude.{replicate}
 use Rattle.std.specs.FinMap.{entries, get}
@@ -26,32 +27,37 @@ use Rattle.busdma_rules.specs.declared.position.Position.{Position}
 use Rattle.busdma_rules.specs.Lending.Access.{dev_read_answer, dev_read_refusal, dev_write_answer}
 use Rattle.busdma_rules.specs.Lending.Loans.{load_bytes, loan_of}
 use Rattle.busdma_rules.specs.Rings.Descriptors.{descriptor_bytes, descriptor_of}
-use Rattle.busdma_rules.specs.Lending.Syncing.{lost, lost_by_forgetting}
+use Rattle.busdma_rules.specs.Lending.SyncEffects.{lost, lost_by_forgetting}
 use Rattle.busdma_rules.specs.Tags.MemFlags.{coherent, zero_filled}
 use Rattle.ideal_lane.specs.Accesses.{raw_bytes, values}
 use Rattle.ideal_lane.specs.Asking.{Asking, Gives, Asks}
-use Rattle.ideal_lane.specs.IdealMemory.{Content, IdealMemory, Known, Unknown, forgotten, is_known, joined, parted, value, written}
+use Rattle.ideal_lane.specs.IdealMemory.{Content, IdealMemory, Known, Unknown, forgotten, is_known, joined, parted}
+use Rattle.ideal_lane.specs.IdealMemory.{value, written}
 use Rattle.ideal_lane.specs.IdealMemory.{written_at}
 use Rattle.ideal_lane.specs.Outcomes.{Outcome}
 use Rattle.ideal_lane.specs.Places.{bytes_at}
-use Rattle.ideal_lane.specs.Rings.{Candidate, candidates, candidates_in, head_at, head_of, is_fine, no_ring, posted, retired, ring_of}
+use Rattle.ideal_lane.specs.Rings.{Candidate, candidates, candidates_in, head_at, head_of, is_fine, no_ring, posted}
+use Rattle.ideal_lane.specs.Rings.{retired, ring_of}
 use Rattle.ideal_lane.specs.Rings.{ring_step, slot_place, stored}
 use Rattle.ideal_lane.specs.State.{LaneMemory, LaneState}
 use Rattle.ideal_lane.specs.Unloads.{segments_in}
 use Rattle.busdma_base.specs.Scenarios.Operations.{bytes_of}
 use Rattle.busdma_machine.specs.declared.report.ReportName.TheVariants.{DeviceReadUnlent, StaleByte}
 use Rattle.std.proofs.lemmas.Option.{slice_get-map}
-use Rattle.ideal_lane.proofs.Effects.{Work, Operation, Transfer, Callback, AtOnce, Begins, Device, DeviceWrites, Ends, Fetches}
-use Rattle.ideal_lane.proofs.Effects.{Fetching, Frees, Granted, IsUndone, Loads, Makes, Overflows, Places, Posts, RawWrites, Refuses, Same}
-use Rattle.ideal_lane.proofs.Effects.{IsSync, IsVain, Range, RangeItem, Syncs, Touched, Touches, Unattached, Uncreated, Unloads, Unplaced, Unwaited, Vain}
+use Rattle.ideal_lane.proofs.Effects.{Work, Operation, Transfer, Callback, AtOnce, Begins, Device, DeviceWrites, Ends}
+use Rattle.ideal_lane.proofs.Effects.{Fetches}
+use Rattle.ideal_lane.proofs.Effects.{Fetching, Frees, Granted, IsUndone, Loads, Makes, Overflows, Places, Posts}
+use Rattle.ideal_lane.proofs.Effects.{RawWrites, Refuses, Same}
+use Rattle.ideal_lane.proofs.Effects.{IsSync, IsVain, Range, RangeItem, Syncs, Touched, Touches, Unattached, Uncreated}
+use Rattle.ideal_lane.proofs.Effects.{Unloads, Unplaced, Unwaited, Vain}
 use Rattle.ideal_lane.proofs.Effects.{Waits, Whole, WholeItem, Writes, after_fetch}
 use Rattle.ideal_wire.specs.Traces.{stage_at, stage_in}
 use Rattle.ideal_wire.specs.WireStep.{if_answered, if_fetched, place_bytes}
-use Rattle.ideal_wire.proofs.Copies.{known_value}
-use Rattle.ideal_wire.proofs.KeptTags.{put-there}
-use Rattle.ideal_wire.proofs.Positions.{fine_at, found_one}
-use Rattle.ideal_wire.proofs.RingCases.{by-fetch, ring-is, told-fetched, unfetched}
-use Rattle.ideal_wire.proofs.SyncedPositions.{known_before}
+use Rattle.ideal_wire.proofs.Faithful.BytesPut.{known_value}
+use Rattle.ideal_wire.proofs.Tags.KeptTags.{put-there}
+use Rattle.ideal_wire.proofs.Laid.Positions.{fine_at, found_one}
+use Rattle.ideal_wire.proofs.Faithful.RingCases.{by-fetch, ring-is, told-fetched, unfetched}
+use Rattle.ideal_wire.proofs.Faithful.SyncedPositions.{known_before}
 use Rattle.ideal_laws.specs.LastWrites.{Written, by_descriptor, by_item, by_operation, by_ring, first_writable}
 use Rattle.ideal_laws.specs.LastWrites.{head_written, zeroed}
 
@@ -88,7 +94,8 @@ last-values (x ∷ keys) memory w h all =
     λ j. first j ∷ rest j
 
 -- bytes that are forgotten
-pub forget-last : (keys : List ℕ) (memory : IdealMemory) (w : Written) → IsLast memory w → IsLast (forgotten keys memory) w
+pub forget-last : (keys : List ℕ) (memory : IdealMemory) (w : Written) → IsLast memory w →
+    IsLast (forgotten keys memory) w
 forget-last keys memory w h a v e = h a v (known_before keys memory a v e).1
 
 -- bytes that leave
@@ -145,7 +152,8 @@ module _ (l : LaneState) (w : Written) (last : IsLast l.memory w) where
     load-writes : {d : Work} → Begins l d → (a : Answer) (after : LaneState) → by_work d a after ≡ w
     load-writes b a after = ap (λ q. by_work q a after) b.is
 
-    ends-writes : {o : Op} {c : Option HubCall} {r : HubReply} → Ends l (Operation o) c r → (a : Answer) (after : LaneState) →
+    ends-writes : {o : Op} {c : Option HubCall} {r : HubReply} → Ends l (Operation o) c r →
+        (a : Answer) (after : LaneState) →
         by_operation o a l after w ≡ w
     ends-writes (AtOnce b plain e) a after = load-writes b a after
     ends-writes (Granted b plain e pages) a after = load-writes b a after
@@ -182,7 +190,8 @@ module _ (l : LaneState) (w : Written) (last : IsLast l.memory w) where
         let vs = descriptor_bytes (posted (segments_in o.stage) off len kind fill) in
         let is-ring : r ≡ ring_of l k = sym (ap (λ y. unwrap_or y no_ring) ring) in
         let keys : bytes_at l (run_of va 16) ≡ place_bytes l (slot_place (ring_of l k) slot) 16 =
-        sym (ap (λ y. bytes_at l (run_of (unwrap_or y 0) 16)) at) ∙ ap (λ q. place_bytes l (slot_place q slot) 16) is-ring in
+        sym (ap (λ y. bytes_at l (run_of (unwrap_or y 0) 16)) at) ∙ ap (λ q. place_bytes l (slot_place q slot) 16)
+        is-ring in
         let segments : vs ≡ descriptor_bytes (posted (segments_in (stage_at l m)) off len kind fill) =
         ap (λ y. descriptor_bytes (posted (segments_in (stage_in y)) off len kind fill)) (sym there) in
         subst (IsLast x.lane.memory) (λ i. put (keys i) (segments i) w)
@@ -223,7 +232,8 @@ module _ (l : LaneState) (w : Written) (last : IsLast l.memory w) where
     same-item (item.RingStep k) p a u = absurd p
     same-item _ p a u = refl
 
-    item-syncs : {i : Item} {m off len ops : ℕ} → IsSync l (Transfer i) m off len ops → (a : Answer) → by_item i a l w ≡ w
+    item-syncs : {i : Item} {m off len ops : ℕ} → IsSync l (Transfer i) m off len ops → (a : Answer) → by_item i a l w
+        ≡ w
     item-syncs (WholeItem m ops) a = refl
     item-syncs (RangeItem m off len ops) a = refl
 
@@ -301,12 +311,14 @@ module _ (l : LaneState) (w : Written) (last : IsLast l.memory w) where
         by : (b : Bool) → (d.kind == 1) ≡ b → IsLast (retired g.r (if b then l
             else stored g.c.map g.c.off d.len (replicate d.len d.fill) l)).memory
             (put keys (0 ∷ 1 ∷ []) (if b then w
-            else put (load_bytes l.loans (first_writable d l cs).map (first_writable d l cs).off d.len) (replicate d.len d.fill) w))
+            else put (load_bytes l.loans (first_writable d l cs).map (first_writable d l cs).off d.len)
+            (replicate d.len d.fill) w))
         by true e = write-last keys (0 ∷ 1 ∷ []) l.memory w last
         by false e =
             subst (λ (c : Candidate). IsLast (written keys (0 ∷ 1 ∷ [])
             (written (load_bytes l.loans g.c.map g.c.off d.len) (replicate d.len d.fill) l.memory))
-            (put keys (0 ∷ 1 ∷ []) (put (load_bytes l.loans c.map c.off d.len) (replicate d.len d.fill) w))) (sym (first-is e))
+            (put keys (0 ∷ 1 ∷ []) (put (load_bytes l.loans c.map c.off d.len) (replicate d.len d.fill) w)))
+            (sym (first-is e))
             (write-last keys (0 ∷ 1 ∷ [])
             (written (load_bytes l.loans g.c.map g.c.off d.len) (replicate d.len d.fill) l.memory)
             (put (load_bytes l.loans g.c.map g.c.off d.len) (replicate d.len d.fill) w)
@@ -321,4 +333,5 @@ module _ (l : LaneState) (w : Written) (last : IsLast l.memory w) where
       by-fetch l k (RingLast k)
       (λ a u. subst (IsLast l.memory) (sym (unfetched a (by_ring (ring_of l k) l w) w u)) last)
       (λ g. subst (IsLast (after_fetch l k g.r (head_of g.r l) g.c).memory)
-      (sym (told-fetched l k g (by_ring (ring_of l k) l w) w ∙ ap (λ r. by_ring r l w) (ring-is l k g))) (ring-last k g))
+      (sym (told-fetched l k g (by_ring (ring_of l k) l w) w ∙ ap (λ r. by_ring r l w) (ring-is l k g)))
+      (ring-last k g))

@@ -1,5 +1,6 @@
 -- In a journal each read answers what was last written.
-use Rattle.std.proofs.Common.{◌≡◌, ◌≢◌, ℕ, ◌==◌, Bool, true, false, if◌then◌else◌, List, [], ◌∷◌, ◌++◌, Option, Some, None, slice_get}
+use Rattle.std.proofs.Common.{◌≡◌, ◌≢◌, ℕ, ◌==◌, Bool, true, false, if◌then◌else◌, List, [], ◌∷◌, ◌++◌, Option, Some}
+use Rattle.std.proofs.Common.{None, slice_get}
 use Rattle.std.proofs.Common.{refl, sym, ap, ◌∙◌, subst}
 use Rattle.std.proofs.lemmas.Bool.{eq-eqb, eqb-true, false≢true}
 use Rattle.busdma_base.specs.declared.journals.journal.Journal.{Journal}
@@ -21,7 +22,7 @@ use Rattle.ideal_world.proofs.Keeping.{step-keeps}
 use Rattle.ideal_world.proofs.Lanes.{opening_at}
 use Rattle.ideal_world.proofs.Opens.{opens-well}
 use Rattle.ideal_world.proofs.Turns.{other-step, own-step, still}
-use Rattle.ideal_wire.proofs.Positions.{found_one}
+use Rattle.ideal_wire.proofs.Laid.Positions.{found_one}
 use Rattle.ideal_laws.specs.LastWrites.{AnswersLast, ReadsLast, Written, by_did, by_entry, last_written}
 use Rattle.ideal_laws.proofs.LastTurns.{TurnLast, TurnReads, turn-last, turn-reads}
 use Rattle.ideal_laws.proofs.LastValues.{IsLast}
@@ -36,8 +37,10 @@ module _ (s : Scenario) (i : ℕ) where
     abbrev next : WorldState
     next = (step w e.actor).world
 
-    turn-entry : (t : Turn) (l : LaneState) (a : _) (st : _) (g : _) (laid : _) (mc : _) (h : IsLast l.memory last) (after : LaneState) →
-        entry_of t ≡ Some e → TurnLast l a st g laid mc last h t after → IsLast after.memory (by_did e.did e.answer l after last)
+    turn-entry : (t : Turn) (l : LaneState) (a : _) (st : _) (g : _) (laid : _) (mc : _) (h : IsLast l.memory last)
+        (after : LaneState) →
+        entry_of t ≡ Some e → TurnLast l a st g laid mc last h t after →
+        IsLast after.memory (by_did e.did e.answer l after last)
     turn-entry (Stepped f) l a st g laid mc h after q k =
         let same : f ≡ e = cc in
         subst (λ (z : JournalEntry). IsLast after.memory (by_did z.did z.answer l after last)) same k
@@ -61,7 +64,8 @@ module _ (s : Scenario) (i : ℕ) where
             subst (λ (n : LaneState). IsLast n.memory (by_did e.did e.answer l n last)) same
             (turn-entry t.turn l w.account own.stands own.agrees own.laid own.machine (known l there) t.lane
             (sym (ap entry_of o.turn) ∙ is)
-            (turn-last l w.account own.stands own.agrees own.laid own.machine last (known l there) e.actor.side o.reply))
+            (turn-last l w.account own.stands own.agrees own.laid own.machine last (known l there) e.actor.side
+            o.reply))
 
         by : (o : Option LaneState) → slice_get w.lanes i ≡ o → (b : Bool) → (e.actor.lane.0 == i) ≡ b →
             IsLast m.memory (by_entry i e o (Some m) last)
@@ -103,7 +107,8 @@ read-entry (Stepped f) e l st laid sp mp w h q k =
 read-entry Blocked e l st laid sp mp w h q k = absurd (cc)
 read-entry Ended e l st laid sp mp w h q k = absurd (cc)
 
-pub reads-last : (s : Scenario) (before : List JournalEntry) (w : WorldState) (e : JournalEntry) (l : LaneState) → IsValid s →
+pub reads-last : (s : Scenario) (before : List JournalEntry) (w : WorldState) (e : JournalEntry) (l : LaneState) →
+    IsValid s →
     Leads (opening_world s) before w → step_entry w e.actor ≡ Some e → slice_get w.lanes e.actor.lane.0 ≡ Some l →
     ReadsLast e.did e.answer l (last_written e.actor.lane.0 (opening_world s) before (λ a. 0))
 reads-last s before w e l valid leads is there =

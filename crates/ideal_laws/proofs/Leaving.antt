@@ -36,7 +36,8 @@ use Rattle.lane_agreement.specs.Agreement.{IsFit}
 use Rattle.ideal_lane.specs.Accesses.{cpu_read, cpu_write}
 use Rattle.ideal_lane.specs.Agreement.{AgreesWith}
 use Rattle.ideal_lane.specs.Asking.{Asking, Gives, Asks}
-use Rattle.ideal_lane.specs.Loads.{Asked, are_few, asked, chunks_for, device_load, finished, granted, is_device, limits_of}
+use Rattle.ideal_lane.specs.Loads.{Asked, are_few, asked, chunks_for, device_load, finished, granted, is_device}
+use Rattle.ideal_lane.specs.Loads.{limits_of}
 use Rattle.ideal_lane.specs.Loads.{load, load_chunks, staged, taken, unpaged, waiting_load, with_run, with_spaces}
 use Rattle.ideal_lane.specs.Loads.{zone_of_map}
 use Rattle.ideal_lane.specs.Maps.{await, bounces, end_map, map_destroy}
@@ -54,7 +55,8 @@ use Rattle.ideal_lane.proofs.Endings.{fits, fitting, too_big}
 use Rattle.ideal_lane.proofs.Refusing.{absent, busy, either, judged, unloaded}
 use Rattle.ideal_wire.specs.Answered.{Load, load_asked_by}
 use Rattle.ideal_laws.specs.Refusals.{tried_at, tried_by}
-use Rattle.ideal_laws.proofs.Plain.{PlainBy, PlainErrno, PlainIn, post-plain, range-plain, read-plain, whole-plain, write-plain}
+use Rattle.ideal_laws.proofs.Plain.{PlainBy, PlainErrno, PlainIn, post-plain, range-plain, read-plain, whole-plain}
+use Rattle.ideal_laws.proofs.Plain.{write-plain}
 
 -- ---- lists and accounts
 
@@ -155,7 +157,8 @@ module _ (l : LaneState) (a : Account) where
   abbrev pub LeftBy : Option Loading → List Waiter → Answer → LaneState → Account → Type 0
   LeftBy q ready (answer.Refused e) after b = LeftErrno q ready e after b
   LeftBy q ready (answer.InProgress have need) after b = OfLoad (λ x. Awaits x have need after b) q
-  LeftBy q ready (answer.Grown g) after b = OfNone (g.made ≡ false → (t : TagLimits) × Unmade t g.zone.0 g.added after b) q
+  LeftBy q ready (answer.Grown g) after b =
+      OfNone (g.made ≡ false → (t : TagLimits) × Unmade t g.zone.0 g.added after b) q
   LeftBy q ready _ after b = Unit {0}
 
   abbrev pub Left : Option Loading → List Waiter → Outcome → Account → Type 0
@@ -309,16 +312,21 @@ module _ (l : LaneState) (a : Account) where
         cs = device_chunks first 0 x.entries
 
         by : (fit : Bool) → fits l q.map o l.place x (device_chunks first 0 x.entries) [] ≡ fit → Left (Some q) a.ready
-            (with_spaces (with_run (are_few (limits_of l o) (device_chunks first 0 x.entries)) o.tag first (load_frames x.entries) l.spaces)
+            (with_spaces (with_run (are_few (limits_of l o) (device_chunks first 0 x.entries)) o.tag first
+            (load_frames x.entries) l.spaces)
             (if fit then fitting l q.map o l.place x (device_chunks first 0 x.entries) []
             else too_big l q.map o l.place x (device_chunks first 0 x.entries) [])) a
         by true e = tt
         by false e =
             big-left a.ready l.place x (device_chunks first 0 x.entries) [] a (λ agreed. got-none q.map o)
             (record (unpaged q.map o [] l) {
-              spaces = with_run (are_few (limits_of l o) (device_chunks first 0 x.entries)) o.tag first (load_frames x.entries) l.spaces;
+              spaces = with_run (are_few (limits_of l o) (device_chunks first 0 x.entries)) o.tag first
+                  (load_frames x.entries) l.spaces;
             })
-            (ap (λ few. record (unpaged q.map o [] l) { spaces = with_run few o.tag first (load_frames x.entries) l.spaces }) e)
+            (ap (λ few. record (unpaged q.map o [] l) {
+              spaces = with_run few o.tag first (load_frames x.entries)
+                  l.spaces;
+            }) e)
 
     module _ (idle : is_idle o.stage ≡ true) where
       idle-is : (s : Stage) → is_idle s ≡ true → Idle ≡ s
@@ -368,7 +376,8 @@ module _ (l : LaneState) (a : Account) where
             }
 
         grab-left : (enough unwaiting : Bool) → x.nowait ≡ unwaiting →
-            Left (Some q) a.ready (granted q.map o x cs l (grabs enough unwaiting).reply) (grabs enough unwaiting).account
+            Left (Some q) a.ready (granted q.map o x cs l (grabs enough unwaiting).reply)
+            (grabs enough unwaiting).account
         grab-left true unwaiting e =
             subst (λ ps. Left (Some q) a.ready (finished q.map o l.place x cs ps l)
             (handed a (named l q.map) (zone_of_map o) need)) (sym (same-addresses (take need avail)))

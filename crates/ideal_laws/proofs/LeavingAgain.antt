@@ -30,7 +30,8 @@ use Rattle.ideal_lane.specs.State.{LaneState, LaneMap, Stage, Waiting}
 use Rattle.ideal_lane.specs.Turns.{called, called_in}
 use Rattle.ideal_lane.specs.View.{in_zone, own_map}
 use Rattle.ideal_lane.proofs.Refusing.{busy, judged}
-use Rattle.ideal_laws.proofs.Leaving.{Agreed, HasGot, Left, LeftIn, Loading, finished-left, handed-length, load-left, same-addresses, take-length}
+use Rattle.ideal_laws.proofs.Leaving.{Agreed, HasGot, Left, LeftIn, Loading, finished-left, handed-length, load-left}
+use Rattle.ideal_laws.proofs.Leaving.{same-addresses, take-length}
 
 -- ---- resends
 
@@ -51,7 +52,8 @@ module _ (l : LaneState) (a : Account) (s : Send) where
       judged l IsLeft reported (load_judged l s.map (Vector s.clusters)) _ (λ fine.
       judged l IsLeft reported (cpu_read_answer (is_known l.memory) l.loans (chain_bytes s l)) _ (λ reads.
       judged l IsLeft reported (cpu_write_answer l.loans (cluster_bytes s l)) _ (λ writes.
-      load-left (copied s l) a (loading_again s) (asked s.map (Vector s.clusters) true s.items (copied s l)) refl refl refl))))
+      load-left (copied s l) a (loading_again s) (asked s.map (Vector s.clusters) true s.items (copied s l)) refl refl
+      refl))))
 
 -- ---- callbacks
 
@@ -87,7 +89,8 @@ module _ (l : LaneState) (a : Account) (n : MapId) (pages : List Pa) where
       by false t e = absurd (cc)
       by true t e =
           let own : w.map.lane.0 ≡ l.id = eqb-true w.map.lane.0 l.id t in
-          let here : own_map (get l.maps w.map.made_at) ≡ Some (record { zone = w.zone.0; stage = view.Waiting w.need }) =
+          let here : own_map (get l.maps w.map.made_at)
+          ≡ Some (record { zone = w.zone.0; stage = view.Waiting w.need }) =
           waits-tells (own_map (get l.maps w.map.made_at)) w.zone.0 w.need
           (omega (arith, head-waits w ws a is, (agreed.1.names w.map own).waits w.zone.0 w.need)) in
           let same : w.map ≡ n = cc in
@@ -105,7 +108,8 @@ module _ (l : LaneState) (a : Account) (n : MapId) (pages : List Pa) where
                 (take-length w.need (zone_at a w.zone.0).avail));
             account =
                 handed-length (record a { ready = ws }) w.map w.zone.0 w.need
-                ∙ (λ i. record (handed a (record { lane = record { 0 = own i }; made_at = (same i).made_at }) (zone i) (length (pages_is i))) {
+                ∙ (λ i. record (handed a (record { lane = record { 0 = own i }; made_at = (same i).made_at }) (zone i)
+                (length (pages_is i))) {
                   ready = rest i;
                 });
           }
@@ -119,7 +123,8 @@ module _ (l : LaneState) (a : Account) (n : MapId) (pages : List Pa) where
 
   pub callback-left : (account_step l.id call.TakeCallback a).reply ≡ reply.Called n pages →
       Left l a (Some loading_called) (drop 1 a.ready)
-      (called n.made_at (get l.maps n.made_at) (addresses_of_pages pages) l) (account_step l.id call.TakeCallback a).account
+      (called n.made_at (get l.maps n.made_at) (addresses_of_pages pages) l)
+      (account_step l.id call.TakeCallback a).account
   callback-left e = by (get l.maps n.made_at) refl
     where
       staged-left : (o : LaneMap) → get l.maps n.made_at ≡ Some o → (s : Stage) →

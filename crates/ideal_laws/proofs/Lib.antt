@@ -12,7 +12,7 @@ pub mod LoadRuns
 pub mod NamedRanges
 pub mod Pending
 pub mod Plain
-pub mod Posting
+pub mod PostLaws
 pub mod Refused
 pub mod Unbounced
 pub mod UsedSpaces

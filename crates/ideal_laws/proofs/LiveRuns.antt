@@ -41,7 +41,8 @@ put-cases q r (x ∷ rs) h = by (nat_lt q.first x.first) (put-cases q r rs) h
 abbrev pub IsOther : ℕ → List DeviceRun → DeviceRun → Type 0
 IsOther first rs r = Contains rs r × (r.first ≢ first)
 
-pub left-cases : (first : ℕ) (r : DeviceRun) (rs : List DeviceRun) → Contains (filter (λ x. not (begins_at first x)) rs) r →
+pub left-cases : (first : ℕ) (r : DeviceRun) (rs : List DeviceRun) → Contains (filter (λ x. not (begins_at first x)) rs)
+    r →
     IsOther first rs r
 left-cases first r [] h = absurd (in-none r h)
 left-cases first r (q ∷ qs) h = by (q.first == first) refl (left-cases first r qs) h

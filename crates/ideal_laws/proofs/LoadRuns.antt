@@ -1,6 +1,7 @@
 -- After each turn each live run belongs to a load.
 use Rattle.std.proofs.Common.{◌≡◌, ◌≢◌, ◌⊎◌, inl, inr, ℕ, zero, suc, ◌+◌, ◌<◌, ◌≤◌, ◌/◌, ◌==◌, ◌&&◌, Bool, true, false}
-use Rattle.std.proofs.Common.{if◌then◌else◌, List, [], ◌∷◌, ◌++◌, length, map, Option, Some, None, slice_get, unwrap_or, refl, sym, ap, ◌∙◌}
+use Rattle.std.proofs.Common.{if◌then◌else◌, List, [], ◌∷◌, ◌++◌, length, map, Option, Some, None, slice_get, unwrap_or}
+use Rattle.std.proofs.Common.{refl, sym, ap, ◌∙◌}
 use Rattle.std.proofs.Common.{subst, arith, nat_le}
 use Rattle.std.proofs.lemmas.Bool.{eq-eqb, eqb-true, false≢true}
 use Rattle.std.specs.FinMap.{get, insert, remove}
@@ -24,16 +25,20 @@ use Rattle.busdma_rules.specs.Segments.Segmentation.{segment_bytes}
 use Rattle.busdma_rules.proofs.Iommu.Members.{live-is}
 use Rattle.busdma_rules.proofs.Lending.Marking.{addresses_of-synced}
 use Rattle.busdma_rules.proofs.Memory.Vectors.{entries_are}
-use Rattle.ideal_lane.specs.Loads.{are_few, emptied, is_coherent, is_device, limits_of, load_translation, unpaged, with_run}
+use Rattle.ideal_lane.specs.Loads.{are_few, emptied, is_coherent, is_device, limits_of, load_translation, unpaged}
+use Rattle.ideal_lane.specs.Loads.{with_run}
 use Rattle.ideal_lane.specs.Loads.{with_spaces}
 use Rattle.ideal_lane.specs.Outcomes.{Outcome, is_idle, is_loaded}
 use Rattle.ideal_lane.specs.Standing.{Stands}
 use Rattle.ideal_lane.specs.State.{LaneState, LaneMap, LaneTag, Stage, Idle, Waiting, Loaded, Returning}
 use Rattle.ideal_lane.specs.Syncs.{bounced_in}
 use Rattle.ideal_lane.specs.Unloads.{first_of, loan_forgotten, pages_of, segments_in, unmapped}
-use Rattle.ideal_lane.proofs.Effects.{AtOnce, Begins, Called, Creates, Device, Ends, Frees, Granted, Loads, Makes, Maps, NoFrame}
-use Rattle.ideal_lane.proofs.Effects.{Overflows, Places, Refuses, Run, Same, Spaces, Syncs, Touched, Touches, Unloads, Unmaps, Untags}
-use Rattle.ideal_lane.proofs.Effects.{Waits, Work, asked_in, asks, chunks_in, frames, map_in, pages_in, place_in, spaces_in, was_in}
+use Rattle.ideal_lane.proofs.Effects.{AtOnce, Begins, Called, Creates, Device, Ends, Frees, Granted, Loads, Makes, Maps}
+use Rattle.ideal_lane.proofs.Effects.{NoFrame}
+use Rattle.ideal_lane.proofs.Effects.{Overflows, Places, Refuses, Run, Same, Spaces, Syncs, Touched, Touches, Unloads}
+use Rattle.ideal_lane.proofs.Effects.{Unmaps, Untags}
+use Rattle.ideal_lane.proofs.Effects.{Waits, Work, asked_in, asks, chunks_in, frames, map_in, pages_in, place_in}
+use Rattle.ideal_lane.proofs.Effects.{spaces_in, was_in}
 use Rattle.ideal_lane.proofs.Endings.{fits, fitting, segments_of}
 use Rattle.ideal_lane.proofs.Endings.{bounced_in as bounced_by}
 use Rattle.ideal_wire.specs.Laid.{AreLaid}
@@ -41,12 +46,12 @@ use Rattle.ideal_wire.specs.Machine.{IsInMachine}
 use Rattle.ideal_wire.specs.Mapped.{AreMapped, HasRun, IsMapped}
 use Rattle.ideal_wire.specs.Spaced.{AreSpaced}
 use Rattle.ideal_wire.specs.Traces.{placed_from, stage_at}
-use Rattle.ideal_wire.proofs.Begun.{IsDone}
-use Rattle.ideal_wire.proofs.Begun.{begun-bio}
-use Rattle.ideal_wire.proofs.Bios.{bio-paged}
-use Rattle.ideal_wire.proofs.PageTwins.{in-front}
-use Rattle.ideal_wire.proofs.KeptTags.{cut-off, put-off, put-there}
-use Rattle.ideal_wire.proofs.Positions.{found_one}
+use Rattle.ideal_wire.proofs.Loads.Begun.{IsDone}
+use Rattle.ideal_wire.proofs.Loads.Begun.{begun-bio}
+use Rattle.ideal_wire.proofs.Loads.Bios.{bio-paged}
+use Rattle.ideal_wire.proofs.Apart.PageTwins.{in-front}
+use Rattle.ideal_wire.proofs.Tags.KeptTags.{cut-off, put-off, put-there}
+use Rattle.ideal_wire.proofs.Laid.Positions.{found_one}
 use Rattle.ideal_laws.specs.LoadRuns.{AreLoadRuns, IsFrameOf, IsLoadRun}
 use Rattle.ideal_laws.proofs.LiveRuns.{in-none, put-cases, left-cases}
 
@@ -100,9 +105,11 @@ entries-frame : (es : List Entry) (n f : ℕ) → AllByRecursion IsEntry es → 
     HasFrame (entries_addresses es) f
 entries-frame [] n f all e = absurd (cc)
 entries-frame (x ∷ es) n f all e =
-    by (two-parts (map (λ (y : Extent). y.pa.0 / 4096) x.parts) (load_frames es) n f e) (λ k h. entries-frame es k f all.1 h)
+    by (two-parts (map (λ (y : Extent). y.pa.0 / 4096) x.parts) (load_frames es) n f e)
+    (λ k h. entries-frame es k f all.1 h)
   where
-    by : (slice_get (map (λ (y : Extent). y.pa.0 / 4096) x.parts) n ≡ Some f) ⊎ ((k : ℕ) × (slice_get (load_frames es) k ≡ Some f)) →
+    by : (slice_get (map (λ (y : Extent). y.pa.0 / 4096) x.parts) n ≡ Some f)
+        ⊎ ((k : ℕ) × (slice_get (load_frames es) k ≡ Some f)) →
         ((k : ℕ) → slice_get (load_frames es) k ≡ Some f → HasFrame (entries_addresses es) f) →
         HasFrame (entries_addresses (x ∷ es)) f
     by (inl h) rest =
@@ -192,7 +199,8 @@ module _ (l : LaneState) (stands : Stands l) (used : AreLoadRuns l) where
       let u = used t run (runs t run live) in
       stays-load l l' m maps bytes t run u (not-here m off t run u)
 
-  pub puts : (l' : LaneState) (m : ℕ) (x : LaneMap) → l'.maps ≡ insert l.maps m x → ((n : ℕ) → n ≢ m → at n l' ≡ at n l) →
+  pub puts : (l' : LaneState) (m : ℕ) (x : LaneMap) → l'.maps ≡ insert l.maps m x →
+      ((n : ℕ) → n ≢ m → at n l' ≡ at n l) →
       IsUnloaded m → NoneComes l' → AreLoadRuns l'
   puts l' m x maps bytes off runs =
       changes l' m (λ n o ne e. ap (λ ms. get ms n) maps ∙ put-off l.maps m n x ne ∙ e) bytes off runs
@@ -235,7 +243,8 @@ module _ (l : LaneState) (stands : Stands l) (used : AreLoadRuns l) where
             let rest = left-cases first run (l.spaces o.tag).runs live in
             let u = used t run (subst (λ k. Contains (l.spaces k).runs run) (sym (eqb-true t o.tag e)) rest.0) in
             of-another t run u (λ is. rest.1 (sym u.first
-            ∙ ap (λ (q : LaneMap). first_of (segments_in q.stage)) (same-map u.own (ap (get l.maps) (sym is) ∙ u.there))))
+            ∙ ap (λ (q : LaneMap). first_of (segments_in q.stage))
+            (same-map u.own (ap (get l.maps) (sym is) ∙ u.there))))
         by false e live =
             let u = used t run live in
             of-another t run u (λ is. false≢true (sym e ∙ eq-eqb t o.tag (sym u.tag
@@ -299,7 +308,8 @@ module _ (l : LaneState) (stands : Stands l) (used : AreLoadRuns l) where
         ((t ≡ b.o.tag) × (new ≡ run)) ⊎ Contains (l.spaces t).runs run
     live-cases t run live =
         by (t == b.o.tag) refl
-        (subst (λ v. Contains (if v && t == b.o.tag then entered (Some first) (frames b) (l.spaces t) else l.spaces t).runs run)
+        (subst (λ v. Contains (if v && t == b.o.tag then entered (Some first) (frames b) (l.spaces t)
+        else l.spaces t).runs run)
         few live)
       where
         by : (v : Bool) → (t == b.o.tag) ≡ v →
@@ -332,7 +342,8 @@ module _ (l : LaneState) (stands : Stands l) (used : AreLoadRuns l) where
       some =
           let f = has-first (frames b) any in
           let h = new-frames 0 f.0 f.1 in
-          some-segment ss (translated (taking.spaces b.o.tag)) (bounced_in (stage_at taking b.m)) (at b.m taking) h.place
+          some-segment ss (translated (taking.spaces b.o.tag)) (bounced_in (stage_at taking b.m)) (at b.m taking)
+          h.place
           h.byte h.at is-mapped.found
 
       -- a live run of the tag does not begin at page 0
@@ -389,7 +400,8 @@ module _ (l : LaneState) (stands : Stands l) (used : AreLoadRuns l) where
 
   -- a space that is emptied has no run
   emptied-space : (k p t : ℕ) (run : DeviceRun) →
-      Contains (if t == k then record { pages = p; runs = [] } else l.spaces t).runs run → Contains (l.spaces t).runs run
+      Contains (if t == k then record { pages = p; runs = [] } else l.spaces t).runs run →
+      Contains (l.spaces t).runs run
   emptied-space k p t run live = by (t == k) live
     where
       by : (b : Bool) → Contains (if b then record { pages = p; runs = [] } else l.spaces t).runs run →

@@ -6,7 +6,7 @@ use Rattle.std.proofs.lemmas.List.Concat.{flat_map-cons}
 use Rattle.std.specs.Option.{option_map}
 use Rattle.busdma_machine.specs.declared.machine.address.Segment.{Segment}
 use Rattle.busdma_machine.specs.Runs.{run_of}
-use Rattle.busdma_rules.specs.Rings.Ranges.{bus_bytes, holds, place_of}
+use Rattle.busdma_rules.specs.Rings.Ranges.{bus_bytes, segment_holds, place_of}
 
 -- a part of a run that others follow
 run_part : (n k len a : ℕ) (rest : List ℕ) → k + len ≤ n → take len (drop k (run_of a n ++ rest)) ≡ run_of (a + k) len
@@ -40,7 +40,7 @@ both false c h = absurd (cc)
 pub found_bytes : (addr len : ℕ) (segments : List Segment) (at : ℕ) → place_of addr len segments ≡ Some at →
     take len (drop at (bus_bytes segments)) ≡ run_of addr len
 found_bytes addr len [] at e = absurd (cc)
-found_bytes addr len (s ∷ ss) at e = by (λ p q. found_bytes addr len ss p q) (holds addr len s) refl e
+found_bytes addr len (s ∷ ss) at e = by (λ p q. found_bytes addr len ss p q) (segment_holds addr len s) refl e
   where
     run : List ℕ
     run = run_of s.addr.0 s.len
@@ -61,7 +61,7 @@ found_bytes addr len (s ∷ ss) at e = by (λ p q. found_bytes addr len ss p q) 
         ∙ ap (take len) (past_run s.len p s.addr.0 (bus_bytes ss))
         ∙ f p q
 
-    by : Later → (b : Bool) → holds addr len s ≡ b →
+    by : Later → (b : Bool) → segment_holds addr len s ≡ b →
         (if b then Some (addr - s.addr.0) else option_map (λ p. s.len + p) (place_of addr len ss)) ≡ Some at →
         take len (drop at (bus_bytes (s ∷ ss))) ≡ run_of addr len
     by f true h e =

@@ -1,6 +1,7 @@
 -- One more load of a map waits after each load that is answered EINPROGRESS, and one fewer after each call of its
 -- callback.
-use Rattle.std.proofs.Common.{◌≡◌, ℕ, ◌+◌, ◌==◌, Bool, true, false, ◌&&◌, ◌||◌, cond, if◌then◌else◌, List, [], ◌∷◌, length}
+use Rattle.std.proofs.Common.{◌≡◌, ℕ, ◌+◌, ◌==◌, Bool, true, false, ◌&&◌, ◌||◌, cond, if◌then◌else◌, List, [], ◌∷◌}
+use Rattle.std.proofs.Common.{length}
 use Rattle.std.proofs.Common.{Option, Some, None, is_some, slice_get, refl, sym, ap, ◌∙◌, arith, nat_lt}
 use Rattle.std.proofs.lemmas.Bool.{eq-eqb, false≢true, ne_eqb}
 use Rattle.std.proofs.lemmas.List.Sums.{sum_by-cons}
@@ -35,18 +36,23 @@ use Rattle.lane_agreement.specs.After.{addresses_of_pages}
 use Rattle.lane_agreement.specs.View.{Return, is_returning, returning}
 use Rattle.ideal_lane.specs.Asking.{Asking, Gives, Asks, by_reply, goes_on}
 use Rattle.ideal_lane.specs.IdealMemory.{is_known}
-use Rattle.ideal_lane.specs.Loads.{Asked, are_few, asked, chunks_for, device_load, emptied, ended, finished, granted, is_device}
-use Rattle.ideal_lane.specs.Loads.{limits_of, load, load_chunks, load_judged, taken, waiting_load, with_run, with_spaces}
+use Rattle.ideal_lane.specs.Loads.{Asked, are_few, asked, chunks_for, device_load, emptied, ended, finished, granted}
+use Rattle.ideal_lane.specs.Loads.{is_device}
+use Rattle.ideal_lane.specs.Loads.{limits_of, load, load_chunks, load_judged, taken, waiting_load, with_run}
+use Rattle.ideal_lane.specs.Loads.{with_spaces}
 use Rattle.ideal_lane.specs.Outcomes.{Outcome, gives, is_idle, is_loaded}
 use Rattle.ideal_lane.specs.Sends.{Send, chain_bytes, cluster_bytes, copied, due_send, is_kept, resend, send_of}
 use Rattle.ideal_lane.specs.State.{LaneState, LaneMap, Stage, Idle, Waiting, Loaded, Returning, WaitingLoad}
-use Rattle.ideal_lane.specs.Turns.{Turn, Turned, Stepped, Blocked, Ended, advanced, called, called_back, due_turn, is_waiting, kept}
+use Rattle.ideal_lane.specs.Turns.{Turn, Turned, Stepped, Blocked, Ended, advanced, called, called_back, due_turn}
+use Rattle.ideal_lane.specs.Turns.{is_waiting, kept}
 use Rattle.ideal_lane.specs.Turns.{left_queue, load_buffer, never_waits, next_operation, operation, resent}
 use Rattle.ideal_lane.specs.Turns.{bio_at, script_turn, stays, transfer, transfer_turn, waits, waits_in, went_on}
 use Rattle.ideal_lane.specs.Unloads.{after_return, given_back, pages_of, restaged}
 use Rattle.ideal_lane.specs.View.{in_zone, own_map}
-use Rattle.ideal_lane.proofs.Effects.{Work, Operation, Transfer, Callback, Touches, Same, Makes, Touched, Vain, Maps, Creates}
-use Rattle.ideal_lane.proofs.Effects.{Begins, Called, Device, Ends, AtOnce, Granted, Unmaps, Places, Frees, Refuses, Waits, Loads}
+use Rattle.ideal_lane.proofs.Effects.{Work, Operation, Transfer, Callback, Touches, Same, Makes, Touched, Vain, Maps}
+use Rattle.ideal_lane.proofs.Effects.{Creates}
+use Rattle.ideal_lane.proofs.Effects.{Begins, Called, Device, Ends, AtOnce, Granted, Unmaps, Places, Frees, Refuses}
+use Rattle.ideal_lane.proofs.Effects.{Waits, Loads}
 use Rattle.ideal_lane.proofs.Effects.{IsUnwaited, IsUnwaiting, Overflows, Unloads, Unwaited}
 use Rattle.ideal_lane.proofs.Endings.{bounced_in, fits, fitting, segments_of, too_big}
 use Rattle.ideal_lane.proofs.Lookups.{get_cut, get_put, mapped, put_same}
@@ -158,7 +164,8 @@ module _ (m : ℕ) where
           spaced-pends spaces = by (fits l n o at x cs pages)
             where
               by : (b : Bool) →
-                  Pends hit (with_spaces spaces (if b then fitting l n o at x cs pages else too_big l n o at x cs pages))
+                  Pends hit (with_spaces spaces (if b then fitting l n o at x cs pages
+                  else too_big l n o at x cs pages))
               by true = fit-pends
               by false = big-pends
 
@@ -169,7 +176,8 @@ module _ (m : ℕ) where
         taken-pends x None = refused-pends (answer.Refused ENOMEM) refl
         taken-pends x (Some first) =
             spaced-pends l.place x (device_chunks first 0 x.entries) []
-            (with_run (are_few (limits_of l o) (device_chunks first 0 x.entries)) o.tag first (load_frames x.entries) l.spaces)
+            (with_run (are_few (limits_of l o) (device_chunks first 0 x.entries)) o.tag first (load_frames x.entries)
+            l.spaces)
 
         device-pends : (x : Asked) → Pends hit (device_load n o x l)
         device-pends x = by (length (load_frames x.entries) == 0)
@@ -183,7 +191,8 @@ module _ (m : ℕ) where
         queued-pends : (x : Asked) (cs : List Chunk) (have : ℕ) → Pends hit (granted n o x cs l (reply.Queued have))
         queued-pends x cs have =
             ap pend (get_put l.maps n (record o { tried = true; stage = Waiting (waiting_load l x cs) }) m)
-            ∙ mapped pend (m == n) (Some (record o { tried = true; stage = Waiting (waiting_load l x cs) })) (get l.maps m)
+            ∙ mapped pend (m == n) (Some (record o { tried = true; stage = Waiting (waiting_load l x cs) }))
+            (get l.maps m)
             ∙ by (m == n) refl ∙ ap (λ b. pending l + one b) (sym mine)
           where
             by : (b : Bool) → (m == n) ≡ b → cond b 1 (pending l) ≡ pending l + one (n == m)
@@ -348,7 +357,8 @@ module _ (m : ℕ) where
           resend-pends =
               busy l (PendsIn l hit) (report l hit) s.map _ (λ o there idle.
               judged l (PendsIn l hit) (report l hit) (load_judged l s.map (Vector s.clusters)) _ (λ fine.
-              judged l (PendsIn l hit) (report l hit) (cpu_read_answer (is_known l.memory) l.loans (chain_bytes s l)) _ (λ reads.
+              judged l (PendsIn l hit) (report l hit) (cpu_read_answer (is_known l.memory) l.loans (chain_bytes s l)) _
+              (λ reads.
               judged l (PendsIn l hit) (report l hit) (cpu_write_answer l.loans (cluster_bytes s l)) _ (λ writes.
               load-pends (copied s l) hit s.map refl (asked s.map (Vector s.clusters) true s.items (copied s l))))))
 

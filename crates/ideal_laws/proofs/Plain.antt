@@ -18,10 +18,11 @@ use Rattle.busdma_rules.specs.declared.descriptor.Descriptor.{Descriptor}
 use Rattle.busdma_rules.specs.Lending.Access.{cpu_read_answer, cpu_write_answer, dev_read_answer, dev_write_answer}
 use Rattle.busdma_rules.specs.Lending.Access.{dev_read_refusal, dev_write_refusal}
 use Rattle.busdma_rules.specs.Lending.Loans.{load_bytes, loan_of}
-use Rattle.busdma_rules.specs.Lending.Syncing.{sync_answer}
+use Rattle.busdma_rules.specs.Lending.SyncEffects.{sync_answer}
 use Rattle.busdma_rules.specs.Rings.Descriptors.{descriptor_bytes}
 use Rattle.busdma_rules.specs.Tags.SyncOps.{is_mixed}
-use Rattle.ideal_lane.specs.Accesses.{cpu_read, cpu_write, dev_read, dev_read_at, dev_write, dev_write_at, raw_refusal, values}
+use Rattle.ideal_lane.specs.Accesses.{cpu_read, cpu_write, dev_read, dev_read_at, dev_write, dev_write_at, raw_refusal}
+use Rattle.ideal_lane.specs.Accesses.{values}
 use Rattle.ideal_lane.specs.Asking.{Asking, Gives, Asks}
 use Rattle.ideal_lane.specs.IdealMemory.{is_known}
 use Rattle.ideal_lane.specs.Outcomes.{Outcome, gives, load_length, refused, unless_past}
@@ -105,7 +106,8 @@ module _ (l : LaneState) where
   told-plain : (d : Descriptor) (c : Candidate) (after : LaneState) → PlainBy (told d c l) after
   told-plain d c after = by (d.kind == 1)
     where
-      by : (b : Bool) → PlainBy (if b then answer.Bytes (values l (load_bytes l.loans c.map c.off d.len)) else answer.Done) after
+      by : (b : Bool) → PlainBy (if b then answer.Bytes (values l (load_bytes l.loans c.map c.off d.len))
+          else answer.Done) after
       by true = tt
       by false = tt
 

@@ -1,5 +1,6 @@
 -- What a turn whose answer is an errno, or that could make no tag or map, leaves of the world.
-use Rattle.std.proofs.Common.{◌≡◌, ℕ, ◌+◌, Bool, true, false, if◌then◌else◌, List, [], ◌∷◌, drop, Option, Some, None, is_some, refl, sym}
+use Rattle.std.proofs.Common.{◌≡◌, ℕ, ◌+◌, Bool, true, false, if◌then◌else◌, List, [], ◌∷◌, drop, Option, Some, None}
+use Rattle.std.proofs.Common.{is_some, refl, sym}
 use Rattle.std.proofs.Common.{ap, ◌∙◌, subst, slice_get, slice_set}
 use Rattle.std.specs.FinMap.{get}
 use Rattle.std.specs.Option.{option_and_then, option_map, option_map_or}
@@ -34,14 +35,17 @@ use Rattle.ideal_lane.specs.Outcomes.{Outcome}
 use Rattle.ideal_lane.specs.Reported.{behind, gone_on}
 use Rattle.ideal_lane.specs.Sends.{Send, copied, due_send, is_kept, is_too_big, resend, send_at, send_of}
 use Rattle.ideal_lane.specs.State.{LaneState, LaneMap}
-use Rattle.ideal_lane.specs.Turns.{Turn, Turned, Stepped, Blocked, Ended, advanced, at_next, called, called_back, due_turn, kept}
-use Rattle.ideal_lane.specs.Turns.{lane_step, left_queue, next_operation, operation, resent, script_turn, stays, transfer}
+use Rattle.ideal_lane.specs.Turns.{Turn, Turned, Stepped, Blocked, Ended, advanced, at_next, called, called_back}
+use Rattle.ideal_lane.specs.Turns.{due_turn, kept}
+use Rattle.ideal_lane.specs.Turns.{lane_step, left_queue, next_operation, operation, resent, script_turn, stays}
+use Rattle.ideal_lane.specs.Turns.{transfer}
 use Rattle.ideal_lane.specs.Turns.{transfer_turn, waits, went_on}
 use Rattle.ideal_wire.specs.Answered.{Load, load_asked_by}
 use Rattle.ideal_world.specs.WellFormed.{IsWellFormed}
 use Rattle.ideal_world.specs.World.{WorldState, WorldTurned, entry_of, replied, step, step_entry, step_of}
 use Rattle.ideal_world.proofs.Keeping.{fits}
-use Rattle.ideal_laws.specs.Refusals.{IsDeferred, IsTooBig, IsUnmade, Leaves, map_loaded, refused_load, tried_at, tried_by}
+use Rattle.ideal_laws.specs.Refusals.{IsDeferred, IsTooBig, IsUnmade, Leaves, map_loaded, refused_load, tried_at}
+use Rattle.ideal_laws.specs.Refusals.{tried_by}
 use Rattle.ideal_laws.proofs.Leaving.{Agreed, Left, LeftBy, LeftErrno, LeftIn, Loading, OfLoad, OfNone}
 use Rattle.ideal_laws.proofs.Leaving.{loading_map, loading_of, loads-map, of-operation, operation-left}
 use Rattle.ideal_laws.proofs.LeavingAgain.{callback-left, loading_again, loading_called, resend-left}
@@ -130,8 +134,10 @@ module _ (l : LaneState) (a : Account) where
         by None h = h
         by (Some q) h = absurd h
 
-    went-errno : (e : Errno) (after : LaneState) (b : Account) (held : Bool) → is_kept (send_of o) (answer.Refused e) ≡ held →
-        LeftErrno l a (loading_of l a o) a.ready e after b → ErrnoLeaves side.Script (did.Op l.place) e (went held after) b
+    went-errno : (e : Errno) (after : LaneState) (b : Account) (held : Bool) → is_kept (send_of o) (answer.Refused e)
+        ≡ held →
+        LeftErrno l a (loading_of l a o) a.ready e after b → ErrnoLeaves side.Script (did.Op l.place) e
+        (went held after) b
     went-errno errno.EBUSY after b true k h =
         let none : is_kept (send_of o) (answer.Refused errno.EBUSY) ≡ false = unkept (send_of o) _ refl in absurd (cc)
     went-errno errno.EBUSY after b false k h =
@@ -144,7 +150,8 @@ module _ (l : LaneState) (a : Account) where
     went-errno errno.ENOMEM after b false k h = (gone-tried after h.0, h.1)
     went-errno errno.EINPROGRESS after b held k h = h
     went-errno errno.EFBIG after b held k h = λ agreed.
-        of-load (λ q. Overfull l a a.ready q.map after b) (IsTooBig l a (did.Op l.place) (went held after) b) (λ q e f. record {
+        of-load (λ q. Overfull l a a.ready q.map after b) (IsTooBig l a (did.Op l.place) (went held after) b)
+        (λ q e f. record {
           map = q.map;
           loaded = sym maps-same ∙ ap loading_map e;
           own = f.own;
@@ -174,9 +181,11 @@ module _ (l : LaneState) (a : Account) where
             AnswerLeaves side.Script (did.Op l.place) r (went held x.lane) b
         answers (answer.Refused e) held k h = went-errno e x.lane b held k h
         answers (answer.InProgress have need) true k h =
-            let none : is_kept (send_of o) (answer.InProgress have need) ≡ false = unkept (send_of o) _ refl in absurd (cc)
+            let none : is_kept (send_of o) (answer.InProgress have need) ≡ false = unkept (send_of o) _ refl in
+            absurd (cc)
         answers (answer.InProgress have need) false k h =
-            of-load (λ q. Awaits l a q have need x.lane b) (IsDeferred l a have need (at_next l.place x.lane) b) (λ q e f.
+            of-load (λ q. Awaits l a q have need x.lane b) (IsDeferred l a have need (at_next l.place x.lane) b)
+            (λ q e f.
             let same = of-operation l a o q e in record {
               map = q.map;
               own = f.own;
@@ -199,7 +208,8 @@ module _ (l : LaneState) (a : Account) where
             record { limits = r.0; lane = ap (at_next l.place) r.1.0; account = r.1.1 }
         answers _ held k h = tt
 
-        by : (r : Answer) (held : Bool) → is_kept (send_of o) r ≡ held → LeftBy l a (loading_of l a o) a.ready r x.lane b →
+        by : (r : Answer) (held : Bool) → is_kept (send_of o) r ≡ held → LeftBy l a (loading_of l a o) a.ready r x.lane
+            b →
             TurnedLeaves side.Script (if held then kept l.place (record { lane = x.lane; answer = r })
             else advanced l.place (record { lane = x.lane; answer = r })) b
         by r true k h = answers r true k h
@@ -293,8 +303,10 @@ module _ (l : LaneState) (a : Account) where
     where
       refusal : (e : Errno) → PlainErrno l e x.lane →
           ErrnoLeaves side.Transfer (did.Item q.load_at q.place) e (record x.lane { queue = rest }) a
-      refusal errno.EINVAL h =
-          (ap (λ (n : LaneState). record n { queue = rest }) h ∙ ap (λ qs. record l { queue = behind qs }) (sym front), refl)
+      refusal errno.EINVAL h = (
+        ap (λ (n : LaneState). record n { queue = rest }) h ∙ ap (λ qs. record l { queue = behind qs }) (sym front),
+        refl,
+      )
       refusal errno.EFBIG h = absurd h
       refusal errno.ENOMEM h = absurd h
       refusal errno.EINPROGRESS h = absurd h

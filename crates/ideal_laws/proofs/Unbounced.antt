@@ -5,7 +5,8 @@ use Rattle.std.specs.FinMap.{get}
 use Rattle.std.specs.List.{AllByRecursion, AllZip, filter, list_any}
 use Rattle.std.specs.Option.{option_map_or}
 use Rattle.busdma_machine.specs.declared.machine.chunk.Chunk.{Chunk}
-use Rattle.busdma_machine.specs.Machine.Wire.{Placed, Wire, buffers, buses, copied_in, copied_out, is_bounced, put, stretch}
+use Rattle.busdma_machine.specs.Machine.Wire.{Placed, Wire, buffers, buses, copied_in, copied_out, is_bounced, put}
+use Rattle.busdma_machine.specs.Machine.Wire.{stretch}
 use Rattle.busdma_rules.specs.Lending.Loans.{addresses_of, loan_of}
 use Rattle.busdma_rules.specs.Tags.SyncOps.{prewrite, postread}
 use Rattle.ideal_lane.specs.Loads.{is_device}
@@ -14,7 +15,7 @@ use Rattle.ideal_lane.specs.State.{LaneState, LaneMap, LaneTag, Stage, Idle, Wai
 use Rattle.ideal_lane.specs.Syncs.{bounced_in, copies, has_byte_of}
 use Rattle.ideal_wire.specs.Laid.{AreLaid, IsInPage, LiesIn}
 use Rattle.ideal_wire.specs.Traces.{placed_from, stage_at, stage_in, traces_of}
-use Rattle.ideal_wire.specs.WireStep.{synced}
+use Rattle.ideal_wire.specs.WireStep.{wire_synced}
 
 no-chunk : (cs : List Chunk) (pages : List ℕ) → AllZip IsInPage cs pages → pages ≡ [] → cs ≡ []
 no-chunk [] pages paged none = refl
@@ -81,7 +82,7 @@ module _ (l : LaneState) (stands : Stands l) (laid : AreLaid l) (m : ℕ) (o : L
       own : List Placed
       own = placed_from [] 0 addresses
 
-  pub synced-stays : (off len ops : ℕ) (w : Wire) → synced m off len ops l w ≡ w
+  pub synced-stays : (off len ops : ℕ) (w : Wire) → wire_synced m off len ops l w ≡ w
   synced-stays off len ops w = by (loan_of l.loans m).coherent (prewrite ops) (postread ops)
     where
       by : (c p q : Bool) → (if c then w else if p then copied_in (stretch off len (traces_of l m)) w

@@ -1,6 +1,7 @@
 -- In each world to which a scenario's opening leads, each live run belongs to a load and has only bytes of its driver.
 use Rattle.std.proofs.Common.{◌≡◌, ℕ, suc, ◌+◌, ◌-◌, ◌*◌, ◌/◌, ◌%◌, ◌<◌, ◌≤◌, ◌==◌, ◌&&◌, ◌||◌, Bool, true, false}
-use Rattle.std.proofs.Common.{cond, if◌then◌else◌, List, [], ◌∷◌, Option, Some, None, slice_get, nat_le, nat_lt, refl, sym, ap, ◌∙◌, subst}
+use Rattle.std.proofs.Common.{cond, if◌then◌else◌, List, [], ◌∷◌, Option, Some, None, slice_get, nat_le, nat_lt, refl}
+use Rattle.std.proofs.Common.{sym, ap, ◌∙◌, subst}
 use Rattle.std.proofs.Common.{arith}
 use Rattle.std.proofs.lemmas.Bool.{and_parts, eq-eqb, le-leb, leb-true, lt-ltb, ltb-true}
 use Rattle.std.proofs.lemmas.List.Sums.{sum_by-cons}
@@ -40,11 +41,11 @@ use Rattle.ideal_wire.specs.Laid.{AreLaid, IsOwnByte, OfMemory, OfPages}
 use Rattle.ideal_wire.specs.Machine.{IsInMachine}
 use Rattle.ideal_wire.specs.Mapped.{AreMapped}
 use Rattle.ideal_wire.specs.Spaced.{AreSpaced}
-use Rattle.ideal_wire.proofs.Begun.{Again, Next}
-use Rattle.ideal_wire.proofs.Copied.{copied-laid, copied-machine, copied-spaced}
-use Rattle.ideal_wire.proofs.MappedTurns.{turn-mapped}
-use Rattle.ideal_wire.proofs.Placing.{Load, load-of, loadable-own}
-use Rattle.ideal_wire.proofs.Positions.{found_one}
+use Rattle.ideal_wire.proofs.Loads.Begun.{Again, Next}
+use Rattle.ideal_wire.proofs.Faithful.CopiedClusters.{copied-laid, copied-machine, copied-spaced}
+use Rattle.ideal_wire.proofs.Devices.MappedTurns.{turn-mapped}
+use Rattle.ideal_wire.proofs.Faithful.PlacedLoads.{Load, load-of, loadable-own}
+use Rattle.ideal_wire.proofs.Laid.Positions.{found_one}
 use Rattle.ideal_world.specs.Legal.{Leads}
 use Rattle.ideal_world.specs.WellFormed.{IsWellFormed}
 use Rattle.ideal_world.specs.Wires.{EachDriver}
@@ -138,7 +139,8 @@ pub step-used : (s : Scenario) (w : WorldState) (actor : Actor) → IsWellFormed
 step-used s w actor well all =
     each-step (λ i l. AreLoadRuns l) w actor
     (λ l o there. let d = well.each actor.lane.0 l there in
-    turn-used l w.account d.stands d.agrees d.laid d.machine d.spaced (all actor.lane.0 l there) d.mapped actor.side o.reply)
+    turn-used l w.account d.stands d.agrees d.laid d.machine d.spaced (all actor.lane.0 l there) d.mapped actor.side
+    o.reply)
     (λ j n off there. all j n there)
 
 lead-used : (s : Scenario) (w : WorldState) (es : List JournalEntry) (end : WorldState) → IsWellFormed s w → AllUsed w →
@@ -250,7 +252,8 @@ module _ (l : LaneState) (laid : AreLaid l) where
           let same : x.byte / 4096 ≡ byte / 4096 = omega (arith, x.frame, is) in
           own-frame x.byte byte same (load-own u.map x.place x.byte x.at)
 
-pub page-held : (s : Scenario) (w : WorldState) (i : ℕ) (l : LaneState) (t addr byte : ℕ) → IsWellFormed s w → AllUsed w →
+pub page-held : (s : Scenario) (w : WorldState) (i : ℕ) (l : LaneState) (t addr byte : ℕ) → IsWellFormed s w →
+    AllUsed w →
     slice_get w.lanes i ≡ Some l → translated (l.spaces t) addr ≡ Some byte → IsHeld l byte
 page-held s w i l t addr byte well all there e = device-held l (well.each i l there).laid (all i l there) t addr byte e
 

@@ -1,6 +1,7 @@
 -- What was last written to each byte of a driver, by the entries of a journal. The driver's tables say where the bytes
 -- are, and no ideal memory is used.
-use Rattle.std.specs.Prelude.{◌≡◌, ℕ, ◌+◌, ◌==◌, List, [], ◌∷◌, map, length, replicate, Option, Some, None, if◌then◌else◌}
+use Rattle.std.specs.Prelude.{◌≡◌, ℕ, ◌+◌, ◌==◌, List, [], ◌∷◌, map, length, replicate, Option, Some, None}
+use Rattle.std.specs.Prelude.{if◌then◌else◌}
 use Rattle.std.specs.Prelude.{slice_get, unwrap_or}
 use Rattle.std.specs.FinMap.{entries, get}
 use Rattle.std.specs.List.{Contains, filter}

@@ -1,5 +1,6 @@
 -- What a step that bus_dma(9) refuses, or whose load waits, leaves of its driver and of the account.
-use Rattle.std.specs.Prelude.{◌≡◌, ℕ, List, length, take, drop, Option, Some, None, true, if◌then◌else◌, is_some, slice_get, slice_set}
+use Rattle.std.specs.Prelude.{◌≡◌, ℕ, List, length, take, drop, Option, Some, None, true, if◌then◌else◌, is_some}
+use Rattle.std.specs.Prelude.{slice_get, slice_set}
 use Rattle.std.specs.FinMap.{get, insert}
 use Rattle.std.specs.Option.{option_map, option_map_or}
 use Rattle.busdma_machine.specs.declared.bounce.zone.Grown.{Grown}

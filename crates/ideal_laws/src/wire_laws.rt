@@ -16,13 +16,13 @@ ghost use Rattle.ideal_lane.specs.Unloads.{segments_in};
 ghost use Rattle.ideal_wire.specs.Laid.{AreLaid};
 ghost use Rattle.ideal_wire.specs.Mapped.{AreMapped};
 ghost use Rattle.ideal_wire.specs.Spaced.{AreSpaced};
-ghost use Rattle.ideal_wire.specs.WireStep.{load_buses, synced};
+ghost use Rattle.ideal_wire.specs.WireStep.{load_buses, wire_synced};
 ghost use Rattle.ideal_laws.specs.RawReached.{IsJudgedByte};
 
 /// A sync of a load of an IOMMU tag's map copies no byte and is not counted.
 pub fn device_loads_copy_nothing()
     ensures wire { (l : LaneState) (m off len ops : ℕ) (o : LaneMap) (w : Wire) → Stands l → AreLaid l →
-        get l.maps m ≡ Some o → is_device l o ≡ true → synced m off len ops l w ≡ w }
+        get l.maps m ≡ Some o → is_device l o ≡ true → wire_synced m off len ops l w ≡ w }
     ensures counted { (l : LaneState) (m off len ops : ℕ) (o : LaneMap) → Stands l → AreLaid l →
         get l.maps m ≡ Some o → is_device l o ≡ true → copies off len ops o.stage ≡ false }
 {}

@@ -41,7 +41,8 @@ module _ (s : Scenario) (logs : List Log) (history : List HoldEntry) (w : WorldS
     run-well valid = leads-keep s (opening_world s) (merged history logs) w (opens-well s valid) run-leads
 
 -- each hold is of a driver that has a log
-pub few-logged : {Q : Type 0} (s : Scenario) (items : Q → Log) (qs : List Q) (history : List HoldEntry) (w : WorldState) →
+pub few-logged : {Q : Type 0} (s : Scenario) (items : Q → Log) (qs : List Q) (history : List HoldEntry)
+    (w : WorldState) →
     RunsTo s (map items qs) history w → All (λ h. h.lane.0 < length qs) history
 few-logged s items qs history w run =
     All-weaker (λ (h : HoldEntry). h.lane.0 < length (opening_world s).lanes) (λ (h : HoldEntry). h.lane.0 < length qs)

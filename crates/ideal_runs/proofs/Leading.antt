@@ -16,7 +16,8 @@ use Rattle.ideal_world.specs.Ends.{IsAtRest}
 use Rattle.ideal_world.specs.Legal.{IsLegal, Leads, journal_of}
 use Rattle.ideal_world.specs.World.{WorldState, opening_world, step}
 use Rattle.ideal_world.proofs.Lanes.{found, each_set, opening_at}
-use Rattle.ideal_runs.specs.Merged.{AllRun, AreNumbered, all_entries, entries_of, log_of, merged, merged_run}
+use Rattle.ideal_runs.specs.Merged.{AllRun, AreNumbered, all_entries}
+use Rattle.ideal_runs.specs.Merged.{log_entries, log_of, merged, merged_run}
 use Rattle.ideal_runs.specs.Merged.{past_hold, through_hold, world_of}
 use Rattle.ideal_runs.specs.Runs.{Log, Runs}
 use Rattle.ideal_runs.proofs.Logged.{one-hold, no-hold}
@@ -48,14 +49,14 @@ rest-leads done (l ∷ firsts) (m ∷ lasts) (log ∷ logs) a p q numbers run =
     let number : l.id ≡ n = numbers 0 l refl ∙ add-zero n in
     let w : WorldState = world_of (done ++ l ∷ firsts) a in
     let v : WorldState = world_of (done ++ m ∷ firsts) a in
-    let first : Leads w (entries_of log) v = subst (λ ls. Leads w (entries_of log) (world_of ls a))
+    let first : Leads w (log_entries log) v = subst (λ ls. Leads w (log_entries log) (world_of ls a))
     (set-seam done firsts l m)
     (no-hold n m log l w number (get-seam done firsts l) (run 0 l m refl refl)) in
     let longer : (k : ℕ) → length more + k ≡ n + suc k = (λ k. omega (arith, length-append done (m ∷ []))) in
     let later : Leads (world_of (more ++ firsts) a) (all_entries logs) (world_of (more ++ lasts) a) =
     rest-leads more firsts lasts logs a (omega arith) (omega arith)
     (λ k x there. numbers (suc k) x there ∙ sym (longer k)) (λ k x y there end. run (suc k) x y there end) in
-    leads-append w v (world_of (done ++ m ∷ lasts) a) (entries_of log) (all_entries logs) first
+    leads-append w v (world_of (done ++ m ∷ lasts) a) (log_entries log) (all_entries logs) first
     (subst (λ (z : List LaneState × List LaneState). Leads (world_of z.0 a) (all_entries logs) (world_of z.1 a))
     (λ i. (append_assoc done (m ∷ []) firsts i, append_assoc done (m ∷ []) lasts i)) later)
 

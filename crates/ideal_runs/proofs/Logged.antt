@@ -8,7 +8,7 @@ use Rattle.ideal_world.specs.Legal.{Leads}
 use Rattle.ideal_world.specs.World.{WorldState}
 use Rattle.ideal_world.proofs.Lanes.{within, set-here, set_same}
 use Rattle.ideal_runs.specs.declared.logged_step.LoggedStep.TheVariants.{Local, Held}
-use Rattle.ideal_runs.specs.Merged.{entries_of, past_hold, through_hold, world_of}
+use Rattle.ideal_runs.specs.Merged.{log_entries, past_hold, through_hold, world_of}
 use Rattle.ideal_runs.specs.Runs.{Log, Runs}
 use Rattle.ideal_runs.proofs.OneTurn.{leads-first, alone-owned, by-owned, alone-turns, by-turns}
 use Rattle.ideal_runs.proofs.Seams.{set-again}
@@ -58,14 +58,14 @@ module _ (i : ℕ) (m : LaneState) where
 
   pub no-hold : (log : Log) (l : LaneState) (w : WorldState) →
       l.id ≡ i → slice_get w.lanes i ≡ Some l → Runs l log [] m →
-      Leads w (entries_of log) (world_of (slice_set w.lanes i m) w.account)
+      Leads w (log_entries log) (world_of (slice_set w.lanes i m) w.account)
   no-hold [] l w number there run = ap (λ ls. world_of ls w.account) (sym (set_same w.lanes i l m there (sym run)))
   no-hold (Held e ∷ log) l w number there run = absurd run
   no-hold (Local e ∷ log) l w number there run =
       let k : LaneState = run.0 in
       let v : WorldState = world_of (slice_set w.lanes i k) w.account in
-      let more : Leads v (entries_of log) (world_of (slice_set w.lanes i m) w.account) =
-      subst (λ ls. Leads v (entries_of log) (world_of ls w.account)) (set-again w.lanes i k m)
+      let more : Leads v (log_entries log) (world_of (slice_set w.lanes i m) w.account) =
+      subst (λ ls. Leads v (log_entries log) (world_of ls w.account)) (set-again w.lanes i k m)
       (no-hold log k v ((alone-owned l k e run.1).same ∙ number) (put w l k there) run.2) in
-      leads-first w v (world_of (slice_set w.lanes i m) w.account) e (entries_of log)
+      leads-first w v (world_of (slice_set w.lanes i m) w.account) e (log_entries log)
       (alone-turns l k e w i number there run.1) more

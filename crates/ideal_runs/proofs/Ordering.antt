@@ -14,7 +14,8 @@ use Rattle.ideal_lane.specs.State.{LaneState}
 use Rattle.ideal_world.proofs.Lanes.{found}
 use Rattle.ideal_runs.specs.declared.logged_step.LoggedStep.{LoggedStep}
 use Rattle.ideal_runs.specs.declared.logged_step.LoggedStep.TheVariants.{Local, Held}
-use Rattle.ideal_runs.specs.Merged.{AllRun, AreNumbered, all_entries, entries_of, log_of, merged, past_hold, through_hold}
+use Rattle.ideal_runs.specs.Merged.{AllRun, AreNumbered, all_entries, log_entries}
+use Rattle.ideal_runs.specs.Merged.{log_of, merged, past_hold, through_hold}
 use Rattle.ideal_runs.specs.Order.{AreOfDrivers, AreOrdered, HoldsNot, IsRest, driver_of, has_held}
 use Rattle.ideal_runs.specs.Runs.{Log, Runs}
 use Rattle.ideal_runs.proofs.Leading.{other-entry, own-entry}
@@ -59,26 +60,26 @@ merged_steps (h ∷ hs) logs =
     let log : Log = log_of logs h.lane.0 in
     through log ++ merged_steps hs (slice_set logs h.lane.0 (past_hold log))
 
-through-entries : (log : Log) → through_hold log ≡ entries_of (through log)
+through-entries : (log : Log) → through_hold log ≡ log_entries (through log)
 through-entries [] = refl
 through-entries (Local e ∷ log) = ap (λ es. e ∷ es) (through-entries log)
 through-entries (Held e ∷ log) = refl
 
-entries-append : (xs ys : Log) → entries_of xs ++ entries_of ys ≡ entries_of (xs ++ ys)
+entries-append : (xs ys : Log) → log_entries xs ++ log_entries ys ≡ log_entries (xs ++ ys)
 entries-append [] ys = refl
 entries-append (x ∷ xs) ys = grind (arith, entries-append xs ys)
 
-all-entries : (logs : List Log) → all_entries logs ≡ entries_of (all_steps logs)
+all-entries : (logs : List Log) → all_entries logs ≡ log_entries (all_steps logs)
 all-entries [] = refl
-all-entries (log ∷ logs) = ap (λ es. entries_of log ++ es) (all-entries logs) ∙ entries-append log (all_steps logs)
+all-entries (log ∷ logs) = ap (λ es. log_entries log ++ es) (all-entries logs) ∙ entries-append log (all_steps logs)
 
-merged-entries : (hs : List HoldEntry) (logs : List Log) → merged hs logs ≡ entries_of (merged_steps hs logs)
+merged-entries : (hs : List HoldEntry) (logs : List Log) → merged hs logs ≡ log_entries (merged_steps hs logs)
 merged-entries [] logs = all-entries logs
 merged-entries (h ∷ hs) logs =
     let log : Log = log_of logs h.lane.0 in
     let logs' : List Log = slice_set logs h.lane.0 (past_hold log) in
     ap (λ es. es ++ merged hs logs') (through-entries log)
-    ∙ ap (λ es. entries_of (through log) ++ es) (merged-entries hs logs')
+    ∙ ap (λ es. log_entries (through log) ++ es) (merged-entries hs logs')
     ∙ entries-append (through log) (merged_steps hs logs')
 
 past-fits : (i : ℕ) (log : Log) (h : HoldEntry) (hs : List HoldEntry) → Fits i log (h ∷ hs) → Fits i (past_hold log) hs
@@ -420,7 +421,8 @@ counted-fit i (Local e ∷ log) hs all count = (
       (let more = sum_by-cons (λ (s : LoggedStep). cond (has_held s) 1 0) (Local e) log in omega (arith, more, count)),
 )
 counted-fit i (Held e ∷ log) [] all count =
-    absurd (let more = sum_by-cons (λ (s : LoggedStep). cond (has_held s) 1 0) (Held e) log in omega (arith, more, count))
+    absurd (let more = sum_by-cons (λ (s : LoggedStep). cond (has_held s) 1 0) (Held e) log in
+    omega (arith, more, count))
 counted-fit i (Held e ∷ log) (h ∷ hs) all count = (
   All-head (λ (s : LoggedStep). driver_of s ≡ i) (Held e) log all,
   counted-fit i log hs (All-tail (λ (s : LoggedStep). driver_of s ≡ i) (Held e) log all)
@@ -429,4 +431,5 @@ counted-fit i (Held e ∷ log) (h ∷ hs) all count = (
 
 pub logs-ordered : (hs : List HoldEntry) (logs : List Log) → AreOfDrivers hs logs → AreOrdered hs logs (merged hs logs)
 logs-ordered hs logs of =
-    fitting-ordered hs logs of.within (λ i lt. counted-fit i (log_of logs i) (of_lane i hs) (of.own i lt) (of.held i lt))
+    fitting-ordered hs logs of.within (λ i lt. counted-fit i (log_of logs i) (of_lane i hs) (of.own i lt)
+    (of.held i lt))

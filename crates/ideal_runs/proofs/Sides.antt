@@ -8,7 +8,7 @@ use Rattle.ideal_lane.specs.State.{LaneState}
 use Rattle.ideal_lane.specs.Turns.{Turned, Stepped, lane_step}
 use Rattle.ideal_runs.specs.declared.logged_step.LoggedStep.TheVariants.{Local, Held}
 use Rattle.ideal_runs.specs.Runs.{Log, Runs, StepsAlone, StepsBy}
-use Rattle.ideal_runs.specs.Sides.{sides_of, calls_of, replies_of}
+use Rattle.ideal_runs.specs.Sides.{sides_of, hold_calls, replies_of}
 
 abbrev stepped : LaneState → JournalEntry → Turned
 stepped m e = record { lane = m; turn = Stepped e }
@@ -34,7 +34,7 @@ no-call l e f k j h same alone by =
 -- the logs, the calls and the last states of two runs are the same
 pub record AreOne (log log' : Log) (hs hs' : List HoldEntry) (m m' : LaneState) : Type 0 where
   pub steps : log ≡ log'
-  pub calls : calls_of hs ≡ calls_of hs'
+  pub calls : hold_calls hs ≡ hold_calls hs'
   pub last : m ≡ m'
 
 pub runs-agree : (log log' : Log) (hs hs' : List HoldEntry) (l m m' : LaneState) → Runs l log hs m →
@@ -80,6 +80,6 @@ runs-agree (Held e ∷ log) (Held f ∷ log') (h ∷ hs) (g ∷ hs') l m m' r r'
     (subst (λ k. Runs k log' hs' m') (sym (one-lane r.0 r'.0 e f one)) r'.2) tail more in
     record {
       steps = ap (λ x. Held x ∷ log) (one-entry r.0 r'.0 e f one) ∙ ap (λ t. Held f ∷ t) rest.steps;
-      calls = ap (λ c. c ∷ calls_of hs) (ap (λ o. unwrap_or o h.call) called) ∙ ap (λ t. g.call ∷ t) rest.calls;
+      calls = ap (λ c. c ∷ hold_calls hs) (ap (λ o. unwrap_or o h.call) called) ∙ ap (λ t. g.call ∷ t) rest.calls;
       last = rest.last;
     }

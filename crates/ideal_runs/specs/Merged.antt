@@ -25,8 +25,8 @@ logged_entry (Local e) = e
 logged_entry (Held e) = e
 
 -- the entries of a log, in order
-abbrev pub entries_of : Log → List JournalEntry
-entries_of log = map logged_entry log
+abbrev pub log_entries : Log → List JournalEntry
+log_entries log = map logged_entry log
 
 -- the entries of a log up to the first step that held, and that step's
 abbrev pub through_hold : Log → List JournalEntry
@@ -47,7 +47,7 @@ log_of logs i = slice_index_or logs i []
 -- the entries of all logs, driver by driver
 abbrev pub all_entries : List Log → List JournalEntry
 all_entries [] = []
-all_entries (log ∷ logs) = entries_of log ++ all_entries logs
+all_entries (log ∷ logs) = log_entries log ++ all_entries logs
 
 -- the merged journal: for each hold the next entries of its driver, up to the one that held; and at the end the rest,
 -- driver by driver

@@ -6,7 +6,7 @@ use Rattle.busdma_machine.specs.Bounce.LaneEntries.{of_lane}
 use Rattle.busdma_base.specs.declared.journals.journal.JournalEntry.{JournalEntry}
 use Rattle.ideal_runs.specs.declared.logged_step.LoggedStep.{LoggedStep}
 use Rattle.ideal_runs.specs.declared.logged_step.LoggedStep.TheVariants.{Local, Held}
-use Rattle.ideal_runs.specs.Merged.{entries_of, log_of, logged_entry}
+use Rattle.ideal_runs.specs.Merged.{log_entries, log_of, logged_entry}
 use Rattle.ideal_runs.specs.Runs.{Log}
 
 -- the number of a step's driver
@@ -50,4 +50,4 @@ pub record IsInOrder (holds : List HoldEntry) (logs : List Log) (steps : Log) : 
 pub record AreOrdered (holds : List HoldEntry) (logs : List Log) (entries : List JournalEntry) : Type 0 where
   pub steps : Log
   pub order : IsInOrder holds logs steps
-  pub is : entries ≡ entries_of steps
+  pub is : entries ≡ log_entries steps

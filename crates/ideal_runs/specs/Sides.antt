@@ -12,8 +12,8 @@ abbrev pub sides_of : Log → List Side
 sides_of log = map (λ x. (logged_entry x).actor.side) log
 
 -- the calls of these holds, in order
-abbrev pub calls_of : List HoldEntry → List HubCall
-calls_of hs = map (λ h. h.call) hs
+abbrev pub hold_calls : List HoldEntry → List HubCall
+hold_calls hs = map (λ h. h.call) hs
 
 -- the replies of these holds, in order
 abbrev pub replies_of : List HoldEntry → List HubReply

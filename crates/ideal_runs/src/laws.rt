@@ -15,7 +15,7 @@ ghost use Rattle.ideal_runs.specs.FromLogs.{IsFromLogs};
 ghost use Rattle.ideal_runs.specs.Merged.{AllRun, AreNumbered, merged, merged_run, world_of};
 ghost use Rattle.ideal_runs.specs.Order.{AreOfDrivers, AreOrdered};
 ghost use Rattle.ideal_runs.specs.Runs.{Log, Runs};
-ghost use Rattle.ideal_runs.specs.Sides.{calls_of, replies_of, sides_of};
+ghost use Rattle.ideal_runs.specs.Sides.{hold_calls, replies_of, sides_of};
 
 /// The merged journal leads from the world where the drivers begin to the world where their logs end, if each
 /// log runs its driver by the driver's own entries of the history.
@@ -61,7 +61,7 @@ pub fn merged_journals_are_legal()
 pub fn drivers_see_replies_alone()
     ensures { (l : LaneState) (log : Log) (other : Log) (hs : List HoldEntry) (ks : List HoldEntry) (m : LaneState)
         (n : LaneState) → Runs l log hs m → Runs l other ks n → sides_of log ≡ sides_of other →
-        replies_of hs ≡ replies_of ks → (log ≡ other) × (calls_of hs ≡ calls_of ks) × (m ≡ n) }
+        replies_of hs ≡ replies_of ks → (log ≡ other) × (hold_calls hs ≡ hold_calls ks) × (m ≡ n) }
 {}
 
 /// A journal of a run's logs is legal, and keeps each log and the holds in order.

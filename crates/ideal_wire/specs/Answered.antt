@@ -69,14 +69,14 @@ abbrev pub found_at : LaneState → LaneMap → ℕ → Option ℕ
 found_at l o a = if is_device l o then translated (l.spaces o.tag) a else Some a
 
 -- the first device page of a load of these entries, or 0 if the load has no frame or finds no free run
-abbrev pub first_page : LaneState → LaneMap → List Entry → ℕ
-first_page l o es =
+abbrev pub first_device_page : LaneState → LaneMap → List Entry → ℕ
+first_device_page l o es =
     if length (load_frames es) == 0 then 0 else unwrap_or (first_free (l.spaces o.tag) (length (load_frames es))) 0
 
 -- the chunks of a load of a map: in device pages if its tag is an IOMMU tag, else as the x86 bounce code cuts them
 abbrev pub chunks_of_load : LaneState → LaneMap → Bool → List Entry → List Chunk
 chunks_of_load l o memory es =
-    if is_device l o then device_chunks (first_page l o es) 0 es else chunks_for l o memory es
+    if is_device l o then device_chunks (first_device_page l o es) 0 es else chunks_for l o memory es
 
 -- a map is loaded with a bio after a step, and these segments are the bytes of this load, in order, and obey the map's
 -- tag

@@ -18,7 +18,7 @@ IsPlacedAt traces m i t = slice_get (traces m) i ≡ Some t
 -- A Known byte that is lent to write is at the bus address of the position that lends it. A Known byte that is lent
 -- only to read is at the bus address of each position that lends it. A Known byte that is not lent to write is in the
 -- buffer.
-pub record Agrees (memory : IdealMemory) (loans : Loans) (traces : Traces) (w : Wire) : Type 0 where
+pub record HasTrueByte (memory : IdealMemory) (loans : Loans) (traces : Traces) (w : Wire) : Type 0 where
   pub written : (m i : ℕ) (p : Position) (t : Placed) (v : ℕ) → IsAt loans m i p → IsPlacedAt traces m i t →
       p.to_write ≡ true → memory p.pa ≡ Some (Known v) → w t.bus ≡ v
   pub read : (m i : ℕ) (p : Position) (t : Placed) (v : ℕ) → IsAt loans m i p → IsPlacedAt traces m i t →
@@ -37,7 +37,7 @@ pub record IsExclusive (loans : Loans) : Type 0 where
 -- the wire is faithful to an ideal memory and to what is lent of it
 pub record IsFaithfulTo (memory : IdealMemory) (loans : Loans) (traces : Traces) (w : Wire) : Type 0 where
   pub exclusive : IsExclusive loans
-  pub agrees : Agrees memory loans traces w
+  pub agrees : HasTrueByte memory loans traces w
 
 -- the wire of a driver is faithful to its ideal state
 abbrev pub IsFaithful : LaneState → Wire → Type 0

@@ -34,8 +34,8 @@ pub record IsHeld (l : LaneState) (a : ℕ) : Type 0 where
   pub held : holds l by a ≡ true
 
 -- the bus addresses that the segments of a map's load name, in order; a map that is not loaded has none
-abbrev pub bus_addresses : LaneMap → List ℕ
-bus_addresses o = segment_bytes (segments_in o.stage)
+abbrev pub named_addresses : LaneMap → List ℕ
+named_addresses o = segment_bytes (segments_in o.stage)
 
 -- the device of a map finds, at a bus address, a byte that the driver holds
 pub record FindsHeld (l : LaneState) (o : LaneMap) (bus : ℕ) : Type 0 where

@@ -20,7 +20,7 @@ use Rattle.busdma_machine.specs.Tags.Tag.{excluded}
 use Rattle.busdma_rules.specs.Memory.Bios.{bio_translation, is_rounded}
 use Rattle.busdma_rules.specs.declared.position.Position.{Position}
 use Rattle.busdma_rules.specs.Lending.Loans.{addresses_of, loan_of, no_loan}
-use Rattle.busdma_rules.specs.Syncs.Traces.{HasChunks}
+use Rattle.busdma_rules.specs.Syncs.ChunkTraces.{HasChunks}
 use Rattle.busdma_rules.specs.Memory.Translation.{Translation}
 use Rattle.busdma_rules.specs.Memory.Vectors.{entries_of}
 use Rattle.busdma_rules.specs.Segments.Chunks.{need_of}

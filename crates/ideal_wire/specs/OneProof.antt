@@ -31,7 +31,7 @@ use Rattle.busdma_base.specs.Scenarios.Operations.{about}
 use Rattle.busdma_base.specs.Scenarios.Valid.{LoadsFrom}
 use Rattle.busdma_rules.specs.contracts.position.Position as position
 use Rattle.busdma_rules.specs.Lending.Loans.{Loan}
-use Rattle.busdma_rules.specs.Syncs.Traces.{HasChunk, HasChunks}
+use Rattle.busdma_rules.specs.Syncs.ChunkTraces.{HasChunk, HasChunks}
 use Rattle.busdma_rules.specs.Segments.Trace.{chunk_len}
 use Rattle.ideal_lane.specs.State.{LaneState, Stage, Idle, Waiting, Loaded, Returning}
 use Rattle.ideal_wire.specs.Answered.{Load}

@@ -4,7 +4,7 @@ use Rattle.std.specs.FinMap.{get}
 use Rattle.std.specs.Option.{option_map_or}
 use Rattle.busdma_machine.specs.declared.tags.tag.TagLimits.{TagLimits}
 use Rattle.busdma_machine.specs.Tags.TagFlags.{keep_pg_offset}
-use Rattle.busdma_rules.specs.Iommu.Space.{AreRuns, Space}
+use Rattle.busdma_rules.specs.Iommu.Space.{AreSpaceRuns, Space}
 use Rattle.ideal_lane.specs.State.{LaneState, LaneTag, no_space}
 
 -- a tag's address space is in order: the tag asks for no alignment and keeps no offsets, its device reaches no page
@@ -13,7 +13,7 @@ pub record IsSpaced (t : TagLimits) (s : Space) : Type 0 where
   pub alignment : t.alignment ≡ 1
   pub flags : keep_pg_offset t.flags ≡ false
   pub reached : 4096 * s.pages ≤ t.lowaddr.0 + 1
-  pub runs : AreRuns 1 s.pages s.runs
+  pub runs : AreSpaceRuns 1 s.pages s.runs
 
 -- there is an IOMMU tag at a place
 abbrev pub is_spaced : LaneState → ℕ → Bool

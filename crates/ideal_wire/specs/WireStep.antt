@@ -1,6 +1,7 @@
 -- What the steps of a driver make of its wire. Pages and the frames of memories come with any bytes, but with zeros if
 -- zeros were asked for. Those that go leave the wire, and nothing is said here of the bytes that they take along.
-use Rattle.std.specs.Prelude.{◌≡◌, ℕ, ◌+◌, ◌==◌, Bool, true, false, List, [], ◌∷◌, Option, Some, None, map, length, replicate}
+use Rattle.std.specs.Prelude.{◌≡◌, ℕ, ◌+◌, ◌==◌, Bool, true, false, List, [], ◌∷◌, Option, Some, None, map, length}
+use Rattle.std.specs.Prelude.{replicate}
 use Rattle.std.specs.Prelude.{if◌then◌else◌, is_some, slice_get, unwrap_or}
 use Rattle.std.specs.Ordering.{nat_cmp}
 use Rattle.std.specs.FinMap.{FinMap, get}
@@ -58,43 +59,43 @@ abbrev pub copied_by : ℕ → List Placed → Wire → Wire
 copied_by ops ps w = if prewrite ops then copied_in ps w else if postread ops then copied_out ps w else w
 
 -- the wire after a sync of a range of a map's load that is done; a sync of a coherent map copies nothing
-abbrev pub synced : ℕ → ℕ → ℕ → ℕ → LaneState → Wire → Wire
-synced m off len ops l w =
+abbrev pub wire_synced : ℕ → ℕ → ℕ → ℕ → LaneState → Wire → Wire
+wire_synced m off len ops l w =
     if (loan_of l.loans m).coherent then w else copied_by ops (stretch off len (traces_of l m)) w
 
 -- the wire after a sync of the complete load of a map
-abbrev pub sync : ℕ → ℕ → LaneState → Wire → Wire
-sync m ops l w = if_done (syncs.sync m ops l) (synced m 0 (load_length l m) ops l w) w
+abbrev pub wire_sync : ℕ → ℕ → LaneState → Wire → Wire
+wire_sync m ops l w = if_done (syncs.sync m ops l) (wire_synced m 0 (load_length l m) ops l w) w
 
 -- the wire after a sync of a range of a map's load
-abbrev pub sync_range : ℕ → ℕ → ℕ → ℕ → LaneState → Wire → Wire
-sync_range m off len ops l w = if_done (syncs.sync_range m off len ops l) (synced m off len ops l w) w
+abbrev pub wire_sync_range : ℕ → ℕ → ℕ → ℕ → LaneState → Wire → Wire
+wire_sync_range m off len ops l w = if_done (syncs.sync_range m off len ops l) (wire_synced m off len ops l w) w
 
 -- the physical addresses of the bytes at a place
 abbrev pub place_bytes : LaneState → Place → ℕ → List ℕ
 place_bytes l place len = bytes_at l (run_of (unwrap_or (virtual_at l place) 0) len)
 
 -- the wire after the driver writes the bytes at a place
-abbrev pub cpu_write : Place → List ℕ → LaneState → Wire → Wire
-cpu_write place vs l w = if_done (accesses.cpu_write place vs l) (put (place_bytes l place (length vs)) vs w) w
+abbrev pub wire_cpu_write : Place → List ℕ → LaneState → Wire → Wire
+wire_cpu_write place vs l w = if_done (accesses.cpu_write place vs l) (put (place_bytes l place (length vs)) vs w) w
 
 -- the bus addresses of a range of a map's load, in order
 abbrev pub load_buses : LaneState → ℕ → ℕ → ℕ → List ℕ
 load_buses l m off len = buses (stretch off len (traces_of l m))
 
 -- the wire after the device writes the bytes of a range of a map's load
-abbrev pub dev_write : ℕ → ℕ → List ℕ → LaneState → Wire → Wire
-dev_write m off vs l w = if_done (accesses.dev_write m off vs l) (put (load_buses l m off (length vs)) vs w) w
+abbrev pub wire_dev_write : ℕ → ℕ → List ℕ → LaneState → Wire → Wire
+wire_dev_write m off vs l w = if_done (accesses.dev_write m off vs l) (put (load_buses l m off (length vs)) vs w) w
 
 -- the wire after the device of an IOMMU tag writes bytes at device addresses: they are written to the buffers' own
 -- bytes, because no load of such a tag bounces
-abbrev pub dev_write_at : ℕ → ℕ → List ℕ → LaneState → Wire → Wire
-dev_write_at t addr vs l w =
+abbrev pub wire_dev_write_at : ℕ → ℕ → List ℕ → LaneState → Wire → Wire
+wire_dev_write_at t addr vs l w =
     if_done (accesses.dev_write_at t addr vs l) (put (accesses.raw_bytes l t (run_of addr (length vs))) vs w) w
 
 -- the wire after the driver writes a descriptor into a slot of a ring
-abbrev pub ring_post : ℕ → ℕ → ℕ → ℕ → ℕ → ℕ → ℕ → LaneState → Wire → Wire
-ring_post k slot m off len kind fill l w =
+abbrev pub wire_ring_post : ℕ → ℕ → ℕ → ℕ → ℕ → ℕ → ℕ → LaneState → Wire → Wire
+wire_ring_post k slot m off len kind fill l w =
     if_done (rings.ring_post k slot m off len kind fill l)
     (put (place_bytes l (rings.slot_place (rings.ring_of l k) slot) 16)
     (descriptor_bytes (rings.posted (segments_in (stage_at l m)) off len kind fill)) w) w
@@ -123,43 +124,43 @@ if_step_done (Gives o) after w = if_fetched o.answer after w
 if_step_done (Asks c k) after w = w
 
 -- the wire after a step of a ring
-abbrev pub ring_step : ℕ → LaneState → Wire → Wire
-ring_step k l w = if_step_done (rings.ring_step k l) (fetched_wire (rings.ring_of l k) l w) w
+abbrev pub wire_ring_step : ℕ → LaneState → Wire → Wire
+wire_ring_step k l w = if_step_done (rings.ring_step k l) (fetched_wire (rings.ring_of l k) l w) w
 
 -- the wire after an operation; only syncs, writes of the driver and posts change a byte
-abbrev pub operation : Op → LaneState → Wire → Wire
-operation (op.Tag name parent limits) l w = w
-operation (op.IommuTag name limits) l w = w
-operation (op.TagDestroy tag) l w = w
-operation (op.Map name tag) l w = w
-operation (op.MapDestroy map) l w = w
-operation (op.Dmamem name tag flags) l w = w
-operation (op.DmamemFree mem) l w = w
-operation (op.Load map buffer flags items) l w = w
-operation (op.Unload map) l w = w
-operation (op.Sync map ops) l w = sync map ops l w
-operation (op.SyncRange map off len ops) l w = sync_range map off len ops l w
-operation (op.CpuRead place len) l w = w
-operation (op.CpuWrite place bytes) l w = cpu_write place (bytes_of bytes) l w
-operation (op.Await map) l w = w
-operation (op.Ring name mem slots) l w = w
-operation (op.RingPost ring slot map off len kind fill) l w = ring_post ring slot map off len kind fill l w
-operation (op.Kick ring steps) l w = w
+abbrev pub wire_operation : Op → LaneState → Wire → Wire
+wire_operation (op.Tag name parent limits) l w = w
+wire_operation (op.IommuTag name limits) l w = w
+wire_operation (op.TagDestroy tag) l w = w
+wire_operation (op.Map name tag) l w = w
+wire_operation (op.MapDestroy map) l w = w
+wire_operation (op.Dmamem name tag flags) l w = w
+wire_operation (op.DmamemFree mem) l w = w
+wire_operation (op.Load map buffer flags items) l w = w
+wire_operation (op.Unload map) l w = w
+wire_operation (op.Sync map ops) l w = wire_sync map ops l w
+wire_operation (op.SyncRange map off len ops) l w = wire_sync_range map off len ops l w
+wire_operation (op.CpuRead place len) l w = w
+wire_operation (op.CpuWrite place bytes) l w = wire_cpu_write place (bytes_of bytes) l w
+wire_operation (op.Await map) l w = w
+wire_operation (op.Ring name mem slots) l w = w
+wire_operation (op.RingPost ring slot map off len kind fill) l w = wire_ring_post ring slot map off len kind fill l w
+wire_operation (op.Kick ring steps) l w = w
 
 -- the wire after an item
-abbrev pub transfer : Item → LaneState → Wire → Wire
-transfer (item.Sync map ops) l w = sync map ops l w
-transfer (item.SyncRange map off len ops) l w = sync_range map off len ops l w
-transfer (item.DevRead map off len) l w = w
-transfer (item.DevWrite map off bytes) l w = dev_write map off (bytes_of bytes) l w
-transfer (item.DevReadAt tag addr len) l w = w
-transfer (item.DevWriteAt tag addr bytes) l w = dev_write_at tag addr (bytes_of bytes) l w
-transfer (item.RingStep ring) l w = ring_step ring l w
+abbrev pub wire_transfer : Item → LaneState → Wire → Wire
+wire_transfer (item.Sync map ops) l w = wire_sync map ops l w
+wire_transfer (item.SyncRange map off len ops) l w = wire_sync_range map off len ops l w
+wire_transfer (item.DevRead map off len) l w = w
+wire_transfer (item.DevWrite map off bytes) l w = wire_dev_write map off (bytes_of bytes) l w
+wire_transfer (item.DevReadAt tag addr len) l w = w
+wire_transfer (item.DevWriteAt tag addr bytes) l w = wire_dev_write_at tag addr (bytes_of bytes) l w
+wire_transfer (item.RingStep ring) l w = wire_ring_step ring l w
 
 -- the wire after the next operation of the script, if there is one and it does not wait
-abbrev pub next_operation : Option Op → LaneState → Wire → Wire
-next_operation None l w = w
-next_operation (Some o) l w = if waits o l then w else operation o l w
+abbrev pub wire_next_operation : Option Op → LaneState → Wire → Wire
+wire_next_operation None l w = w
+wire_next_operation (Some o) l w = if waits o l then w else wire_operation o l w
 
 -- the wire after a step that changes it, unless the judgement before the step is a refusal
 abbrev pub if_fine : Judged → Wire → Wire → Wire
@@ -167,8 +168,8 @@ if_fine Fine after w = after
 if_fine (Refused r) after w = w
 
 -- the wire in which the clusters of a send have the bytes of its chain, in order
-abbrev pub copied : Send → LaneState → Wire → Wire
-copied s l w = put (cluster_bytes s l) (map w (chain_bytes s l)) w
+abbrev pub wire_copied : Send → LaneState → Wire → Wire
+wire_copied s l w = put (cluster_bytes s l) (map w (chain_bytes s l)) w
 
 -- a map exists and is idle
 abbrev pub is_free : Option LaneMap → Bool
@@ -176,33 +177,33 @@ is_free None = false
 is_free (Some o) = is_idle o.stage
 
 -- the wire after a resend: unless it was refused before, it has copied, whatever comes of the load of the clusters
-abbrev pub resend : Send → LaneState → Wire → Wire
-resend s l w =
+abbrev pub wire_resend : Send → LaneState → Wire → Wire
+wire_resend s l w =
     if is_free (get l.maps s.map) then (
     if_fine (load_judged l s.map (Vector s.clusters)) (
     if_fine (cpu_read_answer (is_known l.memory) l.loans (chain_bytes s l)) (
-    if_fine (cpu_write_answer l.loans (cluster_bytes s l)) (copied s l w) w) w) w) else w
+    if_fine (cpu_write_answer l.loans (cluster_bytes s l)) (wire_copied s l w) w) w) w) else w
 
 -- the wire after the resend that is due, or else after the next operation
-abbrev pub due_turn : Option Send → LaneState → Wire → Wire
-due_turn None l w = next_operation (slice_get l.script l.place) l w
-due_turn (Some s) l w = resend s l w
+abbrev pub wire_due_turn : Option Send → LaneState → Wire → Wire
+wire_due_turn None l w = wire_next_operation (slice_get l.script l.place) l w
+wire_due_turn (Some s) l w = wire_resend s l w
 
 -- the wire after the script's turn, in which pages go back first
-abbrev pub script_turn : List Return → LaneState → Wire → Wire
-script_turn [] l w = due_turn (due_send l) l w
-script_turn (r ∷ rest) l w = w
+abbrev pub wire_script_turn : List Return → LaneState → Wire → Wire
+wire_script_turn [] l w = wire_due_turn (due_send l) l w
+wire_script_turn (r ∷ rest) l w = w
 
 -- the wire after the first item of the transfer queue, if there is one
-abbrev pub transfer_turn : List QueuedItem → LaneState → Wire → Wire
-transfer_turn [] l w = w
-transfer_turn (q ∷ rest) l w = transfer q.item l w
+abbrev pub wire_transfer_turn : List QueuedItem → LaneState → Wire → Wire
+wire_transfer_turn [] l w = w
+wire_transfer_turn (q ∷ rest) l w = wire_transfer q.item l w
 
 -- the wire after the turn of a side
-abbrev pub lane_step : LaneState → Side → Wire → Wire
-lane_step l side.Script w = script_turn l.returns l w
-lane_step l side.Transfer w = transfer_turn l.queue l w
-lane_step l side.Callback w = w
+abbrev pub wire_lane_step : LaneState → Side → Wire → Wire
+wire_lane_step l side.Script w = wire_script_turn l.returns l w
+wire_lane_step l side.Transfer w = wire_transfer_turn l.queue l w
+wire_lane_step l side.Callback w = w
 
 -- What comes and goes
 

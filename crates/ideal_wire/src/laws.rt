@@ -51,7 +51,7 @@ ghost use Rattle.ideal_wire.specs.Accepted.{ArePagesFor, IfSegments, IsAcceptedL
 ghost use Rattle.ideal_wire.specs.Answered.{AnswersLoads, found_at};
 ghost use Rattle.ideal_wire.specs.Apart.{IsApart};
 ghost use Rattle.ideal_wire.specs.Centre.{IsFaithful};
-ghost use Rattle.ideal_wire.specs.Held.{FindsHeld, Holder, bus_addresses, holds};
+ghost use Rattle.ideal_wire.specs.Held.{FindsHeld, Holder, named_addresses, holds};
 ghost use Rattle.ideal_wire.specs.Laid.{AreLaid, KeepsLaid};
 ghost use Rattle.ideal_wire.specs.Machine.{IsInMachine};
 ghost use Rattle.ideal_wire.specs.Mapped.{AreMapped};
@@ -78,7 +78,7 @@ pub fn opening_is_faithful()
 pub fn step_stays_faithful()
     ensures { (l : LaneState) (s : Side) (a : Account) (r : HubReply) (w w' : Wire) →
         Stands l → AgreesWith l a → AreLaid l → AreSpaced l → AreMapped l → IsFaithful l w → BringsNew l r →
-        Follows l (by_reply (lane_step l s) r).lane (wire.lane_step l s w) w' →
+        Follows l (by_reply (lane_step l s) r).lane (wire.wire_lane_step l s w) w' →
         IsFaithful (by_reply (lane_step l s) r).lane w' }
 {}
 
@@ -130,7 +130,7 @@ pub fn holdings_are_apart()
         AgreesWith l a → Stands l → AreLaid l → AgreesWith k a → Stands k → AreLaid k → l.id ≢ k.id →
         (is_own l.pages b ≡ true → is_own k.pages b ≡ false) → holds l by b ≡ true → holds k other b ≡ false }
     ensures found { (l : LaneState) (m : ℕ) (o : LaneMap) (n bus : ℕ) → AreLaid l → AreMapped l →
-        get l.maps m ≡ Some o → slice_get (bus_addresses o) n ≡ Some bus → FindsHeld l o bus }
+        get l.maps m ≡ Some o → slice_get (named_addresses o) n ≡ Some bus → FindsHeld l o bus }
 {}
 
 /// A sync, a write, a post to a ring or a step of its device leaves a faithful wire faithful if what the driver holds
@@ -140,26 +140,26 @@ pub fn holdings_are_apart()
 pub fn calls_stay_faithful()
     ensures sync { (l : LaneState) (w : Wire) (m ops : ℕ) (r : HubReply) →
         IsApart l → AreLaid l → IsFaithful l w →
-        IsFaithful (by_reply (sync m ops l) r).lane (wire.sync m ops l w) }
+        IsFaithful (by_reply (sync m ops l) r).lane (wire.wire_sync m ops l w) }
     ensures sync_range { (l : LaneState) (w : Wire) (m off len ops : ℕ) (r : HubReply) →
         IsApart l → AreLaid l → IsFaithful l w →
-        IsFaithful (by_reply (sync_range m off len ops l) r).lane (wire.sync_range m off len ops l w) }
+        IsFaithful (by_reply (sync_range m off len ops l) r).lane (wire.wire_sync_range m off len ops l w) }
     ensures cpu_write { (l : LaneState) (w : Wire) (place : Place) (vs : List ℕ) (r : HubReply) →
         IsApart l → AreLaid l → IsFaithful l w →
-        IsFaithful (by_reply (cpu_write place vs l) r).lane (wire.cpu_write place vs l w) }
+        IsFaithful (by_reply (cpu_write place vs l) r).lane (wire.wire_cpu_write place vs l w) }
     ensures dev_write { (l : LaneState) (w : Wire) (m off : ℕ) (vs : List ℕ) (r : HubReply) →
         IsApart l → AreLaid l → IsFaithful l w →
-        IsFaithful (by_reply (dev_write m off vs l) r).lane (wire.dev_write m off vs l w) }
+        IsFaithful (by_reply (dev_write m off vs l) r).lane (wire.wire_dev_write m off vs l w) }
     ensures dev_write_at { (l : LaneState) (w : Wire) (t addr : ℕ) (vs : List ℕ) (r : HubReply) →
         IsApart l → Stands l → AreLaid l → AreSpaced l → AreMapped l → IsFaithful l w →
-        IsFaithful (by_reply (dev_write_at t addr vs l) r).lane (wire.dev_write_at t addr vs l w) }
+        IsFaithful (by_reply (dev_write_at t addr vs l) r).lane (wire.wire_dev_write_at t addr vs l w) }
     ensures ring_post { (l : LaneState) (w : Wire) (k slot m off len kind fill : ℕ) (r : HubReply) →
         IsApart l → AreLaid l → IsFaithful l w →
         IsFaithful (by_reply (ring_post k slot m off len kind fill l) r).lane
-        (wire.ring_post k slot m off len kind fill l w) }
+        (wire.wire_ring_post k slot m off len kind fill l w) }
     ensures ring_step { (l : LaneState) (w : Wire) (k : ℕ) (r : HubReply) →
         IsApart l → Stands l → AreLaid l → IsFaithful l w →
-        IsFaithful (by_reply (ring_step k l) r).lane (wire.ring_step k l w) }
+        IsFaithful (by_reply (ring_step k l) r).lane (wire.wire_ring_step k l w) }
 {}
 
 /// What is really read is what the ideal memory has if what the driver holds is apart, its loads are laid and its wire

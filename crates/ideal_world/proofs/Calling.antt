@@ -10,7 +10,7 @@ use Rattle.busdma_base.specs.declared.journals.journal.JournalEntry.{JournalEntr
 use Rattle.busdma_base.specs.declared.scenarios.scenario.Scenario.{Scenario}
 use Rattle.busdma_base.specs.Scenarios.Opening.{maxmem_of}
 use Rattle.ideal_lane.specs.Asking.{by_reply}
-use Rattle.ideal_lane.specs.Callbacks.{calls, Made, IsRun}
+use Rattle.ideal_lane.specs.Callbacks.{calls, MadeStep as Made, IsRun}
 use Rattle.ideal_lane.specs.Callbacks as own
 use Rattle.ideal_lane.specs.State.{LaneState}
 use Rattle.ideal_lane.specs.Turns.{Turn, Turned, Stepped, Blocked, Ended, lane_step}
@@ -19,9 +19,9 @@ use Rattle.ideal_lane.specs.Resends as runs
 use Rattle.ideal_lane.specs.Resends.{is_operation, is_resend}
 use Rattle.ideal_lane.proofs.Calling.{called-once}
 use Rattle.ideal_lane.proofs.Resent.{operation-once, resend-once}
-use Rattle.ideal_world.specs.Callbacks.{called_by, times_called}
+use Rattle.ideal_world.specs.Callbacks.{entry_calls, times_called}
 use Rattle.ideal_world.specs.Legal.{Leads}
-use Rattle.ideal_world.specs.Resends.{done_by, times_done}
+use Rattle.ideal_world.specs.Resends.{entry_does, times_done}
 use Rattle.ideal_world.specs.World.{WorldState, step, step_of, entry_of, step_entry, opening_world}
 use Rattle.ideal_world.proofs.Lanes.{opening_at}
 use Rattle.ideal_world.proofs.Turns.{OwnStep, own-step, other-step, still}
@@ -31,12 +31,12 @@ use Rattle.ideal_world.proofs.Turns.{OwnStep, own-step, other-step, still}
 record Follows (i p : ℕ) (chosen : Did → Bool) (w : WorldState) (es : List JournalEntry) (l : LaneState) : Type 0 where
   made : List Made
   run : IsRun l made
-  times : times_called i p w es ≡ own.times_called p l made
-  done : times_done chosen i es ≡ runs.times_done chosen made
+  times : times_called i p w es ≡ own.times_called_in_run p l made
+  done : times_done chosen i es ≡ runs.times_done_in_run chosen made
 
 -- a turn that is a step calls the callback that its entry calls
 counted : (p : ℕ) (l : LaneState) (t : Turn) (e : JournalEntry) → entry_of t ≡ Some e →
-    own.called_by p l t ≡ (if calls p l e.did e.answer then 1 else 0)
+    own.turn_calls p l t ≡ (if calls p l e.did e.answer then 1 else 0)
 counted p l (Stepped entry) e h =
     let same : entry ≡ e = cc in ap (λ (x : JournalEntry). if calls p l x.did x.answer then 1 else 0) same
 counted p l Blocked e h = absurd (cc)
@@ -44,7 +44,7 @@ counted p l Ended e h = absurd (cc)
 
 -- a turn that is a step does what its entry did
 did-counted : (chosen : Did → Bool) (t : Turn) (e : JournalEntry) → entry_of t ≡ Some e →
-    runs.done_by chosen t ≡ (if chosen e.did then 1 else 0)
+    runs.turn_does chosen t ≡ (if chosen e.did then 1 else 0)
 did-counted chosen (Stepped entry) e h =
     let same : entry ≡ e = cc in ap (λ (x : JournalEntry). if chosen x.did then 1 else 0) same
 did-counted chosen Blocked e h = absurd (cc)
@@ -55,17 +55,17 @@ nobody : (i p : ℕ) (w : WorldState) (es : List JournalEntry) (end : WorldState
     slice_get w.lanes i ≡ None → times_called i p w es ≡ 0
 nobody i p w [] end h none = refl
 nobody i p w (e ∷ es) end h none =
-    let first : called_by i p e (slice_get w.lanes i) ≡ 0 = ap (called_by i p e) none in
+    let first : entry_calls i p e (slice_get w.lanes i) ≡ 0 = ap (entry_calls i p e) none in
     omega (arith, first, nobody i p (step w e.actor).world es end h.1 (still w e.actor i none))
 
 nobody-did : (i : ℕ) (chosen : Did → Bool) (w : WorldState) (es : List JournalEntry) (end : WorldState) →
     Leads w es end → slice_get w.lanes i ≡ None → times_done chosen i es ≡ 0
 nobody-did i chosen w [] end h none = refl
 nobody-did i chosen w (e ∷ es) end h none =
-    let first : done_by chosen i e ≡ 0 = by (e.actor.lane.0 == i) refl in
+    let first : entry_does chosen i e ≡ 0 = by (e.actor.lane.0 == i) refl in
     omega (
       arith,
-      sum_by-cons (λ x. done_by chosen i x) e es,
+      sum_by-cons (λ x. entry_does chosen i x) e es,
       first,
       nobody-did i chosen (step w e.actor).world es end h.1 (still w e.actor i none),
     )
@@ -86,11 +86,11 @@ module _ (i p : ℕ) (chosen : Did → Bool) where
       Follows i p chosen w (e ∷ es) l
   mine w e es l o is there q f =
       let t : Turned = by_reply (lane_step l e.actor.side) o.reply in
-      let entry : called_by i p e (Some l) ≡ (if calls p l e.did e.answer then 1 else 0) =
+      let entry : entry_calls i p e (Some l) ≡ (if calls p l e.did e.answer then 1 else 0) =
       ap (λ b. if b && calls p l e.did e.answer then 1 else 0) q in
-      let first : called_by i p e (slice_get w.lanes i) ≡ own.called_by p l t.turn =
-      ap (called_by i p e) there ∙ (entry ∙ sym (counted p l t.turn e (sym (ap entry_of o.turn) ∙ is))) in
-      let did : done_by chosen i e ≡ runs.done_by chosen t.turn =
+      let first : entry_calls i p e (slice_get w.lanes i) ≡ own.turn_calls p l t.turn =
+      ap (entry_calls i p e) there ∙ (entry ∙ sym (counted p l t.turn e (sym (ap entry_of o.turn) ∙ is))) in
+      let did : entry_does chosen i e ≡ runs.turn_does chosen t.turn =
       ap (λ b. if b && chosen e.did then 1 else 0) q
       ∙ sym (did-counted chosen t.turn e (sym (ap entry_of o.turn) ∙ is)) in
       record {
@@ -100,8 +100,8 @@ module _ (i p : ℕ) (chosen : Did → Bool) where
         done =
             omega (
               arith,
-              sum_by-cons (λ x. done_by chosen i x) e es,
-              sum_by-cons (λ (m : Made). runs.done_by chosen m.turned.turn)
+              sum_by-cons (λ x. entry_does chosen i x) e es,
+              sum_by-cons (λ (m : Made). runs.turn_does chosen m.turned.turn)
                   (record { side = e.actor.side; reply = o.reply; turned = t }) f.made,
               did,
               f.done,
@@ -113,14 +113,14 @@ module _ (i p : ℕ) (chosen : Did → Bool) where
       slice_get w.lanes i ≡ Some l → (e.actor.lane.0 == i) ≡ false → Follows i p chosen (step w e.actor).world es l →
       Follows i p chosen w (e ∷ es) l
   others w e es l there q f =
-      let first : called_by i p e (slice_get w.lanes i) ≡ 0 =
-      ap (called_by i p e) there ∙ ap (λ b. if b && calls p l e.did e.answer then 1 else 0) q in
-      let did : done_by chosen i e ≡ 0 = ap (λ b. if b && chosen e.did then 1 else 0) q in
+      let first : entry_calls i p e (slice_get w.lanes i) ≡ 0 =
+      ap (entry_calls i p e) there ∙ ap (λ b. if b && calls p l e.did e.answer then 1 else 0) q in
+      let did : entry_does chosen i e ≡ 0 = ap (λ b. if b && chosen e.did then 1 else 0) q in
       record {
         made = f.made;
         run = f.run;
         times = omega (arith, first, f.times);
-        done = omega (arith, sum_by-cons (λ x. done_by chosen i x) e es, did, f.done);
+        done = omega (arith, sum_by-cons (λ x. entry_does chosen i x) e es, did, f.done);
       }
 
   follows : (w : WorldState) (es : List JournalEntry) (end : WorldState) (l : LaneState) → Leads w es end →
@@ -154,12 +154,12 @@ called-at-most-once s es end i p h = by (slice_get (opening_world s).lanes i) re
         let o = opening_at 0 (maxmem_of s.frames) s.drivers i l e in
         let run = subst (λ k. IsRun k f.made) o.opens f.run in
         let once = called-once p (0 + i) (maxmem_of s.frames) o.driver f.made run in
-        let same = ap (λ k. own.times_called p k f.made) o.opens in
+        let same = ap (λ k. own.times_called_in_run p k f.made) o.opens in
         omega (arith, f.times, once, same)
 
 -- what each run of a driver does at most once, its entries do at most once
 module _ (chosen : Did → Bool) (once : (id maxmem : ℕ) (driver : Driver) (made : List Made) →
-    IsRun (opening_lane id maxmem driver) made → runs.times_done chosen made ≤ 1) where
+    IsRun (opening_lane id maxmem driver) made → runs.times_done_in_run chosen made ≤ 1) where
   done-at-most-once : (s : Scenario) (es : List JournalEntry) (end : WorldState) (i : ℕ) →
       Leads (opening_world s) es end → times_done chosen i es ≤ 1
   done-at-most-once s es end i h = by (slice_get (opening_world s).lanes i) refl

@@ -13,7 +13,7 @@ use Rattle.ideal_world.specs.World.{WorldState, bounced, counts_from}
 use Rattle.ideal_world.proofs.Keeping.{fits}
 use Rattle.ideal_world.proofs.Legal.{legal-waits}
 
-from-add-up : (w : WorldState) → account.IsWellFormed w.account → (z : ℕ) (zones : List Zone) →
+from-add-up : (w : WorldState) → account.IsAccountWellFormed w.account → (z : ℕ) (zones : List Zone) →
     All AddsUp (counts_from w z zones)
 from-add-up w well z [] = All-nil AddsUp
 from-add-up w well z (k ∷ zones) =

@@ -16,8 +16,9 @@ use Rattle.ideal_lane.specs.Resends.{is_resend}
 use Rattle.ideal_lane.specs.Sends.{Send, due_send}
 use Rattle.ideal_lane.specs.State.{LaneState}
 use Rattle.ideal_lane.specs.Turns.{Turn, Turned, Stepped, Blocked, Ended, lane_step}
-use Rattle.ideal_lane.proofs.Dues.{opens-due, resends-fit, turn-due}
-use Rattle.ideal_lane.proofs.Effects.{Advances, Calls, Declines, IsStay, Keeps, Leaves, NoneCalled, NothingLeft, NothingNow}
+use Rattle.ideal_lane.proofs.DueLaws.{opens-due, resends-fit, turn-due}
+use Rattle.ideal_lane.proofs.Effects.{Advances, Calls, Declines, IsStay, Keeps, Leaves, NoneCalled, NothingLeft}
+use Rattle.ideal_lane.proofs.Effects.{NothingNow}
 use Rattle.ideal_lane.proofs.Effects.{Releases, Resends, Stays, Steps}
 use Rattle.ideal_lane.proofs.Stepping.{turn-steps}
 use Rattle.ideal_world.specs.Legal.{Leads}

@@ -5,9 +5,9 @@ use Rattle.busdma_base.specs.declared.scenarios.scenario.Scenario.{Scenario}
 use Rattle.busdma_base.specs.Scenarios.PageRuns.{is_own}
 use Rattle.ideal_lane.specs.State.{LaneMap, LaneState}
 use Rattle.ideal_wire.specs.Answered.{found_at}
-use Rattle.ideal_wire.specs.Held.{bus_addresses, FindsHeld, Holder, holds}
-use Rattle.ideal_wire.proofs.Held.{finds-held, held-once, pages-apart}
-use Rattle.ideal_wire.proofs.Positions.{found_one}
+use Rattle.ideal_wire.specs.Held.{named_addresses, FindsHeld, Holder, holds}
+use Rattle.ideal_wire.proofs.Apart.Held.{finds-held, held-once, pages-apart}
+use Rattle.ideal_wire.proofs.Laid.Positions.{found_one}
 use Rattle.ideal_world.specs.WellFormed.{IsDriverOf, IsWellFormed}
 use Rattle.ideal_world.specs.World.{WorldState}
 use Rattle.ideal_world.proofs.Keeping.{fits}
@@ -23,7 +23,8 @@ module _ (s : Scenario) (w : WorldState) (well : IsWellFormed s w) where
     -- the pages of two drivers of the scenario are apart
     one-owner : (byte : ℕ) → is_own l.pages byte ≡ true → is_own k.pages byte ≡ true → l.id ≡ k.id
     one-owner byte own other =
-        let same : i ≡ j = pages-apart s.frames [] s.drivers i j x.driver y.driver byte well.valid.drivers x.there y.there
+        let same : i ≡ j = pages-apart s.frames [] s.drivers i j x.driver y.driver byte well.valid.drivers x.there
+        y.there
         (ap (λ p. is_own p byte) (sym x.pages) ∙ own) (ap (λ p. is_own p byte) (sym y.pages) ∙ other) in
         x.number ∙ same ∙ sym y.number
 
@@ -36,14 +37,14 @@ module _ (s : Scenario) (w : WorldState) (well : IsWellFormed s w) where
 
     -- the device of a driver's map finds no byte that another driver holds
     pub own-finding : (m : ℕ) (o : LaneMap) → get l.maps m ≡ Some o → (n bus byte : ℕ) (other : Holder) →
-        slice_get (bus_addresses o) n ≡ Some bus → found_at l o bus ≡ Some byte → holds k other byte ≡ true → i ≡ j
+        slice_get (named_addresses o) n ≡ Some bus → found_at l o bus ≡ Some byte → holds k other byte ≡ true → i ≡ j
     own-finding m o at n bus byte other place found h =
         let f : FindsHeld l o bus = finds-held l x.laid x.mapped m o at n bus place in
         let same : byte ≡ f.byte = found_one (found_at l o bus) byte f.byte found f.found in
         (one-holder f.held.by other f.byte f.held.held (ap (holds k other) (sym same) ∙ h)).0
 
   pub finding : (i : ℕ) (l : LaneState) → slice_get w.lanes i ≡ Some l → (m : ℕ) (o : LaneMap) →
-      get l.maps m ≡ Some o → (n bus : ℕ) → slice_get (bus_addresses o) n ≡ Some bus → FindsHeld l o bus
+      get l.maps m ≡ Some o → (n bus : ℕ) → slice_get (named_addresses o) n ≡ Some bus → FindsHeld l o bus
   finding i l there m o at n bus place =
       let d = well.each i l there in
       finds-held l d.laid d.mapped m o at n bus place

@@ -18,20 +18,20 @@ use Rattle.ideal_lane.specs.State.{LaneState}
 use Rattle.ideal_lane.specs.Turns.{Turn, Turned, Stepped, Blocked, Ended, lane_step}
 use Rattle.ideal_lane.specs.View.{view_of}
 use Rattle.ideal_lane.proofs.Falling.{turn-falls}
-use Rattle.ideal_lane.proofs.Standings.{turn-stands}
-use Rattle.ideal_lane.proofs.Turning.{turn-allowed, turn-kept}
+use Rattle.ideal_lane.proofs.StandingLaws.{turn-stands}
+use Rattle.ideal_lane.proofs.TurnLaws.{turn-allowed, turn-kept}
 use Rattle.ideal_wire.specs.Laid.{AreLaid, KeepsLaid}
 use Rattle.ideal_wire.specs.Machine.{IsInMachine}
 use Rattle.ideal_wire.specs.NewRuns.{BringsNew}
 use Rattle.ideal_wire.specs.Served.{AreServed, KeepsServed}
 use Rattle.ideal_wire.specs.Mapped.{AreMapped}
 use Rattle.ideal_wire.specs.Spaced.{AreSpaced}
-use Rattle.ideal_wire.proofs.KeptSpaces.{turn-spaced}
-use Rattle.ideal_wire.proofs.MappedTurns.{turn-mapped}
-use Rattle.ideal_wire.proofs.LaidTurns.{turn-laid}
-use Rattle.ideal_wire.proofs.Machines.{turn-keeps}
-use Rattle.ideal_wire.proofs.ServedMaps.{served-on, turn-served}
-use Rattle.ideal_world.specs.WellFormed.{IsDriverOf, IsReached, IsWellFormed}
+use Rattle.ideal_wire.proofs.Devices.KeptSpaces.{turn-spaced}
+use Rattle.ideal_wire.proofs.Devices.MappedTurns.{turn-mapped}
+use Rattle.ideal_wire.proofs.Laid.LaidTurns.{turn-laid}
+use Rattle.ideal_wire.proofs.Tags.MachineTurns.{turn-keeps}
+use Rattle.ideal_wire.proofs.Tags.ServedMaps.{served-on, turn-served}
+use Rattle.ideal_world.specs.WellFormed.{IsDriverOf, IsAccountReached, IsWellFormed}
 use Rattle.ideal_world.specs.World.{WorldState, replied, step_of, step, entry_of, step_entry}
 use Rattle.ideal_world.proofs.Lanes.{within, length-slice_set, each_set, sum_set}
 use Rattle.ideal_lane.proofs.Own.{IsLater, IsOwn, IsOwnBy, actor_of, turn-own}
@@ -73,7 +73,7 @@ module _ (s : Scenario) (w : WorldState) (well : IsWellFormed s w) where
     -- the driver has made its step, the others agree with the account too, and the zones of it serve their tags
     changed : (a : Account) (m : LaneState) → IsAfter a m →
         ((j : ℕ) (n : LaneState) → j ≢ i → slice_get w.lanes j ≡ Some n → AgreesWith n a × AreServed n a) →
-        IsReached s a →
+        IsAccountReached s a →
         IsWellFormed s (record { lanes = slice_set w.lanes i m; account = a })
     changed a m after others reached = record {
       valid = well.valid;

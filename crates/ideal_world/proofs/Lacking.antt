@@ -20,12 +20,12 @@ use Rattle.busdma_machine.specs.Bounce.SameFor.{SameFor}
 use Rattle.busdma_machine.specs.Bounce.Serving.{is_holding}
 use Rattle.busdma_base.specs.Scenarios.Opening.{opening}
 use Rattle.busdma_base.specs.Scenarios.Valid.{IsValid}
-use Rattle.busdma_base.proofs.Openings.{opening-may_begin}
+use Rattle.busdma_base.proofs.OpeningLaws.{opening-may_begin}
 use Rattle.busdma_machine.proofs.Accounts.LaneEntries.{account_of-append}
 use Rattle.busdma_machine.proofs.Accounts.LatePages.{short-of}
 use Rattle.busdma_machine.proofs.Accounts.Names.{same_map-self}
-use Rattle.busdma_machine.proofs.Accounts.Shares.{SameFor-history}
-use Rattle.lane_agreement.specs.OwnShare.{is_return, loaded_page, one_if}
+use Rattle.busdma_machine.proofs.Accounts.ShareLaws.{SameFor-history}
+use Rattle.lane_agreement.specs.OwnShare.{is_return, loaded_page, share_if}
 use Rattle.lane_agreement.proofs.Own.{count-less, count-one}
 use Rattle.ideal_lane.specs.State.{LaneState, LaneMap, Stage, Idle, Waiting, Loaded, Returning}
 use Rattle.ideal_lane.specs.Unloads.{pages_of}
@@ -35,9 +35,9 @@ use Rattle.ideal_world.specs.Holds.{journal_holds, step_holds}
 use Rattle.ideal_world.specs.Lacking.{HasPageOf, LacksPages, OneIsLoaded, ZoneIsSmall}
 use Rattle.ideal_world.specs.Legal.{IsLegal, Leads}
 use Rattle.ideal_world.specs.Waiting.{OnlyAwaits}
-use Rattle.ideal_world.specs.WellFormed.{IsReached, IsWellFormed}
+use Rattle.ideal_world.specs.WellFormed.{IsAccountReached, IsWellFormed}
 use Rattle.ideal_world.specs.World.{WorldState, opening_world, step}
-use Rattle.ideal_world.proofs.Holding.{holds-lead, holds-sound}
+use Rattle.ideal_world.proofs.HoldLaws.{holds-lead, holds-sound}
 use Rattle.ideal_world.proofs.Keeping.{step-keeps}
 use Rattle.ideal_world.proofs.Lanes.{found}
 use Rattle.ideal_world.proofs.Legal.{legal-waits}
@@ -62,12 +62,13 @@ held-in (h ∷ hs) z some = by (h.zone == z) refl (λ k. held-in hs z k)
     by : (b : Bool) → (h.zone == z) ≡ b → (1 ≤ count_by (λ k. k.zone == z) hs → HeldIn hs z) → HeldIn (h ∷ hs) z
     by true e more =
         let this : is_holding h.map z h.page h ≡ true = rw (eq-eqb h.page h.page refl, e, same_map-self h.map) refl in
-        record { item = h; counted = omega (arith, ap one_if this, count-one (is_holding h.map z h.page) h hs) }
+        record { item = h; counted = omega (arith, ap share_if this, count-one (is_holding h.map z h.page) h hs) }
     by false e more =
-        further (more (omega (arith, some, ap one_if e, count-one (λ (k : Held). k.zone == z) h hs)))
+        further (more (omega (arith, some, ap share_if e, count-one (λ (k : Held). k.zone == z) h hs)))
 
 -- nobody but the scenario's drivers holds a page
-unheld : (s : Scenario) (a : Account) (m : MapId) → IsReached s a → length s.drivers ≤ m.lane.0 → pages_held m a ≡ 0
+unheld : (s : Scenario) (a : Account) (m : MapId) → IsAccountReached s a → length s.drivers ≤ m.lane.0 → pages_held m a
+    ≡ 0
 unheld s a m r past =
     let others : All (λ e. e.lane.0 ≢ m.lane.0) r.history =
     All-weaker (λ (e : HoldEntry). e.lane.0 < length s.drivers) (λ (e : HoldEntry). e.lane.0 ≢ m.lane.0)
@@ -86,7 +87,7 @@ some-page p y z (q ∷ ps) some = by ((q == p) && (y == z)) refl (λ k. some-pag
         (1 ≤ count_by (λ k. (k == p) && (y == z)) ps → (y ≡ z) × (1 ≤ length ps)) → (y ≡ z) × (1 ≤ length (q ∷ ps))
     by true e more = (eqb-true y z (and_parts (q == p) (y == z) e).1, omega arith)
     by false e more =
-        let rest = more (omega (arith, some, ap one_if e, count-one (λ k. (k == p) && (y == z)) q ps)) in
+        let rest = more (omega (arith, some, ap share_if e, count-one (λ k. (k == p) && (y == z)) q ps)) in
         (rest.0, omega arith)
 
 module _ (s : Scenario) (w : WorldState) (well : IsWellFormed s w) (awaits : OnlyAwaits w) (z : ℕ) where

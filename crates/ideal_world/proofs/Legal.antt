@@ -17,7 +17,7 @@ use Rattle.ideal_world.specs.WellFormed.{IsWellFormed}
 use Rattle.ideal_world.specs.World.{WorldState, step, step_of, entry_of, step_entry, opening_world}
 use Rattle.ideal_world.proofs.Keeping.{step-keeps, step-named}
 use Rattle.ideal_world.proofs.Opens.{opens-well}
-use Rattle.ideal_world.proofs.Rest.{round_rests, in_round}
+use Rattle.ideal_world.proofs.RestRounds.{round_rests, in_round}
 use Rattle.ideal_world.proofs.Rounds.{Leads-push}
 use Rattle.ideal_world.proofs.Stuck.{only-awaits}
 

@@ -1,10 +1,10 @@
-pub mod Answering
+pub mod AnsweredLaws
 pub mod Calling
 pub mod Counts
 pub mod Falling
 pub mod Few
 pub mod Finding
-pub mod Holding
+pub mod HoldLaws
 pub mod Isolation
 pub mod Keeping
 pub mod Lacking
@@ -15,11 +15,11 @@ pub mod Opens
 pub mod Reached
 pub mod Replayed
 pub mod Reported
-pub mod Rest
-pub mod Resting
+pub mod RestRounds
+pub mod RestingActors
 pub mod Rounds
 pub mod RunTurns
 pub mod Stuck
 pub mod Turns
 pub mod Waiters
-pub mod Wiring
+pub mod WireLaws

@@ -1,6 +1,7 @@
 -- A world whose drivers have further operations makes the same steps, as long as none of them does such an operation.
 use Rattle.std.proofs.Common.{◌≡◌, ℕ, zero, suc, ◌+◌, ◌*◌, true, false, not, ◌&&◌, ◌||◌, List, [], ◌∷◌, ◌++◌}
-use Rattle.std.proofs.Common.{length, Option, Some, None, refl, ap, sym, ◌∙◌, map, nat_le, nat_lt, slice_get, slice_set, subst, arith}
+use Rattle.std.proofs.Common.{length, Option, Some, None, refl, ap, sym, ◌∙◌, map, nat_le, nat_lt, slice_get, slice_set}
+use Rattle.std.proofs.Common.{subst, arith}
 use Rattle.std.specs.List.{filter, list_any}
 use Rattle.std.specs.Option.{option_map}
 use Rattle.busdma_machine.specs.declared.bounce.hold.HubReply.{HubReply}
@@ -19,14 +20,16 @@ use Rattle.busdma_base.specs.Scenarios.Opening.{free_below, is_owned, maxmem_of}
 use Rattle.lane_agreement.specs.View.{Return}
 use Rattle.ideal_lane.specs.Asking.{Asking, Gives, Asks, by_reply, goes_on}
 use Rattle.ideal_lane.specs.Opening.{opening_lane}
-use Rattle.ideal_lane.specs.Scripts.{LooksSame, is_below, is_ended, is_step_below, looks_same, turned_under, with_script}
+use Rattle.ideal_lane.specs.Scripts.{LooksSame, is_below, is_ended, is_step_below, looks_same, turned_under}
+use Rattle.ideal_lane.specs.Scripts.{with_script}
 use Rattle.ideal_lane.specs.State.{LaneState}
 use Rattle.ideal_lane.specs.Turns.{Turn, Turned, Stepped, Blocked, Ended, lane_step}
 use Rattle.ideal_lane.proofs.Own.{turn-own}
-use Rattle.ideal_lane.proofs.Scripted.{turn-same}
+use Rattle.ideal_lane.proofs.ScriptLaws.{turn-same}
 use Rattle.ideal_lane.proofs.ScriptedRuns.{looks, looks-below}
 use Rattle.ideal_world.specs.Legal.{Leads}
-use Rattle.ideal_world.specs.Longer.{AreOfScripts, IsOfScript, More, drivers_with, lane_with, lanes_with, scenario_with, world_with}
+use Rattle.ideal_world.specs.Longer.{AreOfScripts, IsOfScript, More, drivers_with, lane_with, lanes_with, scenario_with}
+use Rattle.ideal_world.specs.Longer.{world_with}
 use Rattle.ideal_world.specs.World.{WorldState, WorldTurned, entry_of, opening_lanes, opening_world, replied, step}
 use Rattle.ideal_world.specs.World.{step_entry, step_of, turned}
 use Rattle.ideal_world.proofs.Lanes.{opening_at}
@@ -78,7 +81,11 @@ module _ (more : More) where
         turned (world_with more w) k a (turned_under script t) ≡ turned_with (turned w k a t)
     turned-same a t is =
         ap (λ s. record {
-          world = record { lanes = slice_set (lanes_with 0 more w.lanes) k (with_script (s ++ more k) t.lane); account = a };
+          world = record {
+            lanes = slice_set (lanes_with 0 more w.lanes) k (with_script (s ++ more k) t.lane);
+            account =
+                a;
+          };
           turn = t.turn;
         }) (sym is)
         ∙ ap (λ ls. record { world = record { lanes = ls; account = a }; turn = t.turn }) (set-here w.lanes k t.lane)
@@ -93,7 +100,8 @@ module _ (more : More) where
 
   -- the turn of an actor whose driver looks at nothing after its script
   step-same : (w : WorldState) (actor : Actor) →
-      ((l : LaneState) → slice_get w.lanes actor.lane.0 ≡ Some l → LooksSame actor.side (l.script ++ more actor.lane.0) l) →
+      ((l : LaneState) → slice_get w.lanes actor.lane.0 ≡ Some l → LooksSame actor.side (l.script ++ more actor.lane.0)
+      l) →
       step (world_with more w) actor ≡ turned_with (step w actor)
   step-same w actor looks-same = by (slice_get w.lanes actor.lane.0) refl
     where
@@ -107,7 +115,8 @@ module _ (more : More) where
           ∙ sym (ap (λ q. turned_with (step_of w actor q)) e)
       by (Some l) e =
           ap (step_of (world_with more w) actor) (at-here w.lanes k ∙ ap (option_map (lane_with (more k))) e)
-          ∙ (ap (replied (world_with more w) k (lane_with (more k) l)) (turn-same (l.script ++ more k) l actor.side (looks-same l e))
+          ∙ (ap (replied (world_with more w) k (lane_with (more k) l))
+          (turn-same (l.script ++ more k) l actor.side (looks-same l e))
           ∙ (replied-same w k l (lane_step l actor.side) (λ r. (turn-own l actor.side r).later.same_script)
           ∙ sym (ap (λ q. turned_with (step_of w actor q)) e)))
 
@@ -117,7 +126,8 @@ module _ (more : More) where
   unended Blocked e h = refl
   unended Ended e h = absurd (cc)
 
-  below : (n : ℕ) (t : Turn) (e : JournalEntry) → entry_of t ≡ Some e → is_below n e.did ≡ true → is_step_below n t ≡ true
+  below : (n : ℕ) (t : Turn) (e : JournalEntry) → entry_of t ≡ Some e → is_below n e.did ≡ true → is_step_below n t
+      ≡ true
   below n (Stepped x) e h low = let same : x ≡ e = cc in ap (λ y. is_below n y.did) same ∙ low
   below n Blocked e h low = absurd (cc)
   below n Ended e h low = absurd (cc)
@@ -219,7 +229,8 @@ module _ (more : More) where
 
   owned-same : (i : ℕ) (ds : List Driver) (f : ℕ) → is_owned (drivers_with i more ds) f ≡ is_owned ds f
   owned-same i [] f = refl
-  owned-same i (d ∷ ds) f = ap (λ b. list_any (λ p. nat_le p.frame f && nat_lt f (p.frame + p.count)) d.pages || b) (owned-same (i + 1) ds f)
+  owned-same i (d ∷ ds) f = ap (λ b. list_any (λ p. nat_le p.frame f && nat_lt f (p.frame + p.count)) d.pages || b)
+      (owned-same (i + 1) ds f)
 
   free-same : (s : Scenario) (n : ℕ) → free_below (scenario_with more s) n ≡ free_below s n
   free-same s zero = refl

@@ -8,14 +8,14 @@ use Rattle.busdma_machine.specs.declared.bounce.hold.HoldEntry.{HoldEntry}
 use Rattle.busdma_base.specs.declared.scenarios.scenario.Scenario.{Scenario}
 use Rattle.busdma_base.specs.Scenarios.Opening.{maxmem_of, opening}
 use Rattle.busdma_base.specs.Scenarios.Valid.{IsValid}
-use Rattle.busdma_base.proofs.Openings.{opening-may_begin}
+use Rattle.busdma_base.proofs.OpeningLaws.{opening-may_begin}
 use Rattle.ideal_lane.specs.Opening.{opening_lane}
 use Rattle.ideal_lane.specs.State.{LaneState, LaneMap}
-use Rattle.ideal_lane.proofs.Openings.{opens-standing, opens-agreeing}
-use Rattle.ideal_wire.proofs.Machinery.{opens-in-machine}
-use Rattle.ideal_wire.proofs.KeptSpaces.{opens-spaced}
-use Rattle.ideal_wire.proofs.MappedTurns.{opens-mapped}
-use Rattle.ideal_wire.proofs.Openings.{opens-laid}
+use Rattle.ideal_lane.proofs.OpeningLaws.{opens-standing, opens-agreeing}
+use Rattle.ideal_wire.proofs.Tags.MachineOpens.{opens-in-machine}
+use Rattle.ideal_wire.proofs.Devices.KeptSpaces.{opens-spaced}
+use Rattle.ideal_wire.proofs.Devices.MappedTurns.{opens-mapped}
+use Rattle.ideal_wire.proofs.Faithful.Openings.{opens-laid}
 use Rattle.ideal_world.specs.WellFormed.{IsDriverOf, IsWellFormed}
 use Rattle.ideal_world.specs.World.{opening_world}
 use Rattle.ideal_world.proofs.Lanes.{OpensAt, opening_at, length-opening_lanes, none-bounced}

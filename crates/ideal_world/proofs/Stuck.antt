@@ -13,7 +13,7 @@ use Rattle.busdma_base.specs.declared.scenarios.scenario.Scenario.{Scenario}
 use Rattle.busdma_base.specs.declared.scenarios.script.Op.{Op}
 use Rattle.busdma_base.specs.declared.scenarios.script.Op.TheVariants as op
 use Rattle.busdma_machine.specs.Bounce.AccountStep.{account_step, called_from}
-use Rattle.lane_agreement.specs.OwnShare.{one_if}
+use Rattle.lane_agreement.specs.OwnShare.{share_if}
 use Rattle.lane_agreement.specs.View as view
 use Rattle.lane_agreement.specs.View.{Return}
 use Rattle.lane_agreement.proofs.Asking.{known}
@@ -29,7 +29,7 @@ use Rattle.ideal_lane.specs.Turns.{Blocked, stays, operation, transfer, waits, w
 use Rattle.ideal_lane.specs.Turns.{kept, left_queue, next_operation, resent, script_turn, transfer_turn, called_back}
 use Rattle.ideal_lane.specs.Turns.{lane_step, went_on}
 use Rattle.ideal_lane.specs.View.{view_of, own_map}
-use Rattle.ideal_lane.proofs.Views.{zoned}
+use Rattle.ideal_lane.proofs.ViewLaws.{zoned}
 use Rattle.ideal_world.specs.Ends.{IsAtRest}
 use Rattle.ideal_world.specs.Waiting.{IsAwaiting, EndsOrAwaits, HasEnded, Awaits, DriverAwaits, OnlyAwaits}
 use Rattle.ideal_world.specs.WellFormed.{IsDriverOf, IsWellFormed}
@@ -195,7 +195,7 @@ module _ (s : Scenario) (w : WorldState) (well : IsWellFormed s w) (rest : IsAtR
         ap own_map x.is ∙ (zoned x.map.stage x.map z e
         ∙ ap (λ (t : Stage). Some (record { zone = z; stage = Rattle.ideal_lane.specs.View.stage_of t })) x.stage) in
         let same = known (view_of l) w.account (named l m) _ driver.agrees refl seen in
-        let one : one_if ((x.load.need == x.load.need) && (z == z)) ≡ 1 =
+        let one : share_if ((x.load.need == x.load.need) && (z == z)) ≡ 1 =
         rw (eq-eqb x.load.need x.load.need refl, eq-eqb z z refl) refl in
         record {
           map = m;

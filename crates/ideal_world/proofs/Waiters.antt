@@ -14,17 +14,17 @@ use Rattle.busdma_machine.specs.Bounce.Conditions.{times_listed}
 use Rattle.busdma_machine.specs.Bounce.History.{account_of}
 use Rattle.busdma_base.specs.Scenarios.Opening.{opening}
 use Rattle.busdma_machine.specs.Bounce.SameFor.{SameFor}
-use Rattle.busdma_machine.specs.Bounce.Share.{is_waiting, waiters}
-use Rattle.busdma_machine.specs.Bounce.WellFormed.{Lacks, IsWellFormed}
+use Rattle.busdma_machine.specs.Bounce.Share.{is_waiter, waiters}
+use Rattle.busdma_machine.specs.Bounce.WellFormed.{Lacks, IsAccountWellFormed}
 use Rattle.busdma_machine.proofs.Accounts.Names.{same_map-self}
-use Rattle.busdma_machine.proofs.Accounts.Shares.{SameFor-history}
-use Rattle.lane_agreement.specs.OwnShare.{one_if}
+use Rattle.busdma_machine.proofs.Accounts.ShareLaws.{SameFor-history}
+use Rattle.lane_agreement.specs.OwnShare.{share_if}
 use Rattle.lane_agreement.proofs.Own.{count-one}
-use Rattle.ideal_world.specs.WellFormed.{IsReached}
+use Rattle.ideal_world.specs.WellFormed.{IsAccountReached}
 
 module _ (m : MapId) (z need : ℕ) where
   abbrev test : Waiter → Bool
-  test = is_waiting m z need
+  test = is_waiter m z need
 
   abbrev waiting : Zone → ℕ
   waiting k = count_by test k.wait
@@ -36,7 +36,7 @@ module _ (m : MapId) (z need : ℕ) where
       let here : Lacks y x = All-head (Lacks y) x ws h in
       let apart : (x.zone.0 == z) ≡ false = ne_eqb x.zone.0 z (λ e. off (sym here.zone ∙ e)) in
       let no : test x ≡ false = by x (x.need == need) (same_map m x.map) apart in
-      omega (arith, count-one test x ws, ap one_if no, other y ws off (All-tail (Lacks y) x ws h))
+      omega (arith, count-one test x ws, ap share_if no, other y ws off (All-tail (Lacks y) x ws h))
     where
       by : (x : Waiter) (b c : Bool) → (x.zone.0 == z) ≡ false → (b && ((x.zone.0 == z) && c)) ≡ false
       by x true c e = ap (λ d. d && c) e
@@ -82,7 +82,7 @@ module _ (m : MapId) (z need : ℕ) where
       )
 
   -- if the callback list is empty, the maps that wait for pages of a zone are in its waiting list
-  pub in-zone : (a : Account) → IsWellFormed a → a.ready ≡ [] → count_by test (zone_at a z).wait ≡ waiters test a
+  pub in-zone : (a : Account) → IsAccountWellFormed a → a.ready ≡ [] → count_by test (zone_at a z).wait ≡ waiters test a
   in-zone a well none =
       let whole : sum_by waiting a.zones ≡ waiting (zone_at a z) =
       one-there 0 z a.zones (omega arith) (λ j. let e : j ≡ 0 + j = omega arith in
@@ -90,7 +90,7 @@ module _ (m : MapId) (z need : ℕ) where
       omega (arith, whole, ap (count_by test) none)
 
 -- no map but those of the scenario's drivers is in a list
-pub unlisted : (s : Scenario) (a : Account) (m : MapId) → IsReached s a → length s.drivers ≤ m.lane.0 →
+pub unlisted : (s : Scenario) (a : Account) (m : MapId) → IsAccountReached s a → length s.drivers ≤ m.lane.0 →
     times_listed m a ≡ 0
 unlisted s a m r past =
     let others : All (λ e. e.lane.0 ≢ m.lane.0) r.history =
@@ -109,5 +109,5 @@ head-listed a w ws is =
       arith,
       ap (count_by test) is,
       count-one test w ws,
-      ap one_if (same_map-self w.map),
+      ap share_if (same_map-self w.map),
     )

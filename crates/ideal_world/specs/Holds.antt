@@ -5,7 +5,7 @@ use Rattle.busdma_machine.specs.declared.bounce.hold.HubCall.{HubCall}
 use Rattle.busdma_machine.specs.declared.bounce.hold.HubReply.{HubReply}
 use Rattle.busdma_machine.specs.Bounce.Account.{Account}
 use Rattle.busdma_machine.specs.Bounce.AccountStep.{account_step}
-use Rattle.busdma_machine.specs.Bounce.History.{is_kept}
+use Rattle.busdma_machine.specs.Bounce.History.{is_entry}
 use Rattle.busdma_base.specs.declared.journals.journal.Actor.{Actor}
 use Rattle.busdma_base.specs.declared.journals.journal.JournalEntry.{JournalEntry}
 use Rattle.ideal_lane.specs.Asking.{Asking, Gives, Asks}
@@ -15,7 +15,7 @@ use Rattle.ideal_world.specs.World.{WorldState, step}
 
 -- the entry of a driver's call with its reply, if the history keeps such a call
 abbrev pub hold_of : ℕ → HubCall → HubReply → List HoldEntry
-hold_of lane c r = if is_kept c r then record { lane = record { 0 = lane }; call = c; reply = r } ∷ [] else []
+hold_of lane c r = if is_entry c r then record { lane = record { 0 = lane }; call = c; reply = r } ∷ [] else []
 
 -- what a driver's step adds to the history: its call, if it makes one, with the account's reply
 abbrev pub holds_by : ℕ → Asking Turned → Account → List HoldEntry

@@ -7,12 +7,12 @@ use Rattle.ideal_lane.specs.Due.{is_unfit}
 use Rattle.ideal_lane.specs.Resends.{is_resend}
 
 -- how often an entry is of this driver and does what a test chooses: 1 if it is, and else 0
-abbrev pub done_by : (Did → Bool) → ℕ → JournalEntry → ℕ
-done_by chosen i e = if (e.actor.lane.0 == i) && chosen e.did then 1 else 0
+abbrev pub entry_does : (Did → Bool) → ℕ → JournalEntry → ℕ
+entry_does chosen i e = if (e.actor.lane.0 == i) && chosen e.did then 1 else 0
 
 -- how many of these entries are of this driver and do what a test chooses
 abbrev pub times_done : (Did → Bool) → ℕ → List JournalEntry → ℕ
-times_done chosen i entries = sum_by (λ e. done_by chosen i e) entries
+times_done chosen i entries = sum_by (λ e. entry_does chosen i e) entries
 
 -- an entry that is a resend answers neither EINVAL nor Absent nor MapBusy
 abbrev pub FindsMap : JournalEntry → Type 0

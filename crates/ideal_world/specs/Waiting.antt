@@ -4,7 +4,7 @@ use Rattle.std.specs.List.{count_by}
 use Rattle.std.specs.FinMap.{get}
 use Rattle.busdma_base.specs.declared.scenarios.script.Op.TheVariants.{Await}
 use Rattle.busdma_machine.specs.Bounce.Account.{Account, zone_at}
-use Rattle.busdma_machine.specs.Bounce.Share.{is_waiting}
+use Rattle.busdma_machine.specs.Bounce.Share.{is_waiter}
 use Rattle.ideal_lane.specs.State.{LaneState, LaneMap, Waiting, WaitingLoad, named}
 use Rattle.ideal_world.specs.World.{WorldState, has_ended}
 
@@ -19,7 +19,7 @@ pub record IsAwaiting (a : Account) (l : LaneState) : Type 0 where
   pub stage : own.stage ≡ Waiting load
   pub zone : ℕ
   pub bounces : own.zone ≡ Some zone
-  pub listed : count_by (is_waiting (named l map) zone load.need) (zone_at a zone).wait ≡ 1
+  pub listed : count_by (is_waiter (named l map) zone load.need) (zone_at a zone).wait ≡ 1
 
 -- the script of a driver has ended, or awaits a map whose load waits for pages
 pub data EndsOrAwaits (a : Account) (l : LaneState) : Type 0 where

@@ -36,7 +36,7 @@ pub record IsDriverOf (s : Scenario) (a : Account) (i : ℕ) (l : LaneState) : T
   pub served : AreServed l a
 
 -- a sound history of calls of the scenario's drivers leads from its opening to this account
-pub record IsReached (s : Scenario) (a : Account) : Type 0 where
+pub record IsAccountReached (s : Scenario) (a : Account) : Type 0 where
   pub history : List HoldEntry
   pub sound : IsSound (opening s) history
   pub own : All (λ e. e.lane.0 < length s.drivers) history
@@ -53,5 +53,5 @@ pub record IsWellFormed (s : Scenario) (w : WorldState) : Type 0 where
   pub valid : IsValid s
   pub count : length w.lanes ≡ length s.drivers
   pub each : (i : ℕ) (l : LaneState) → slice_get w.lanes i ≡ Some l → IsDriverOf s w.account i l
-  pub reached : IsReached s w.account
+  pub reached : IsAccountReached s w.account
   pub few : (z : ℕ) → CountsFew s w z

@@ -5,7 +5,7 @@ use Rattle.busdma_base.specs.Scenarios.PageRuns.{is_own}
 use Rattle.busdma_machine.specs.Machine.Wire.{Wire}
 use Rattle.ideal_lane.specs.State.{LaneState}
 use Rattle.ideal_wire.specs.Centre.{IsFaithful}
-use Rattle.ideal_wire.specs.WireStep.{Follows, lane_step}
+use Rattle.ideal_wire.specs.WireStep.{Follows, wire_lane_step}
 use Rattle.ideal_world.specs.World.{WorldState, step}
 
 -- the wire of each driver, by its number
@@ -29,5 +29,5 @@ AllFaithful wires w = EachDriver (λ i l. IsFaithful l (wires i)) w
 pub record WiresFollow (w : WorldState) (actor : Actor) (before after : Wires) : Type 0 where
   pub own : (l m : LaneState) → slice_get w.lanes actor.lane.0 ≡ Some l →
       slice_get (step w actor).world.lanes actor.lane.0 ≡ Some m →
-      Follows l m (lane_step l actor.side (before actor.lane.0)) (after actor.lane.0)
+      Follows l m (wire_lane_step l actor.side (before actor.lane.0)) (after actor.lane.0)
   pub others : (i : ℕ) → i ≢ actor.lane.0 → after i ≡ before i

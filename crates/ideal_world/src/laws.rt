@@ -27,7 +27,7 @@ ghost use Rattle.ideal_lane.specs.Resends.{is_operation, is_resend};
 ghost use Rattle.ideal_lane.specs.State.{LaneMap, LaneRing, LaneState};
 ghost use Rattle.ideal_lane.specs.Turns.{lane_step};
 ghost use Rattle.ideal_wire.specs.Answered.{found_at};
-ghost use Rattle.ideal_wire.specs.Held.{FindsHeld, Holder, bus_addresses, holds};
+ghost use Rattle.ideal_wire.specs.Held.{FindsHeld, Holder, named_addresses, holds};
 ghost use Rattle.ideal_wire.specs.RingSteps.{HeadIsRead, NamedAreRead};
 ghost use Rattle.ideal_wire.specs.WireStep.{IsRead, load_buses, place_bytes};
 ghost use Rattle.ideal_world.specs.Answered.{AnswerLoads, AnswersLoad};
@@ -253,9 +253,9 @@ pub fn drivers_are_isolated()
         holds l by byte ≡ true → holds k other byte ≡ true → (i ≡ j) × (by ≡ other) }
     ensures found { (s : Scenario) (w : WorldState) (i : ℕ) (l : LaneState) (m : ℕ) (o : LaneMap) (n bus : ℕ) →
         IsWellFormed s w → slice_get w.lanes i ≡ Some l → get l.maps m ≡ Some o →
-        slice_get (bus_addresses o) n ≡ Some bus → FindsHeld l o bus }
+        slice_get (named_addresses o) n ≡ Some bus → FindsHeld l o bus }
     ensures own { (s : Scenario) (w : WorldState) (i : ℕ) (j : ℕ) (l : LaneState) (k : LaneState) (m : ℕ) (o : LaneMap)
         (n bus byte : ℕ) (other : Holder) → IsWellFormed s w → slice_get w.lanes i ≡ Some l →
-        slice_get w.lanes j ≡ Some k → get l.maps m ≡ Some o → slice_get (bus_addresses o) n ≡ Some bus →
+        slice_get w.lanes j ≡ Some k → get l.maps m ≡ Some o → slice_get (named_addresses o) n ≡ Some bus →
         found_at l o bus ≡ Some byte → holds k other byte ≡ true → i ≡ j }
 {}

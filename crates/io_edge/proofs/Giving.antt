@@ -1,5 +1,6 @@
 -- Texts that are added one after the other.
-use Rattle.std.proofs.Common.{◌≡◌, ℕ, ◌+◌, ◌<◌, ◌≤◌, List, [], ◌++◌, length, take, Bool, true, false, Option, Some, None}
+use Rattle.std.proofs.Common.{◌≡◌, ℕ, ◌+◌, ◌<◌, ◌≤◌, List, [], ◌++◌, length, take, Bool, true, false, Option, Some}
+use Rattle.std.proofs.Common.{None}
 use Rattle.std.proofs.Common.{Result, Ok, Err, OnOk, OnErr, inl, inr, refl, sym, ap, subst, ◌∙◌, arith}
 use Rattle.std.proofs.Common.{append_assoc, append-nil, length-append}
 use Rattle.std.proofs.Math.Seq.{take-append-add}
@@ -10,7 +11,8 @@ use Rattle.io_edge.specs.declared.pieces.Pieces.{Pieces}
 use Rattle.io_edge.specs.declared.sink.Unwritten.{Unwritten}
 use Rattle.io_edge.specs.Faults.{Rose}
 use Rattle.io_edge.specs.Writing.{WritesPart}
-use Rattle.io_edge.specs.Pieces.{Standing, GoesOn, Fails, HadFailed, StandsAfter, Begins, Gives, Ends, standing, ended}
+use Rattle.io_edge.specs.Pieces.{Standing, PiecesGoOn, PiecesFail, HadFailed, StandsAfter}
+use Rattle.io_edge.specs.Pieces.{Begins, PiecesGive, PiecesEnd, standing, pieces_ended}
 
 -- bytes that were appended one after the other were appended as one text
 pub appends_both : (h i j : Option (List ℕ)) (x y : List ℕ) → Appends h i x → Appends i j y → Appends h j (x ++ y)
@@ -20,7 +22,7 @@ appends_both (Some h) (Some i) None x y was more = absurd more
 appends_both (Some h) (Some i) (Some j) x y was more = more ∙ ap (λ k. k ++ y) was ∙ append_assoc h x y
 
 -- adding two texts without a fault is adding both as one
-goes_on_both : (a b c : Standing) (s t : List ℕ) → GoesOn a s b → GoesOn b t c → GoesOn a (s ++ t) c
+goes_on_both : (a b c : Standing) (s t : List ℕ) → PiecesGoOn a s b → PiecesGoOn b t c → PiecesGoOn a (s ++ t) c
 goes_on_both a b c s t first second = record {
   well = first.well;
   still = second.still;
@@ -32,7 +34,7 @@ goes_on_both a b c s t first second = record {
 }
 
 -- what was written before a fault and during it is a front of both texts
-fails_later : (a b c : Standing) (s t : List ℕ) → GoesOn a s b → Fails b t c → Fails a (s ++ t) c
+fails_later : (a b c : Standing) (s t : List ℕ) → PiecesGoOn a s b → PiecesFail b t c → PiecesFail a (s ++ t) c
 fails_later a b c s t first second =
     let x = first.written in
     let n = second.part.0 in
@@ -54,7 +56,7 @@ fails_later a b c s t first second =
     }
 
 -- after a fault nothing more of the text is written
-fails_before : (a b c : Standing) (s t : List ℕ) → Fails a s b → HadFailed b c → Fails a (s ++ t) c
+fails_before : (a b c : Standing) (s t : List ℕ) → PiecesFail a s b → HadFailed b c → PiecesFail a (s ++ t) c
 fails_before a b c s t first second =
     let n = first.part.0 in
     let less : n < length (a.waiting ++ s) = first.part.1 in
@@ -146,32 +148,33 @@ pub record Wrote {K : Type 0} (held : K → Option (List ℕ)) (faults : K → �
 module _ {K : Type 0} {held : K → Option (List ℕ)} {faults : K → ℕ} where
   -- two texts that are added one after the other are added as one
   pub gives_then : {a b c : Pieces K} {s t : List ℕ}
-      → Gives held faults a s b → Gives held faults b t c → Gives held faults a (s ++ t) c
+      → PiecesGive held faults a s b → PiecesGive held faults b t c → PiecesGive held faults a (s ++ t) c
   gives_then {a} {b} {c} {s} {t} first second = record {
     same_sink = second.same_sink ∙ first.same_sink;
     stands = stands_then _ _ _ s t first.stands second.stands;
   }
 
   -- nothing was added
-  pub gives_nothing : (a : Pieces K) → Gives held faults a [] a
+  pub gives_nothing : (a : Pieces K) → PiecesGive held faults a [] a
   gives_nothing a = record { same_sink = refl; stands = stands_still (standing held faults a) }
 
   -- a text can be replaced by an equal one
-  pub gives_as : {a b : Pieces K} {s t : List ℕ} → s ≡ t → Gives held faults a s b → Gives held faults a t b
-  gives_as {a} {b} {s} {t} same given = subst (λ r. Gives held faults a r b) same given
+  pub gives_as : {a b : Pieces K} {s t : List ℕ} → s ≡ t → PiecesGive held faults a s b → PiecesGive held faults a t b
+  gives_as {a} {b} {s} {t} same given = subst (λ r. PiecesGive held faults a r b) same given
 
   -- a text that was begun, got these bytes and was ended
-  pub wrote : (sink : MutBor K) (begun given : Pieces K) (text : List ℕ) (result : Result (Unit {0}) Unwritten) (after : K)
-      → Begins sink begun → Gives held faults begun text given → Ends held faults given result after
+  pub wrote : (sink : MutBor K) (begun given : Pieces K) (text : List ℕ) (result : Result (Unit {0}) Unwritten)
+      (after : K)
+      → Begins sink begun → PiecesGive held faults begun text given → PiecesEnd held faults given result after
       → Wrote held faults text sink.now result after
   wrote sink begun given text (Ok done) after begins gives ends =
-      let end = ended held faults (Ok done) after in
+      let end = pieces_ended held faults (Ok done) after in
       let all = ended_well (standing held faults begun) text end refl begins.empty begins.well refl
       (stands_on _ _ _ text gives.stands ends) in
       subst (λ k. Wrote held faults text k (Ok done) after) begins.untouched
       (record { written = all.0; unwritten = tt; failed = tt; unfailed = all.1; count = all.2 })
   wrote sink begun given text (Err why) after begins gives ends =
-      let end = ended held faults (Err why) after in
+      let end = pieces_ended held faults (Err why) after in
       let all = ended_ill (standing held faults begun) text end begins.empty begins.well refl
       (stands_on _ _ _ text gives.stands ends) in
       subst (λ k. Wrote held faults text k (Err why) after) begins.untouched

@@ -18,7 +18,7 @@ pub record Standing : Type 0 where
 
 -- bytes were added and the sink did not fail: what was written and what waits now are what waited before and the bytes
 -- that were added, in order
-pub record GoesOn (before : Standing) (text : List ℕ) (after : Standing) : Type 0 where
+pub record PiecesGoOn (before : Standing) (text : List ℕ) (after : Standing) : Type 0 where
   pub well : before.failed ≡ false
   pub still : after.failed ≡ false
   pub written : List ℕ
@@ -28,7 +28,7 @@ pub record GoesOn (before : Standing) (text : List ℕ) (after : Standing) : Typ
 
 -- bytes were added and the sink failed: a front of the bytes that waited and of those that were added was written, but
 -- not all
-pub record Fails (before : Standing) (text : List ℕ) (after : Standing) : Type 0 where
+pub record PiecesFail (before : Standing) (text : List ℕ) (after : Standing) : Type 0 where
   pub well : before.failed ≡ false
   pub failed : after.failed ≡ true
   pub part : WritesPart (before.waiting ++ text) before.held after.held
@@ -44,7 +44,7 @@ pub record HadFailed (before after : Standing) : Type 0 where
 
 -- the states that a text can have after these bytes were added
 abbrev pub StandsAfter : Standing → List ℕ → Standing → Type 0
-StandsAfter before text after = GoesOn before text after ⊎ (Fails before text after ⊎ HadFailed before after)
+StandsAfter before text after = PiecesGoOn before text after ⊎ (PiecesFail before text after ⊎ HadFailed before after)
 
 module _ {K : Type 0} where
   -- a text to this sink that is still empty
@@ -64,18 +64,19 @@ module _ {K : Type 0} where
   }
 
   -- these bytes were added to the text, whose sink stays the same
-  pub record Gives (held : K → Option (List ℕ)) (faults : K → ℕ)
+  pub record PiecesGive (held : K → Option (List ℕ)) (faults : K → ℕ)
       (before : Pieces K) (text : List ℕ) (after : Pieces K) : Type 0 where
     pub same_sink : after.sink.ghost_name ≡ before.sink.ghost_name
     pub stands : StandsAfter (standing held faults before) text (standing held faults after)
 
   -- the state of a text that ended with this result
-  abbrev pub ended : (K → Option (List ℕ)) → (K → ℕ) → Result (Unit {0}) Unwritten → K → Standing
-  ended held faults (Ok done) sink =
+  abbrev pub pieces_ended : (K → Option (List ℕ)) → (K → ℕ) → Result (Unit {0}) Unwritten → K → Standing
+  pieces_ended held faults (Ok done) sink =
       record { held = held sink; faults = faults sink; waiting = []; failed = false }
-  ended held faults (Err why) sink =
+  pieces_ended held faults (Err why) sink =
       record { held = held sink; faults = faults sink; waiting = []; failed = true }
 
   -- a text ended: the bytes that waited were written, or the sink failed then or before
-  abbrev pub Ends : (K → Option (List ℕ)) → (K → ℕ) → Pieces K → Result (Unit {0}) Unwritten → K → Type 0
-  Ends held faults text result sink = StandsAfter (standing held faults text) [] (ended held faults result sink)
+  abbrev pub PiecesEnd : (K → Option (List ℕ)) → (K → ℕ) → Pieces K → Result (Unit {0}) Unwritten → K → Type 0
+  PiecesEnd held faults text result sink = StandsAfter (standing held faults text) []
+      (pieces_ended held faults result sink)

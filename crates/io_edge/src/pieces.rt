@@ -1,7 +1,7 @@
 //! Writing a text to a sink in pieces, while it is made.
 
 ghost use Rattle.std.specs.Prelude.{◌≡◌, [], false};
-ghost use Rattle.io_edge.specs.Pieces.{Begins, Gives, Ends};
+ghost use Rattle.io_edge.specs.Pieces.{Begins, PiecesGive, PiecesEnd};
 
 use crate::sink::{Sink, Unwritten, write_all};
 use arrayvec::ArrayVec;
@@ -37,7 +37,7 @@ impl<'s, K: Sink> Pieces<'s, K> {
     /// Writes the bytes that wait.
     fn write_piece(&mut self)
         requires { self.old.failed ≡ false }
-        ensures gives { Gives K.held K.faults self.old [] self.new }
+        ensures gives { PiecesGive K.held K.faults self.old [] self.new }
         ensures none_wait { self.new.piece.items ≡ [] }
     {
         self.failed = write_all(self.sink, self.piece.as_slice()).is_err();
@@ -47,7 +47,7 @@ impl<'s, K: Sink> Pieces<'s, K> {
     /// Adds these bytes to a text in which no bytes wait.
     fn begin_piece(&mut self, bytes: &[u8])
         requires { self.old.piece.items ≡ [] }
-        ensures { Gives K.held K.faults self.old bytes.now self.new }
+        ensures { PiecesGive K.held K.faults self.old bytes.now self.new }
     {
         if self.failed || self.piece.try_extend_from_slice(bytes).is_ok() {
             return;
@@ -57,7 +57,7 @@ impl<'s, K: Sink> Pieces<'s, K> {
 
     /// Adds these bytes to the text. If the sink fails, `finish` returns the error.
     pub fn push(&mut self, bytes: &[u8])
-        ensures { Gives K.held K.faults self.old bytes.now self.new }
+        ensures { PiecesGive K.held K.faults self.old bytes.now self.new }
     {
         if self.failed || self.piece.try_extend_from_slice(bytes).is_ok() {
             return;
@@ -68,7 +68,7 @@ impl<'s, K: Sink> Pieces<'s, K> {
 
     /// Adds this string to the text. If the sink fails, `finish` returns the error.
     pub fn push_str(&mut self, text: &str)
-        ensures { Gives K.held K.faults self.old text.now self.new }
+        ensures { PiecesGive K.held K.faults self.old text.now self.new }
     {
         self.push(text.as_bytes());
     }
@@ -80,7 +80,7 @@ impl<'s, K: Sink> Pieces<'s, K> {
     /// `Unwritten` if the sink failed at this text, now or before. The sink has then taken a front of the
     /// text, but not all of it.
     pub fn finish(self) -> Result<(), Unwritten>
-        ensures { Ends K.held K.faults self.entry result self.exit.0.now }
+        ensures { PiecesEnd K.held K.faults self.entry result self.exit.0.now }
     {
         let Pieces {
             sink,

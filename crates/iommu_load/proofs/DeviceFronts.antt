@@ -2,7 +2,7 @@
 use Rattle.std.proofs.Common.{◌≡◌, ℕ, ◌+◌, ◌≤◌, List, ◌++◌, length, ap, sym, ◌∙◌, arith, append_assoc, length-append}
 use Rattle.busdma_machine.specs.declared.machine.chunk.Part.{Part}
 use Rattle.busdma_machine.specs.declared.tags.tag.TagLimits.{TagLimits}
-use Rattle.busdma_machine.specs.Machine.Entry.{IsStream, entries_of, others_of}
+use Rattle.busdma_machine.specs.Machine.Entry.{IsStream, stream_entries, others_of}
 use Rattle.busdma_machine.specs.Runs.{byte_count, run_of}
 use Rattle.busdma_machine.specs.Tags.Tag.{IsEffective}
 use Rattle.busdma_rules.specs.Segments.Pieces.{chunk_pieces, pieces_of}
@@ -11,7 +11,7 @@ use Rattle.segment_build.proofs.LongerRuns.{run_longer}
 use Rattle.busdma_rules.specs.Iommu.Device.{device_chunks}
 use Rattle.iommu_load.specs.DeviceStreams.{DeviceFrontsAskNoMore, HasDeviceRoom, IsInDevicePages, device_pieces}
 use Rattle.iommu_load.specs.DeviceStreams.{stream_frames}
-use Rattle.iommu_load.specs.Gathering.{after, ended, pieces_of_runs, ungathered}
+use Rattle.iommu_load.specs.Gathering.{gathered_after, gathering_ended, pieces_of_runs, ungathered}
 use Rattle.iommu_load.proofs.Gathering.{after_append, after_page, ended_append, gathered_pieces, run_pieces}
 use Rattle.iommu_load.proofs.Gathering.{runs_append, stream_pieces}
 
@@ -25,7 +25,7 @@ front_frames first xs ys h =
       after_page s xs,
       after_page s (xs ++ ys),
       ap length h.opens,
-      after_page (after s xs) ys,
+      after_page (gathered_after s xs) ys,
       ap (λ (g : _). g.page) (after_append s xs ys),
     )
 
@@ -41,28 +41,32 @@ IsInDevicePages-front first xs ys h =
 -- the pieces of a stream, if those of a front are known
 whole_pieces : (t : TagLimits) (first : ℕ) (xs ys : List Part) → IsStream (xs ++ ys) →
     device_pieces t first (xs ++ ys)
-    ≡ pieces_of_runs t (ended (ungathered first) xs)
-    ++ (pieces_of t (run_of (after (ungathered first) xs).run.addr.0
-    ((after (ungathered first) xs).run.len + byte_count (others_of ys)))
-    ++ chunk_pieces t (device_chunks ((after (ungathered first) xs).page + length (others_of ys)) 0 (entries_of ys)))
+    ≡ pieces_of_runs t (gathering_ended (ungathered first) xs)
+    ++ (pieces_of t (run_of (gathered_after (ungathered first) xs).run.addr.0
+    ((gathered_after (ungathered first) xs).run.len + byte_count (others_of ys)))
+    ++ chunk_pieces t (device_chunks ((gathered_after (ungathered first) xs).page + length (others_of ys)) 0
+    (stream_entries ys)))
 whole_pieces t first xs ys h =
     let u = ungathered first in
-    let s = after u xs in
+    let s = gathered_after u xs in
     sym (stream_pieces t first (xs ++ ys) h)
-    ∙ (ap (λ rs. pieces_of_runs t rs ++ run_pieces t (after u (xs ++ ys)).run) (ended_append u xs ys)
-    ∙ (ap (λ g. pieces_of_runs t (ended u xs ++ ended s ys) ++ run_pieces t g.run) (after_append u xs ys)
-    ∙ (ap (λ ps. ps ++ run_pieces t (after s ys).run) (runs_append t (ended u xs) (ended s ys))
-    ∙ (append_assoc (pieces_of_runs t (ended u xs)) (pieces_of_runs t (ended s ys)) (run_pieces t (after s ys).run)
-    ∙ ap (λ ps. pieces_of_runs t (ended u xs) ++ ps) (gathered_pieces t s 0 ys)))))
+    ∙ (ap (λ rs. pieces_of_runs t rs ++ run_pieces t (gathered_after u (xs ++ ys)).run) (ended_append u xs ys)
+    ∙ (ap (λ g. pieces_of_runs t (gathering_ended u xs ++ gathering_ended s ys) ++ run_pieces t g.run)
+    (after_append u xs ys)
+    ∙ (ap (λ ps. ps ++ run_pieces t (gathered_after s ys).run)
+    (runs_append t (gathering_ended u xs) (gathering_ended s ys))
+    ∙ (append_assoc (pieces_of_runs t (gathering_ended u xs)) (pieces_of_runs t (gathering_ended s ys))
+    (run_pieces t (gathered_after s ys).run)
+    ∙ ap (λ ps. pieces_of_runs t (gathering_ended u xs) ++ ps) (gathered_pieces t s 0 ys)))))
 
 -- a front has no more pieces
 front_pieces : (t : TagLimits) (first : ℕ) (xs ys : List Part) → IsEffective t → IsStream (xs ++ ys) →
     length (device_pieces t first xs) ≤ length (device_pieces t first (xs ++ ys))
 front_pieces t first xs ys eff h =
-    let s = after (ungathered first) xs in
-    let before = pieces_of_runs t (ended (ungathered first) xs) in
+    let s = gathered_after (ungathered first) xs in
+    let before = pieces_of_runs t (gathering_ended (ungathered first) xs) in
     let longer = pieces_of t (run_of s.run.addr.0 (s.run.len + byte_count (others_of ys))) in
-    let later = chunk_pieces t (device_chunks (s.page + length (others_of ys)) 0 (entries_of ys)) in
+    let later = chunk_pieces t (device_chunks (s.page + length (others_of ys)) 0 (stream_entries ys)) in
     omega (
       arith,
       ap length (sym (stream_pieces t first xs (IsStream-front xs ys h))),

@@ -12,13 +12,15 @@ use Rattle.busdma_machine.specs.declared.machine.chunk.Entry.{Entry}
 use Rattle.busdma_machine.specs.declared.machine.chunk.Part.{Part}
 use Rattle.busdma_machine.specs.declared.machine.chunk.Part.TheVariants.{Of, Unmapped}
 use Rattle.busdma_machine.specs.declared.tags.tag.TagLimits.{TagLimits}
-use Rattle.busdma_machine.specs.Machine.Entry.{IsEntry, IsStream, entries_bytes, entries_of, others_of}
+use Rattle.busdma_machine.specs.Machine.Entry.{IsEntry, IsStream}
+use Rattle.busdma_machine.specs.Machine.Entry.{entries_bytes, stream_entries, others_of}
 use Rattle.busdma_machine.specs.Runs.{byte_count, run_of}
 use Rattle.busdma_rules.specs.Segments.Pieces.{chunk_pieces, pieces_of}
 use Rattle.iommu_load.specs.declared.gatherer.Gatherer.{Gatherer}
 use Rattle.busdma_rules.specs.Iommu.Device.{device_chunks, load_frames}
 use Rattle.iommu_load.specs.DeviceStreams.{IsInDevicePages, device_pieces, stream_frames}
-use Rattle.iommu_load.specs.Gathering.{after, after_part, ended, ended_run, pieces_of_runs, ungathered}
+use Rattle.iommu_load.specs.Gathering.{gathered_after, after_part, gathering_ended}
+use Rattle.iommu_load.specs.Gathering.{ended_run, pieces_of_runs, ungathered}
 use Rattle.busdma_rules.proofs.Iommu.Carrying.{ends}
 
 -- how many bytes runs have
@@ -27,16 +29,18 @@ run_bytes runs = sum_by (λ r. r.len) runs
 
 -- ---- parts after parts
 
-pub after_append : (s : Gatherer) (xs ys : List Part) → after s (xs ++ ys) ≡ after (after s xs) ys
+pub after_append : (s : Gatherer) (xs ys : List Part) → gathered_after s (xs ++ ys)
+    ≡ gathered_after (gathered_after s xs) ys
 after_append s [] ys = refl
 after_append s (p ∷ ps) ys = after_append (after_part s p) ps ys
 
-pub ended_append : (s : Gatherer) (xs ys : List Part) → ended s (xs ++ ys) ≡ ended s xs ++ ended (after s xs) ys
+pub ended_append : (s : Gatherer) (xs ys : List Part) → gathering_ended s (xs ++ ys) ≡ gathering_ended s xs
+    ++ gathering_ended (gathered_after s xs) ys
 ended_append s [] ys = refl
 ended_append s (p ∷ ps) ys =
     ap (λ rs. option_to_list (ended_run s p) ++ rs) (ended_append (after_part s p) ps ys)
-    ∙ sym (append_assoc (option_to_list (ended_run s p)) (ended (after_part s p) ps)
-    (ended (after (after_part s p) ps) ys))
+    ∙ sym (append_assoc (option_to_list (ended_run s p)) (gathering_ended (after_part s p) ps)
+    (gathering_ended (gathered_after (after_part s p) ps) ys))
 
 pub runs_append : (t : TagLimits) (xs ys : List Segment) →
     pieces_of_runs t (xs ++ ys) ≡ pieces_of_runs t xs ++ pieces_of_runs t ys
@@ -63,9 +67,9 @@ entry_pieces t page next at e xs es same =
     ∙ sym (append-nil (run_of begin (byte_count (e ∷ xs)))))
 
 pub gathered_pieces : (t : TagLimits) (s : Gatherer) (at : ℕ) (ps : List Part) →
-    pieces_of_runs t (ended s ps) ++ run_pieces t (after s ps).run
+    pieces_of_runs t (gathering_ended s ps) ++ run_pieces t (gathered_after s ps).run
     ≡ pieces_of t (run_of s.run.addr.0 (s.run.len + byte_count (others_of ps)))
-    ++ chunk_pieces t (device_chunks (s.page + length (others_of ps)) at (entries_of ps))
+    ++ chunk_pieces t (device_chunks (s.page + length (others_of ps)) at (stream_entries ps))
 gathered_pieces t s at [] =
     let all : s.run.len ≡ s.run.len + byte_count [] = omega arith in
     ap (λ n. pieces_of t (run_of s.run.addr.0 n)) all
@@ -77,13 +81,13 @@ gathered_pieces t s at (Of e true r ∷ ps) =
     let none : s.page ≡ s.page + length {A = Extent} [] = omega arith in
     let all : s.run.len ≡ s.run.len + byte_count [] = omega arith in
     let entry : Entry = record { rounded = r; parts = e ∷ xs } in
-    append_assoc own (pieces_of_runs t (ended next ps)) (run_pieces t (after next ps).run)
+    append_assoc own (pieces_of_runs t (gathering_ended next ps)) (run_pieces t (gathered_after next ps).run)
     ∙ ap (λ ys. own ++ ys) (gathered_pieces t next (at + byte_count (e ∷ xs)) ps)
     ∙ ap (λ ys. own ++ ys)
-    (entry_pieces t s.page (s.page + 1 + length xs) at e xs (entries_of ps) (omega arith))
-    ∙ ap (λ q. own ++ chunk_pieces t (device_chunks q at (entry ∷ entries_of ps))) none
+    (entry_pieces t s.page (s.page + 1 + length xs) at e xs (stream_entries ps) (omega arith))
+    ∙ ap (λ q. own ++ chunk_pieces t (device_chunks q at (entry ∷ stream_entries ps))) none
     ∙ ap (λ n. pieces_of t (run_of s.run.addr.0 n)
-    ++ chunk_pieces t (device_chunks (s.page + length {A = Extent} []) at (entry ∷ entries_of ps))) all
+    ++ chunk_pieces t (device_chunks (s.page + length {A = Extent} []) at (entry ∷ stream_entries ps))) all
 gathered_pieces t s at (Of e false r ∷ ps) =
     let xs = others_of ps in
     let more : s.run.len + e.len + byte_count xs ≡ s.run.len + byte_count (e ∷ xs) =
@@ -91,9 +95,9 @@ gathered_pieces t s at (Of e false r ∷ ps) =
     let next : s.page + 1 + length xs ≡ s.page + length (e ∷ xs) = omega arith in
     gathered_pieces t (after_part s (Of e false r)) at ps
     ∙ ap (λ n. pieces_of t (run_of s.run.addr.0 n)
-    ++ chunk_pieces t (device_chunks (s.page + 1 + length xs) at (entries_of ps))) more
+    ++ chunk_pieces t (device_chunks (s.page + 1 + length xs) at (stream_entries ps))) more
     ∙ ap (λ q. pieces_of t (run_of s.run.addr.0 (s.run.len + byte_count (e ∷ xs)))
-    ++ chunk_pieces t (device_chunks q at (entries_of ps))) next
+    ++ chunk_pieces t (device_chunks q at (stream_entries ps))) next
 gathered_pieces t s at (Unmapped n ∷ ps) = gathered_pieces t s at ps
 
 -- ---- pages, bytes and ends
@@ -105,29 +109,29 @@ frames_long xs fs =
     ∙ ap (λ n. n + length fs) (length-map xs (λ (x : Extent). x.pa.0 / 4096))
 
 pub after_page : (s : Gatherer) (ps : List Part) →
-    (after s ps).page ≡ s.page + length (others_of ps) + length (stream_frames ps)
+    (gathered_after s ps).page ≡ s.page + length (others_of ps) + length (stream_frames ps)
 after_page s [] = omega arith
 after_page s (Of e true r ∷ ps) =
     omega (
       arith,
       after_page (after_part s (Of e true r)) ps,
-      frames_long (e ∷ others_of ps) (load_frames (entries_of ps)),
+      frames_long (e ∷ others_of ps) (load_frames (stream_entries ps)),
     )
 after_page s (Of e false r ∷ ps) = omega (arith, after_page (after_part s (Of e false r)) ps)
 after_page s (Unmapped n ∷ ps) = after_page s ps
 
 after_bytes : (s : Gatherer) (ps : List Part) →
-    run_bytes (ended s ps) + (after s ps).run.len
-    ≡ s.run.len + byte_count (others_of ps) + entries_bytes (entries_of ps)
+    run_bytes (gathering_ended s ps) + (gathered_after s ps).run.len
+    ≡ s.run.len + byte_count (others_of ps) + entries_bytes (stream_entries ps)
 after_bytes s [] = omega arith
 after_bytes s (Of e true r ∷ ps) =
     omega (
       arith,
       after_bytes (after_part s (Of e true r)) ps,
-      sum_by-cons (λ (x : Segment). x.len) s.run (ended (after_part s (Of e true r)) ps),
+      sum_by-cons (λ (x : Segment). x.len) s.run (gathering_ended (after_part s (Of e true r)) ps),
       sum_by-cons (λ (x : Extent). x.len) e (others_of ps),
       sum_by-cons (λ (x : Entry). byte_count x.parts)
-          (record { rounded = r; parts = e ∷ others_of ps }) (entries_of ps),
+          (record { rounded = r; parts = e ∷ others_of ps }) (stream_entries ps),
     )
 after_bytes s (Of e false r ∷ ps) =
     omega (
@@ -138,9 +142,9 @@ after_bytes s (Of e false r ∷ ps) =
 after_bytes s (Unmapped n ∷ ps) = after_bytes s ps
 
 -- a run ends within its pages
-after_ends : (s : Gatherer) (ps : List Part) → AllByRecursion IsEntry (entries_of ps) →
+after_ends : (s : Gatherer) (ps : List Part) → AllByRecursion IsEntry (stream_entries ps) →
     s.run.addr.0 + s.run.len + byte_count (others_of ps) ≤ 4096 * (s.page + length (others_of ps)) →
-    (after s ps).run.addr.0 + (after s ps).run.len ≤ 4096 * (after s ps).page
+    (gathered_after s ps).run.addr.0 + (gathered_after s ps).run.len ≤ 4096 * (gathered_after s ps).page
 after_ends s [] all h = omega arith
 after_ends s (Of e true r ∷ ps) all h =
     let own = ends s.page (e ∷ others_of ps) all.0.extents all.0.joined in
@@ -154,19 +158,20 @@ after_ends s (Unmapped n ∷ ps) all h = after_ends s ps all h
 -- ---- what holds of a stream
 
 pub stream_pieces : (t : TagLimits) (first : ℕ) (ps : List Part) → IsStream ps →
-    pieces_of_runs t (ended (ungathered first) ps) ++ run_pieces t (after (ungathered first) ps).run
+    pieces_of_runs t (gathering_ended (ungathered first) ps) ++ run_pieces t (gathered_after (ungathered first) ps).run
     ≡ device_pieces t first ps
 stream_pieces t first ps h =
     let front : first + length {A = Extent} [] ≡ first = omega arith in
     gathered_pieces t (ungathered first) 0 ps
     ∙ (ap (λ (xs : List Extent). pieces_of t (run_of 0 (0 + byte_count xs))
-    ++ chunk_pieces t (device_chunks (first + length xs) 0 (entries_of ps))) h.opens
-    ∙ ap (λ q. chunk_pieces t (device_chunks q 0 (entries_of ps))) front)
+    ++ chunk_pieces t (device_chunks (first + length xs) 0 (stream_entries ps))) h.opens
+    ∙ ap (λ q. chunk_pieces t (device_chunks q 0 (stream_entries ps))) front)
 
 pub record Gathered (first : ℕ) (ps : List Part) : Type 0 where
-  pub fits : (after (ungathered first) ps).run.addr.0 + (after (ungathered first) ps).run.len ≤ 2 ^ 64
-  pub paged : (after (ungathered first) ps).page ≤ 2 ^ 52
-  pub bytes : run_bytes (ended (ungathered first) ps) + (after (ungathered first) ps).run.len ≤ 2 ^ 20
+  pub fits : (gathered_after (ungathered first) ps).run.addr.0 + (gathered_after (ungathered first) ps).run.len ≤ 2 ^ 64
+  pub paged : (gathered_after (ungathered first) ps).page ≤ 2 ^ 52
+  pub bytes : run_bytes (gathering_ended (ungathered first) ps) + (gathered_after (ungathered first) ps).run.len
+      ≤ 2 ^ 20
 
 pub gathered : (first : ℕ) (ps : List Part) → IsInDevicePages first ps → Gathered first ps
 gathered first ps h =
@@ -176,7 +181,7 @@ gathered first ps h =
     let small = h.stream.bytes in
     let begins : s.run.addr.0 + s.run.len + byte_count (others_of ps) ≤ 4096 * (s.page + length (others_of ps)) =
     omega (arith, ap byte_count none) in
-    let paged : (after s ps).page ≤ 2 ^ 52 = omega (arith, after_page s ps, ap length none, pages) in
+    let paged : (gathered_after s ps).page ≤ 2 ^ 52 = omega (arith, after_page s ps, ap length none, pages) in
     record {
       fits = omega (arith, after_ends s ps h.stream.entries begins, paged);
       paged = paged;

@@ -19,7 +19,8 @@ use Rattle.segment_build.proofs.PartByPart.{last_part}
 use Rattle.iommu_load.specs.declared.gatherer.Gatherer.{Gatherer}
 use Rattle.busdma_rules.specs.Iommu.Device.{load_frames}
 use Rattle.iommu_load.specs.DeviceStreams.{IsInDevicePages, stream_frames}
-use Rattle.iommu_load.specs.Gathering.{after, after_part, ended, ended_run, ungathered}
+use Rattle.iommu_load.specs.Gathering.{gathered_after, after_part}
+use Rattle.iommu_load.specs.Gathering.{gathering_ended, ended_run, ungathered}
 use Rattle.iommu_load.proofs.DeviceFronts.{IsInDevicePages-front}
 use Rattle.iommu_load.proofs.Gathering.{after_append, ended_append, gathered, run_bytes}
 
@@ -27,14 +28,14 @@ use Rattle.iommu_load.proofs.Gathering.{after_append, ended_append, gathered, ru
 
 pub record IsNext (first : ℕ) (ps : List Part) (p : Part) : Type 0 where
   pub part : IsPart p
-  pub paged : (after_part (after (ungathered first) ps) p).page ≤ 2 ^ 52
-  pub fits : (after (ungathered first) ps).run.len + part_bytes p < 2 ^ 64
-  pub ended_fits : IfSome (ended_run (after (ungathered first) ps) p) (λ run. run.addr.0 + run.len ≤ 2 ^ 64)
-  pub ended_are : ended (ungathered first) (ps ++ p ∷ []) ≡ ended (ungathered first) ps
-      ++ option_to_list (ended_run (after (ungathered first) ps) p)
-  pub after_is : after (ungathered first) (ps ++ p ∷ []) ≡ after_part (after (ungathered first) ps) p
-  pub bytes : run_bytes (ended (ungathered first) ps)
-      + run_bytes (option_to_list (ended_run (after (ungathered first) ps) p)) ≤ 2 ^ 20
+  pub paged : (after_part (gathered_after (ungathered first) ps) p).page ≤ 2 ^ 52
+  pub fits : (gathered_after (ungathered first) ps).run.len + part_bytes p < 2 ^ 64
+  pub ended_fits : IfSome (ended_run (gathered_after (ungathered first) ps) p) (λ run. run.addr.0 + run.len ≤ 2 ^ 64)
+  pub ended_are : gathering_ended (ungathered first) (ps ++ p ∷ []) ≡ gathering_ended (ungathered first) ps
+      ++ option_to_list (ended_run (gathered_after (ungathered first) ps) p)
+  pub after_is : gathered_after (ungathered first) (ps ++ p ∷ []) ≡ after_part (gathered_after (ungathered first) ps) p
+  pub bytes : run_bytes (gathering_ended (ungathered first) ps)
+      + run_bytes (option_to_list (ended_run (gathered_after (ungathered first) ps) p)) ≤ 2 ^ 20
 
 part_small : (p : Part) → IsPart p → part_bytes p ≤ 4096
 part_small (Of e o r) h = let frame = h.in_frame in omega arith
@@ -49,14 +50,14 @@ ended_in s (Unmapped n) h = tt
 pub next_is : (first : ℕ) (ps : List Part) (p : Part) → IsInDevicePages first (ps ++ p ∷ []) → IsNext first ps p
 next_is first ps p h =
     let u = ungathered first in
-    let s = after u ps in
+    let s = gathered_after u ps in
     let all = gathered first (ps ++ p ∷ []) h in
     let so_far = gathered first ps (IsInDevicePages-front first ps (p ∷ []) h) in
     let bytes = so_far.bytes in
     let part = last_part ps p h.stream in
     let ran = option_to_list (ended_run s p) in
-    let more : ended u (ps ++ p ∷ []) ≡ ended u ps ++ ran =
-    ended_append u ps (p ∷ []) ∙ ap (λ rs. ended u ps ++ rs) (append-nil ran) in
+    let more : gathering_ended u (ps ++ p ∷ []) ≡ gathering_ended u ps ++ ran =
+    ended_append u ps (p ∷ []) ∙ ap (λ rs. gathering_ended u ps ++ rs) (append-nil ran) in
     let next = after_append u ps (p ∷ []) in
     record {
       part = part;
@@ -70,7 +71,7 @@ next_is first ps p h =
             arith,
             all.bytes,
             ap run_bytes more,
-            sum_by-append (λ (r : Segment). r.len) (ended u ps) ran,
+            sum_by-append (λ (r : Segment). r.len) (gathering_ended u ps) ran,
           );
     }
 

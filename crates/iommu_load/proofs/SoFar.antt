@@ -12,7 +12,8 @@ use Rattle.segment_build.proofs.Cuts.{cut_shorter, one_segmentation}
 use Rattle.segment_build.proofs.MorePieces.{still_many_with}
 use Rattle.iommu_load.specs.declared.gatherer.Gatherer.{Gatherer}
 use Rattle.iommu_load.specs.DeviceStreams.{device_pieces}
-use Rattle.iommu_load.specs.Gathering.{AreSoFar, after, ended, ended_run, pieces_of_runs, ungathered}
+use Rattle.iommu_load.specs.Gathering.{AreSoFar, gathered_after, gathering_ended}
+use Rattle.iommu_load.specs.Gathering.{ended_run, pieces_of_runs, ungathered}
 use Rattle.iommu_load.proofs.Gathering.{run_pieces, runs_append, stream_pieces}
 use Rattle.iommu_load.proofs.NextPart.{IsNext}
 
@@ -43,31 +44,32 @@ stays_many t pieces more segs few e h =
 
 -- the pieces of the runs that have ended, with the next part
 pub next_pieces : (t : TagLimits) (first : ℕ) (ps : List Part) (p : Part) (s : Gatherer) (o : Option Segment) →
-    IsNext first ps p → s ≡ after (ungathered first) ps → o ≡ ended_run s p →
-    pieces_of_runs t (ended (ungathered first) ps) ++ pieces_of_runs t (option_to_list o)
-    ≡ pieces_of_runs t (ended (ungathered first) (ps ++ p ∷ []))
+    IsNext first ps p → s ≡ gathered_after (ungathered first) ps → o ≡ ended_run s p →
+    pieces_of_runs t (gathering_ended (ungathered first) ps) ++ pieces_of_runs t (option_to_list o)
+    ≡ pieces_of_runs t (gathering_ended (ungathered first) (ps ++ p ∷ []))
 next_pieces t first ps p s o h is e =
     let u = ungathered first in
-    let ran = option_to_list (ended_run (after u ps) p) in
-    ap (λ (x : Option Segment). pieces_of_runs t (ended u ps) ++ pieces_of_runs t (option_to_list x))
+    let ran = option_to_list (ended_run (gathered_after u ps) p) in
+    ap (λ (x : Option Segment). pieces_of_runs t (gathering_ended u ps) ++ pieces_of_runs t (option_to_list x))
     (e ∙ ap (λ (g : Gatherer). ended_run g p) is)
-    ∙ (sym (runs_append t (ended u ps) ran) ∙ ap (pieces_of_runs t) (sym h.ended_are))
+    ∙ (sym (runs_append t (gathering_ended u ps) ran) ∙ ap (pieces_of_runs t) (sym h.ended_are))
 
 -- they are no more than those of the stream so far
 pub next_few : (t : TagLimits) (first : ℕ) (ps : List Part) → IsStream ps →
-    length (pieces_of_runs t (ended (ungathered first) ps)) ≤ length (device_pieces t first ps)
+    length (pieces_of_runs t (gathering_ended (ungathered first) ps)) ≤ length (device_pieces t first ps)
 next_few t first ps h =
     omega (
       arith,
       ap length (stream_pieces t first ps h),
-      length-append (pieces_of_runs t (ended (ungathered first) ps)) (run_pieces t (after (ungathered first) ps).run),
+      length-append (pieces_of_runs t (gathering_ended (ungathered first) ps))
+          (run_pieces t (gathered_after (ungathered first) ps).run),
     )
 
 -- the pieces of a stream, with its last run
 pub last_pieces : (t : TagLimits) (first : ℕ) (ps : List Part) (s : Gatherer) → IsStream ps →
-    s ≡ after (ungathered first) ps →
-    pieces_of_runs t (ended (ungathered first) ps) ++ (run_pieces t s.run ++ []) ≡ device_pieces t first ps
+    s ≡ gathered_after (ungathered first) ps →
+    pieces_of_runs t (gathering_ended (ungathered first) ps) ++ (run_pieces t s.run ++ []) ≡ device_pieces t first ps
 last_pieces t first ps s h is =
-    ap (λ ys. pieces_of_runs t (ended (ungathered first) ps) ++ ys) (append-nil (run_pieces t s.run))
-    ∙ (ap (λ (g : Gatherer). pieces_of_runs t (ended (ungathered first) ps) ++ run_pieces t g.run) is
+    ap (λ ys. pieces_of_runs t (gathering_ended (ungathered first) ps) ++ ys) (append-nil (run_pieces t s.run))
+    ∙ (ap (λ (g : Gatherer). pieces_of_runs t (gathering_ended (ungathered first) ps) ++ run_pieces t g.run) is
     ∙ stream_pieces t first ps h)

@@ -4,7 +4,7 @@ use Rattle.std.specs.Iterator.{HoldsAlong}
 use Rattle.busdma_machine.specs.declared.machine.address.Segment.{Segment}
 use Rattle.busdma_machine.specs.declared.machine.chunk.Part.{Part}
 use Rattle.busdma_machine.specs.declared.tags.tag.TagLimits.{TagLimits}
-use Rattle.busdma_machine.specs.Machine.Entry.{IsStream, entries_of}
+use Rattle.busdma_machine.specs.Machine.Entry.{IsStream, stream_entries}
 use Rattle.busdma_machine.specs.Room.{Roomy}
 use Rattle.busdma_rules.specs.Segments.Built.{AreTooMany, IsFew}
 use Rattle.busdma_rules.specs.Segments.Pieces.{chunk_pieces}
@@ -12,11 +12,11 @@ use Rattle.busdma_rules.specs.Iommu.Device.{device_chunks, load_frames}
 
 -- the frames that the entries of a stream touch, one for each extent
 abbrev pub stream_frames : List Part → List ℕ
-stream_frames parts = load_frames (entries_of parts)
+stream_frames parts = load_frames (stream_entries parts)
 
 -- the pieces of a stream whose extents are in the device pages from `first` on
 abbrev pub device_pieces : TagLimits → ℕ → List Part → List Segment
-device_pieces t first parts = chunk_pieces t (device_chunks first 0 (entries_of parts))
+device_pieces t first parts = chunk_pieces t (device_chunks first 0 (stream_entries parts))
 
 -- the parts are a stream, and its extents are in device pages from `first` on that lie below 2^52
 pub record IsInDevicePages (first : ℕ) (parts : List Part) : Type 0 where

@@ -32,14 +32,14 @@ ended_run s (Of e false r) = None
 ended_run s (Unmapped n) = None
 
 -- what is known after several parts
-abbrev pub after : Gatherer → List Part → Gatherer
-after s [] = s
-after s (p ∷ ps) = after (after_part s p) ps
+abbrev pub gathered_after : Gatherer → List Part → Gatherer
+gathered_after s [] = s
+gathered_after s (p ∷ ps) = gathered_after (after_part s p) ps
 
 -- the runs that several parts end, in order
-abbrev pub ended : Gatherer → List Part → List Segment
-ended s [] = []
-ended s (p ∷ ps) = option_to_list (ended_run s p) ++ ended (after_part s p) ps
+abbrev pub gathering_ended : Gatherer → List Part → List Segment
+gathering_ended s [] = []
+gathering_ended s (p ∷ ps) = option_to_list (ended_run s p) ++ gathering_ended (after_part s p) ps
 
 -- the pieces of several runs, in order
 abbrev pub pieces_of_runs : TagLimits → List Segment → List Segment

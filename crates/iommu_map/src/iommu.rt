@@ -7,7 +7,7 @@ ghost use Rattle.std.specs.List.{All, insert};
 ghost use Rattle.busdma_machine.specs.declared.machine.address.Pa.{Pa as Address};
 ghost use Rattle.busdma_rules.specs.Iommu.Space.{IsSpace, entered, first_free, gap};
 ghost use Rattle.busdma_rules.specs.Iommu.Space.{is_live, run_unmapped, put_run, translated};
-ghost use Rattle.iommu_map.specs.Space.{place_of};
+ghost use Rattle.iommu_map.specs.Space.{run_place as place_of};
 
 use crate::run::DeviceRun;
 use busdma_machine::Pa;

@@ -1,5 +1,6 @@
 -- The actor in the line of an entry.
-use Rattle.std.proofs.Common.{◌≡◌, ℕ, ◌==◌, ◌≤◌, List, [], ◌∷◌, ◌++◌, length, get_or, drop, codes, Some, refl, sym, ap, ◌∙◌, arith, subst}
+use Rattle.std.proofs.Common.{◌≡◌, ℕ, ◌==◌, ◌≤◌, List, [], ◌∷◌, ◌++◌, length, get_or, drop, codes, Some, refl, sym, ap}
+use Rattle.std.proofs.Common.{◌∙◌, arith, subst}
 use Rattle.std.proofs.lemmas.List.{drop_at}
 use Rattle.std.proofs.lemmas.Option.{same_Some}
 use Rattle.std.specs.Fmt.{decimal}
@@ -35,7 +36,8 @@ pub record OfEntry (line : List ℕ) (actor : Actor) : Type 0 where
   pub is : line ≡ decimal number ++ 32 ∷ own
   pub behind : Behind (32 ∷ own) actor
 
-pub of-entry : (line : List ℕ) (s : Scenario) (n : ℕ) (e : JournalEntry) → line ≡ entry_line s n e → OfEntry line e.actor
+pub of-entry : (line : List ℕ) (s : Scenario) (n : ℕ) (e : JournalEntry) → line ≡ entry_line s n e →
+    OfEntry line e.actor
 of-entry line s n e h =
     let answer : List ℕ = codes " -> " ++ (answer_text e.answer ++ codes "\n") in
     let more : List ℕ = did_text s e.actor.lane e.did ++ answer in

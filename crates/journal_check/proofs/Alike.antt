@@ -1,10 +1,11 @@
 -- How many lines two texts have in common from their beginning on.
-use Rattle.std.proofs.Common.{◌≡◌, ℕ, suc, ◌+◌, ◌≤◌, Bool, true, false, List, [], ◌∷◌, length, take, drop, if◌then◌else◌}
+use Rattle.std.proofs.Common.{◌≡◌, ℕ, suc, ◌+◌, ◌≤◌, Bool, true, false, List, [], ◌∷◌, length, take, drop}
+use Rattle.std.proofs.Common.{if◌then◌else◌}
 use Rattle.std.proofs.Common.{refl, sym, ap, ap₂, ◌∙◌, arith, rules}
 use Rattle.std.proofs.lemmas.List.{drop-drop, drop_all, length-take-le}
 use Rattle.std.proofs.lemmas.Slice.Eq.{bytes_eq-Decides}
 use Rattle.std.specs.Str.{bytes_eq}
-use Rattle.program_rules.specs.Verdicts.Lines.{lines, alike_lines as alike}
+use Rattle.program_rules.specs.Verdicts.TextLines.{lines, alike_lines as alike}
 
 none-right : (xs : List (List ℕ)) → alike xs [] ≡ 0
 none-right [] = refl

@@ -1,5 +1,6 @@
 -- The lines of entries: none has a line feed inside, and each names its actor.
-use Rattle.std.proofs.Common.{◌≡◌, ℕ, zero, suc, ◌+◌, ◌/◌, ◌%◌, ◌==◌, ◌<◌, ◌≤◌, ◌^◌, ◌&&◌, Bool, true, false, cond, List, [], ◌∷◌, ◌++◌, length, codes}
+use Rattle.std.proofs.Common.{◌≡◌, ℕ, zero, suc, ◌+◌, ◌/◌, ◌%◌, ◌==◌, ◌<◌, ◌≤◌, ◌^◌, ◌&&◌, Bool, true, false, cond}
+use Rattle.std.proofs.Common.{List, [], ◌∷◌, ◌++◌, length, codes}
 use Rattle.std.proofs.Common.{Option, Some, None, refl, sym, ap, ◌∙◌, arith, if◌then◌else◌, nat_lt, slice_get, subst}
 use Rattle.std.proofs.lemmas.Bool.Decides.{nat_tests}
 use Rattle.std.proofs.lemmas.Fmt.{decimal_injective}
@@ -19,7 +20,7 @@ use Rattle.busdma_base.specs.Scenarios.Names.{in_name, is_name, is_letter, Makes
 use Rattle.busdma_base.specs.Scenarios.Operations.{Made, about, about_item, object_of, first_used, Makes, Uses}
 use Rattle.busdma_base.specs.Scenarios.Script.{IsOp}
 use Rattle.busdma_base.specs.Scenarios.Valid.{IsDriver, IsValid}
-use Rattle.busdma_base.specs.Scenarios.Words.{op_word_text as op_text, item_word_text as item_text}
+use Rattle.busdma_base.specs.Scenarios.Words.{op_word_text, item_word_text}
 use Rattle.busdma_machine.specs.declared.name.LaneId.{LaneId}
 use Rattle.busdma_base.specs.declared.journals.journal.Did.{Did}
 use Rattle.busdma_base.specs.declared.journals.journal.Did.TheVariants as did
@@ -44,14 +45,14 @@ use Rattle.busdma_machine.specs.declared.report.Errno.TheVariants.{EINVAL, ENOME
 use Rattle.busdma_machine.specs.declared.report.ReportName.{ReportName}
 use Rattle.busdma_machine.specs.declared.report.ReportName.TheVariants as names
 use Rattle.program_rules.specs.Reports.Answer.{errno_name, report_name, made_text, segment_text, byte_text, bytes_text}
-use Rattle.program_rules.specs.Reports.Report.{journal_end_line as end_line, report}
+use Rattle.program_rules.specs.Reports.Report.{journal_end_line, report}
 use Rattle.program_rules.specs.Reports.Zone.{zone_lines}
 use Rattle.program_rules.specs.Reports.Text.{hex, numbered}
-use Rattle.program_rules.specs.Verdicts.Lines.{lines}
+use Rattle.program_rules.specs.Verdicts.TextLines.{lines}
 use Rattle.program_rules.specs.Verdicts.ReportLines.{entry_lines, closing_lines}
 use Rattle.journal_check.proofs.Lines.{lines-line, concat-lines}
-use Rattle.program_rules.specs.Reports.Did.{did_text, script_of, name_made_at as name_at}
-use Rattle.program_rules.specs.Reports.Did.{map_name, object_text, object_name, item_of_load as item_at}
+use Rattle.program_rules.specs.Reports.Did.{did_text, script_of, name_made_at}
+use Rattle.program_rules.specs.Reports.Did.{map_name, object_text, object_name, item_of_load}
 use Rattle.program_rules.specs.Reports.Did.{again_text, op_text as report_op, item_text as report_item}
 use Rattle.program_rules.specs.Reports.Answer.{answer_text}
 use Rattle.program_rules.specs.Reports.Report.{side_letter, actor_text, entry_line}
@@ -139,12 +140,14 @@ made-high before None h = refl
 made-high before (Some m) h = name-high m.name h.well_formed
 
 -- what each operation of a script makes is a name, or nothing
-name-at-high : (before script : List Op) (place : ℕ) → EachAfter IsOp before script → over 31 (name_at script place) ≡ true
+name-at-high : (before script : List Op) (place : ℕ) → EachAfter IsOp before script →
+    over 31 (name_made_at script place) ≡ true
 name-at-high before [] place h = refl
 name-at-high before (o ∷ script) zero h = made-high before (about o).makes h.0.new
 name-at-high before (o ∷ script) (suc place) h = name-at-high (before ++ o ∷ []) script place h.1
 
-script-high : (frames : List FrameRun) (before drivers : List Driver) (i : ℕ) → EachAfter (IsDriver frames) before drivers
+script-high : (frames : List FrameRun) (before drivers : List Driver) (i : ℕ) → EachAfter (IsDriver frames) before
+    drivers
     → EachAfter IsOp [] (option_map_or (λ (d : Driver). d.script) (slice_get drivers i) [])
 script-high frames before [] i h = tt
 script-high frames before (d ∷ drivers) zero h = h.0.script.each
@@ -152,7 +155,7 @@ script-high frames before (d ∷ drivers) (suc i) h = script-high frames (before
 
 -- ---- what was done
 
-op-high : (w : OpWord) → over 31 (op_text w) ≡ true
+op-high : (w : OpWord) → over 31 (op_word_text w) ≡ true
 op-high op.Tag = refl
 op-high op.IommuTag = refl
 op-high op.TagDestroy = refl
@@ -175,7 +178,7 @@ op-high op.Ring = refl
 op-high op.RingPost = refl
 op-high op.Kick = refl
 
-item-high : (w : ItemWord) → over 31 (item_text w) ≡ true
+item-high : (w : ItemWord) → over 31 (item_word_text w) ≡ true
 item-high item.Sync = refl
 item-high item.SyncRange = refl
 item-high item.DevRead = refl
@@ -185,15 +188,18 @@ item-high item.DevWriteAt = refl
 item-high item.RingStep = refl
 
 hex-high : (n : ℕ) → over 31 (hex n) ≡ true
-hex-high n = joined 31 (codes "0x") (digits 16 false n) refl (lower 31 47 (digits 16 false n) (omega arith) (digits-high 16 false n))
+hex-high n = joined 31 (codes "0x") (digits 16 false n) refl
+    (lower 31 47 (digits 16 false n) (omega arith) (digits-high 16 false n))
 
 module _ (script : List Op) (names : EachAfter IsOp [] script) where
-  named-high : (o : Op) (before : List Op) → IsOp before o → over 31 (object_text (option_map (object_name script) (object_of (about o)))) ≡ true
+  named-high : (o : Op) (before : List Op) → IsOp before o →
+      over 31 (object_text (option_map (object_name script) (object_of (about o)))) ≡ true
   named-high o before h = by (about o).makes (about o).uses h.new
     where
       used : (uses : List UsedName) → over 31 (object_text (option_map (object_name script) (first_used uses))) ≡ true
       used [] = refl
-      used (u ∷ uses) = joined 31 (codes " ") (name_at script u.made_at) refl (name-at-high [] script u.made_at names)
+      used (u ∷ uses) = joined 31 (codes " ") (name_made_at script u.made_at) refl
+          (name-at-high [] script u.made_at names)
 
       by : (m : Option Made) (uses : List UsedName) → MakesNewName before m
           → over 31 (object_text (option_map (object_name script)
@@ -205,7 +211,7 @@ module _ (script : List Op) (names : EachAfter IsOp [] script) where
       over 31 (option_map_or (report_op script) (slice_get rest place) []) ≡ true
   op-line-high [] before place h = refl
   op-line-high (o ∷ rest) before zero h =
-      joined 31 (op_text (about o).word) (object_text (option_map (object_name script) (object_of (about o))))
+      joined 31 (op_word_text (about o).word) (object_text (option_map (object_name script) (object_of (about o))))
       (op-high (about o).word) (named-high o before h.0)
   op-line-high (o ∷ rest) before (suc place) h = op-line-high rest (before ++ o ∷ []) place h.1
 
@@ -220,9 +226,9 @@ module _ (script : List Op) (names : EachAfter IsOp [] script) where
   item-line-high : (i : Option Item) → over 31 (option_map_or (report_item script) i []) ≡ true
   item-line-high None = refl
   item-line-high (Some i) =
-      joined 31 (item_text (about_item i).word) (codes " " ++ name_at script (about_item i).uses.made_at)
+      joined 31 (item_word_text (about_item i).word) (codes " " ++ name_made_at script (about_item i).uses.made_at)
       (item-high (about_item i).word)
-      (joined 31 (codes " ") (name_at script (about_item i).uses.made_at) refl
+      (joined 31 (codes " ") (name_made_at script (about_item i).uses.made_at) refl
       (name-at-high [] script (about_item i).uses.made_at names))
 
 pub did-high : (s : Scenario) (lane : LaneId) (d : Did) → IsValid s → over 31 (did_text s lane d) ≡ true
@@ -242,7 +248,7 @@ did-high s lane (did.Callback map) valid =
     joined 31 (codes "callback ") (map_name s map) refl (name-at-high [] (script_of s map.lane) map.made_at own)
 did-high s lane (did.Item load_at place) valid =
     let own = script-high s.frames [] s.drivers lane.0 valid.drivers in
-    item-line-high (script_of s lane) own (item_at (script_of s lane) load_at place)
+    item-line-high (script_of s lane) own (item_of_load (script_of s lane) load_at place)
 
 -- ---- answers
 
@@ -296,7 +302,8 @@ bytes-high (b ∷ bs) = joined 31 (codes " ") (flat_map byte_text (b ∷ bs)) re
 pub answer-high : (a : Answer) → over 31 (answer_text a) ≡ true
 answer-high answers.Done = refl
 answer-high (answers.Grown g) =
-    joined 31 (made_text g.made) (codes " zone" ++ (decimal g.zone.0 ++ (codes " +" ++ decimal g.added))) (made-text-high g.made)
+    joined 31 (made_text g.made) (codes " zone" ++ (decimal g.zone.0 ++ (codes " +" ++ decimal g.added)))
+    (made-text-high g.made)
     (joined 31 (codes " zone") (decimal g.zone.0 ++ (codes " +" ++ decimal g.added)) refl
     (joined 31 (decimal g.zone.0) (codes " +" ++ decimal g.added) (decimal-high g.zone.0)
     (joined 31 (codes " +") (decimal g.added) refl (decimal-high g.added))))
@@ -333,7 +340,8 @@ behind a text h l = record {
 
 entry-line : (s : Scenario) (n : ℕ) (e : JournalEntry) → IsValid s → IsLine (entry_line s n e)
 entry-line s n e valid =
-    let own : over 31 (actor_text e.actor) ≡ true = lower 31 32 (actor_text e.actor) (omega arith) (actor-high e.actor) in
+    let own : over 31 (actor_text e.actor) ≡ true = lower 31 32 (actor_text e.actor) (omega arith)
+    (actor-high e.actor) in
     let last : IsLine (codes "\n") = record { front = []; high = refl; is = refl } in
     behind (decimal n) _ (decimal-high n) (behind (codes " ") _ refl (behind (actor_text e.actor) _ own
     (behind (codes " ") _ refl (behind (did_text s e.actor.lane e.did) _ (did-high s e.actor.lane e.did valid)
@@ -364,11 +372,11 @@ concat-entries s n (e ∷ es) rest =
 -- a report's lines are those of its entries, and those of its zones and its end
 pub lines-report : (s : Scenario) (j : Journal) → IsValid s
     → lines (report s j) ≡ entry_lines s 0 j.entries ++ closing_lines j
-lines-report s j valid = lines-numbered s 0 j.entries (zone_lines j.zones ++ end_line j) valid
+lines-report s j valid = lines-numbered s 0 j.entries (zone_lines j.zones ++ journal_end_line j) valid
 
 -- a text with these lines is the report
 pub report-from_lines : (s : Scenario) (j : Journal) (text : List ℕ)
     → lines text ≡ entry_lines s 0 j.entries ++ closing_lines j → text ≡ report s j
 report-from_lines s j text h =
     sym (concat-lines text) ∙ ap concat h ∙ concat-entries s 0 j.entries (closing_lines j)
-    ∙ ap (λ t. numbered (entry_line s) 0 j.entries ++ t) (concat-lines (zone_lines j.zones ++ end_line j))
+    ∙ ap (λ t. numbered (entry_line s) 0 j.entries ++ t) (concat-lines (zone_lines j.zones ++ journal_end_line j))

@@ -4,12 +4,12 @@ use Rattle.std.specs.List.{concat}
 use Rattle.busdma_base.specs.declared.journals.journal.Journal.{Journal}
 use Rattle.busdma_base.specs.declared.journals.journal.JournalEntry.{JournalEntry}
 use Rattle.busdma_base.specs.declared.scenarios.scenario.Scenario.{Scenario}
-use Rattle.program_rules.specs.Reports.Report.{journal_end_line as end_line}
+use Rattle.program_rules.specs.Reports.Report.{journal_end_line}
 use Rattle.program_rules.specs.Reports.Zone.{zone_lines}
 use Rattle.ideal_world.specs.Ends.{IsAtRest}
 use Rattle.ideal_world.specs.World.{WorldState}
 use Rattle.journal_check.specs.Following.{AreFollowedTo}
-use Rattle.program_rules.specs.Verdicts.Lines.{lines, alike_lines as alike}
+use Rattle.program_rules.specs.Verdicts.TextLines.{lines, alike_lines as alike}
 use Rattle.program_rules.specs.Verdicts.ReportLines.{closing_lines}
 use Rattle.program_rules.specs.Verdicts.Verdict.{CanGoOn, FollowsText as Follows, IsWhole}
 use Rattle.program_rules.specs.Verdicts.Verdict.{StopsAtEnd, StopsWithin, journal_at}
@@ -21,7 +21,7 @@ lines-tell a b h = sym (concat-lines a) ∙ (ap concat h ∙ concat-lines b)
 
 -- the text of closing lines
 abbrev pub closing : Journal → List ℕ
-closing j = zone_lines j.zones ++ end_line j
+closing j = zone_lines j.zones ++ journal_end_line j
 
 module _ (s : Scenario) (text : List ℕ) (es : List JournalEntry) (at : ℕ) (w : WorldState)
     (f : AreFollowedTo s text es at w) where
@@ -42,7 +42,8 @@ module _ (s : Scenario) (text : List ℕ) (es : List JournalEntry) (at : ℕ) (w
     place = place ∙ ap (λ n. n + 1) is;
   }
 
-  module _ (still : IsAtRest w) (j : Journal) (own : j ≡ journal_at w es) (rest : List ℕ) (there : rest ≡ drop at text) where
+  module _ (still : IsAtRest w) (j : Journal) (own : j ≡ journal_at w es) (rest : List ℕ)
+      (there : rest ≡ drop at text) where
     pub is-whole : (end : List ℕ) → end ≡ closing j → rest ≡ end → IsWhole s text j
     is-whole end is same = record {
       right = right;
@@ -60,5 +61,6 @@ module _ (s : Scenario) (text : List ℕ) (es : List JournalEntry) (at : ℕ) (w
           still = still;
           other = λ h. other (there ∙ (lines-tell (drop at text) (closing (journal_at w es)) h ∙ sym closes));
           place = place ∙ (ap (λ n. n + same + 1) counted ∙ ap (λ n. length es + n + 1) (alike-is
-              ∙ (ap (λ t. alike (lines t) (lines end)) there ∙ ap (λ t. alike (lines (drop at text)) (lines t)) closes)));
+              ∙ (ap (λ t. alike (lines t) (lines end)) there ∙ ap (λ t. alike (lines (drop at text)) (lines t))
+              closes)));
         }

@@ -1,10 +1,11 @@
 -- The first place of a byte in a text, and the first line of a text.
-use Rattle.std.proofs.Common.{◌≡◌, ℕ, zero, suc, ◌+◌, ◌<◌, ◌≤◌, ◌==◌, Bool, true, false, cond, not, List, [], ◌∷◌, ◌++◌, length, take, drop}
+use Rattle.std.proofs.Common.{◌≡◌, ℕ, zero, suc, ◌+◌, ◌<◌, ◌≤◌, ◌==◌, Bool, true, false, cond, not, List, [], ◌∷◌, ◌++◌}
+use Rattle.std.proofs.Common.{length, take, drop}
 use Rattle.std.proofs.Common.{Option, Some, None, refl, sym, ap, ◌∙◌, arith, nat_lt, if◌then◌else◌, length-append}
 use Rattle.std.proofs.lemmas.Bool.Decides.{nat_tests}
 use Rattle.std.proofs.lemmas.List.{take_all, drop_all}
 use Rattle.std.specs.List.{list_all, onto_first, position, position_or_len}
-use Rattle.program_rules.specs.Verdicts.Lines.{lines}
+use Rattle.program_rules.specs.Verdicts.TextLines.{lines}
 use Rattle.journal_check.proofs.Lines.{over, and-both}
 
 -- the first place of a byte, or the end
@@ -67,12 +68,14 @@ cut-last text some h =
     let own : length text ≤ length text = omega arith in
     first-of text some ∙ (ap (λ t. t ∷ lines (drop n text)) (take_all n text (omega (arith, far))
     ∙ sym (take_all (length text) text own))
-    ∙ ap (λ t. take (length text) text ∷ lines t) (drop_all n text (omega (arith, far)) ∙ sym (drop_all (length text) text own)))
+    ∙ ap (λ t. take (length text) text ∷ lines t) (drop_all n text (omega (arith, far))
+    ∙ sym (drop_all (length text) text own)))
 
 -- ---- the first word
 
 -- a byte follows a word whose bytes are above it
-pub first-behind : (byte : ℕ) (word rest : List ℕ) → over byte word ≡ true → first byte (word ++ byte ∷ rest) ≡ length word
+pub first-behind : (byte : ℕ) (word rest : List ℕ) → over byte word ≡ true → first byte (word ++ byte ∷ rest)
+    ≡ length word
 first-behind byte [] rest h = by (byte == byte) (grind (arith, nat_tests))
   where
     by : (c : Bool) → c ≡ true → cond (not c) (1 + first byte rest) 0 ≡ 0

@@ -1,6 +1,8 @@
 -- The header of an input.
-use Rattle.std.proofs.Common.{◌≡◌, ℕ, suc, ◌+◌, ◌<◌, ◌≤◌, ◌==◌, ◌&&◌, Bool, true, false, cond, List, [], ◌∷◌, ◌++◌, length, take, drop}
-use Rattle.std.proofs.Common.{Option, Some, None, refl, sym, ap, ◌∙◌, arith, rules, nat_eq, nat_le, nat_lt, if◌then◌else◌, codes, length-append, ◌^◌, ◌≢◌, subst, Bor, MatchOption}
+use Rattle.std.proofs.Common.{◌≡◌, ℕ, suc, ◌+◌, ◌<◌, ◌≤◌, ◌==◌, ◌&&◌, Bool, true, false, cond, List, [], ◌∷◌, ◌++◌}
+use Rattle.std.proofs.Common.{length, take, drop}
+use Rattle.std.proofs.Common.{Option, Some, None, refl, sym, ap, ◌∙◌, arith, rules, nat_eq, nat_le, nat_lt}
+use Rattle.std.proofs.Common.{if◌then◌else◌, codes, length-append, ◌^◌, ◌≢◌, subst, Bor, MatchOption}
 use Rattle.std.proofs.lemmas.Bool.Decides.{nat_tests, Decides-eqb}
 use Rattle.std.proofs.lemmas.Fmt.{decimal_is_IsNumeral}
 use Rattle.std.proofs.lemmas.List.{append_assoc, take_at, drop_at, length-take-le, take-append-drop, append_cancel_left}
@@ -29,13 +31,15 @@ length-header n = length-append (decimal n) (10 ∷ [])
 
 -- ---- what the test says
 
-starts : (input : List ℕ) (n : ℕ) → (starts_with nat_eq input (header n) ≡ true → input ≡ header n ++ drop (length (header n)) input)
+starts : (input : List ℕ) (n : ℕ) → (starts_with nat_eq input (header n) ≡ true → input ≡ header n
+    ++ drop (length (header n)) input)
     × ((rest : List ℕ) → input ≡ header n ++ rest → starts_with nat_eq input (header n) ≡ true)
 starts input n = starts_is Decides-eqb input (header n) (starts_with nat_eq input (header n)) refl
 
 headed-is : (input : List ℕ) (n : ℕ) → is_headed input n ≡ true → Headed input n (drop (length (header n)) input)
 headed-is input n h =
-    let few = and-both (nat_lt n 100000000) (starts_with nat_eq input (header n) && nat_le (length (header n) + n) (length input)) h in
+    let few = and-both (nat_lt n 100000000) (starts_with nat_eq input (header n) && nat_le (length (header n) + n)
+    (length input)) h in
     let both = and-both (starts_with nat_eq input (header n)) (nat_le (length (header n) + n) (length input)) few.1 in
     let f : nat_lt n 100000000 ≡ true = few.0 in
     let e : nat_le (length (header n) + n) (length input) ≡ true = both.1 in
@@ -66,14 +70,16 @@ size-of input rest n h =
     let place : first 10 input ≡ length (decimal n) =
     ap (first 10) h.is ∙ first-behind 10 (decimal n) rest (number-high 10 n (omega arith)) in
     let word : before_first (λ b. b == 10) input ≡ decimal n =
-    ap (λ k. take k input) place ∙ (ap (take (length (decimal n))) h.is ∙ take_at (decimal n) (10 ∷ rest) (length (decimal n)) refl) in
+    ap (λ k. take k input) place
+    ∙ (ap (take (length (decimal n))) h.is ∙ take_at (decimal n) (10 ∷ rest) (length (decimal n)) refl) in
     ap (digits_value 10) word ∙ (decimal_is_IsNumeral n (omega (arith, few))).1
 
 cut-at : (input rest : List ℕ) (n : ℕ) → Headed input n rest →
     cut_at input n ≡ record { scenario = take n rest; report = drop n rest }
 cut-at input rest n h =
     let behind : drop (length (header n)) input ≡ rest =
-    ap (drop (length (header n))) (h.is ∙ sym (header-joined n rest)) ∙ drop_at (header n) rest (length (header n)) refl in
+    ap (drop (length (header n))) (h.is ∙ sym (header-joined n rest)) ∙ drop_at (header n) rest (length (header n))
+    refl in
     ap (λ (t : List ℕ). record { scenario = take n t; report = drop n t }) behind
 
 chosen : (b : Bool) (c : Cut) → b ≡ true → (if b then Some c else None) ≡ Some c
@@ -91,7 +97,8 @@ none-of input none = by (is_headed input (size_of input)) refl
   where
     by : (b : Bool) → is_headed input (size_of input) ≡ b →
         (if b then Some (cut_at input (size_of input)) else None) ≡ None
-    by true e = absurd (none (drop (length (header (size_of input))) input) (size_of input) (headed-is input (size_of input) e))
+    by true e = absurd (none (drop (length (header (size_of input))) input) (size_of input)
+        (headed-is input (size_of input) e))
     by false e = refl
 
 -- ---- the parts by their definition
@@ -136,7 +143,8 @@ abbrev pub Stripped : List ℕ → List ℕ → Option (Bor (List ℕ)) → Type
 Stripped text front r = MatchOption r ((rest : List ℕ) → text ≢ front ++ rest) (λ x. text ≡ front ++ x.now)
 
 -- without the number there is no header
-pub no-number : (input digits : List ℕ) (n : ℕ) → digits ≡ decimal n → Stripped input digits None → Stripped input (header n) None
+pub no-number : (input digits : List ℕ) (n : ℕ) → digits ≡ decimal n → Stripped input digits None →
+    Stripped input (header n) None
 no-number input digits n own off = λ rest h.
     off (10 ∷ rest) (h ∙ (header-joined n rest ∙ ap (λ d. d ++ 10 ∷ rest) (sym own)))
 
@@ -151,7 +159,8 @@ behind-number input digits behind n (Some x) own first next =
 
 -- a header's number is the one that was read
 pub same-number : (input rest : List ℕ) (n k : ℕ) (told : Option ℕ) → told ≡ Some k →
-    ((n : ℕ) (rest : List ℕ) → n < 2 ^ 32 → input ≡ decimal n ++ 10 ∷ rest → told ≡ Some n) → Headed input n rest → k ≡ n
+    ((n : ℕ) (rest : List ℕ) → n < 2 ^ 32 → input ≡ decimal n ++ 10 ∷ rest → told ≡ Some n) → Headed input n rest → k
+    ≡ n
 same-number input rest n k told is tells h =
     let few : n < 100000000 = h.few in
     same_Some k n (sym is ∙ tells n rest (omega (arith, few)) h.is)
@@ -166,6 +175,7 @@ pub not-behind : (input rest : List ℕ) (n k : ℕ) → k ≡ n → Stripped in
 not-behind input rest n k same off h =
     off rest (h.is ∙ (sym (header-joined n rest) ∙ ap (λ i. header i ++ rest) (sym same)))
 
-pub headed-by : (input rest : List ℕ) (n : ℕ) → n ≤ 99999999 → input ≡ header n ++ rest → n ≤ length rest → Headed input n rest
+pub headed-by : (input rest : List ℕ) (n : ℕ) → n ≤ 99999999 → input ≡ header n ++ rest → n ≤ length rest →
+    Headed input n rest
 headed-by input rest n few is enough =
     record { few = omega (arith, few); is = is ∙ header-joined n rest; enough = enough }

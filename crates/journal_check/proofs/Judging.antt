@@ -1,7 +1,8 @@
 -- The verdict on lines, over any machine in which each actor has one step.
-use Rattle.std.proofs.Common.{◌≡◌, ◌≢◌, ℕ, zero, suc, ◌+◌, ◌<◌, ◌≤◌, Bool, true, false, List, [], ◌∷◌, ◌++◌, length, take, Option, Some, None}
+use Rattle.std.proofs.Common.{◌≡◌, ◌≢◌, ℕ, zero, suc, ◌+◌, ◌<◌, ◌≤◌, Bool, true, false, List, [], ◌∷◌, ◌++◌, length}
+use Rattle.std.proofs.Common.{take, Option, Some, None}
 use Rattle.std.proofs.lemmas.List.{append_assoc, append-nil, take-take}
-use Rattle.program_rules.specs.Verdicts.Lines.{alike_lines as alike}
+use Rattle.program_rules.specs.Verdicts.TextLines.{alike_lines as alike}
 use Rattle.journal_check.proofs.Lines.{take-past, alike-front, alike-breaks}
 use Rattle.std.proofs.Common.{◌⊎◌, inl, inr, refl, sym, ap, ◌∙◌, arith, subst, length-append}
 
@@ -42,7 +43,8 @@ module _ {W A E : Type 0} (actor : E → A) (step_entry : W → A → Option E) 
               (subst (λ j. take j xs ≡ take j (lines_from n ks ++ ys)) b h);
         }
     within (e ∷ es) [] n n' k m w u v xs ys en ek well p q rest h =
-        let none : step_entry w (actor e) ≡ None = subst (λ x. step_entry x (actor e) ≡ None) (sym q) (rest (actor e)) in
+        let none : step_entry w (actor e) ≡ None = subst (λ x. step_entry x (actor e) ≡ None) (sym q)
+        (rest (actor e)) in
         let clash : Some e ≡ None = sym p.0 ∙ none in
         absurd (cc)
     within (e ∷ es) (f ∷ ks) n n' zero m w u v xs ys en ek well p q rest h = absurd (omega (arith, ek))
@@ -127,7 +129,8 @@ module _ {W A E : Type 0} (actor : E → A) (step_entry : W → A → Option E) 
 
       can-step : (u v : W) → u ≡ v → IsAtRest v → (e : E) → step_entry u (actor e) ≡ Some e → ⊥
       can-step u v same still e is =
-          let none : step_entry u (actor e) ≡ None = subst (λ x. step_entry x (actor e) ≡ None) (sym same) (still (actor e)) in
+          let none : step_entry u (actor e) ≡ None = subst (λ x. step_entry x (actor e) ≡ None) (sym same)
+          (still (actor e)) in
           let clash : Some e ≡ None = sym is ∙ none in
           absurd (cc)
 
@@ -155,11 +158,13 @@ module _ {W A E : Type 0} (actor : E → A) (step_entry : W → A → Option E) 
             leads = leads-append start u x.1 es x.0 s.right.leads x.2;
             still = x.3;
             front = ap (take n) s.right.lines ∙ take-past (lines_from 0 es) s.right.rest 0 n (omega (arith, count))
-                ∙ sym (take-past (lines_from 0 es) (lines_from n x.0 ++ closing x.1 (es ++ x.0)) 0 n (omega (arith, count)))
+                ∙ sym (take-past (lines_from 0 es) (lines_from n x.0 ++ closing x.1 (es ++ x.0)) 0 n
+                (omega (arith, count)))
                 ∙ ap (take n) (sym (append_assoc (lines_from 0 es) (lines_from n x.0) (closing x.1 (es ++ x.0)))
                 ∙ ap (λ t. t ++ closing x.1 (es ++ x.0)) (sym (lines-append 0 n es x.0 (omega arith))));
             breaks = λ ks v q still h.
-                let g = within es ks 0 n at 1 start u v s.right.rest (closing v ks) (omega arith) (omega (arith, s.place))
+                let g = within es ks 0 n at 1 start u v s.right.rest (closing v ks) (omega arith)
+                (omega (arith, s.place))
                 open_well s.right.leads q still (sym (ap (take at) s.right.lines) ∙ h) in
                 wrong-next n u v s.right.rest g.more (closing v ks) s.goes_on s.wrong g.leads still g.rest;
           }

@@ -16,7 +16,8 @@ use Rattle.journal_check.specs.declared.stepping.Line.TheVariants.{Right, Wrong,
 use Rattle.journal_check.specs.Following.{IsJudged}
 
 module _ (s : Scenario) (n : ℕ) (w : WorldState) (line : List ℕ) (named : Option Actor) (well : IsWellFormed s w)
-    (tells : (s : Scenario) (n : ℕ) (e : JournalEntry) → e.actor.lane.0 < 2 ^ 32 → line ≡ entry_line s n e → named ≡ Some e.actor) where
+    (tells : (s : Scenario) (n : ℕ) (e : JournalEntry) → e.actor.lane.0 < 2 ^ 32 → line ≡ entry_line s n e → named
+    ≡ Some e.actor) where
   -- the actor of a right line is named
   told : (f : JournalEntry) → step_entry w f.actor ≡ Some f → line ≡ entry_line s n f → named ≡ Some f.actor
   told f is h =

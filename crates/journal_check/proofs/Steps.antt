@@ -1,10 +1,11 @@
 -- What following lines keeps.
-use Rattle.std.proofs.Common.{◌≡◌, ℕ, suc, ◌+◌, ◌<◌, ◌≤◌, List, [], ◌∷◌, ◌++◌, length, take, drop, Some, refl, sym, ap, ◌∙◌, arith, subst}
+use Rattle.std.proofs.Common.{◌≡◌, ℕ, suc, ◌+◌, ◌<◌, ◌≤◌, List, [], ◌∷◌, ◌++◌, length, take, drop, Some, refl, sym, ap}
+use Rattle.std.proofs.Common.{◌∙◌, arith, subst}
 use Rattle.std.proofs.lemmas.List.{append_assoc, drop-drop, drop_all}
 use Rattle.busdma_base.specs.declared.journals.journal.JournalEntry.{JournalEntry}
 use Rattle.busdma_base.specs.declared.scenarios.scenario.Scenario.{Scenario}
 use Rattle.program_rules.specs.Reports.Report.{entry_line}
-use Rattle.program_rules.specs.Verdicts.Lines.{lines}
+use Rattle.program_rules.specs.Verdicts.TextLines.{lines}
 use Rattle.program_rules.specs.Verdicts.ReportLines.{entry_lines}
 use Rattle.ideal_world.specs.Legal.{Leads}
 use Rattle.ideal_world.specs.World.{WorldState, opening_world, step, step_entry}
@@ -29,7 +30,8 @@ pub begins : (s : Scenario) (text : List ℕ) (w : WorldState) (es : List Journa
 begins s text w es none h =
     subst (λ x. AreFollowed s text x 0 w) (sym none) (record { leads = sym h; read = refl })
 
-module _ (s : Scenario) (text : List ℕ) (es : List JournalEntry) (at n end : ℕ) (w after : WorldState) (line rest : List ℕ)
+module _ (s : Scenario) (text : List ℕ) (es : List JournalEntry) (at n end : ℕ) (w after : WorldState)
+    (line rest : List ℕ)
     (followed : AreFollowed s text es at w) (count : n ≡ length es) (there : rest ≡ drop at text)
     (cut : lines rest ≡ take end rest ∷ lines (drop end rest)) (is : line ≡ take end rest) where
   left : lines (drop at text) ≡ line ∷ lines (drop (at + end) text)
@@ -37,7 +39,8 @@ module _ (s : Scenario) (text : List ℕ) (es : List JournalEntry) (at n end : �
       ap lines (sym there) ∙ (cut ∙ (ap (λ l. l ∷ lines (drop end rest)) (sym is)
       ∙ ap (λ t. line ∷ lines t) (ap (drop end) there ∙ drop-drop end at text)))
 
-  pub goes-on : (e : JournalEntry) (more : List JournalEntry) → more ≡ es ++ e ∷ [] → IsJudged s n w line (Right e) after →
+  pub goes-on : (e : JournalEntry) (more : List JournalEntry) → more ≡ es ++ e ∷ [] → IsJudged s n w line (Right e)
+      after →
       AreFollowed s text more (at + end) after
   goes-on e more pushed j =
       subst (λ x. AreFollowed s text x (at + end) after) (sym pushed) (record {

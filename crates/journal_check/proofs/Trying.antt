@@ -1,5 +1,6 @@
 -- Turns that are tried, until one is a step.
-use Rattle.std.proofs.Common.{◌≡◌, ℕ, ◌+◌, ◌<◌, ◌≤◌, Bool, true, false, List, [], ◌∷◌, ◌++◌, length, take, get_or, Option, Some, None}
+use Rattle.std.proofs.Common.{◌≡◌, ℕ, ◌+◌, ◌<◌, ◌≤◌, Bool, true, false, List, [], ◌∷◌, ◌++◌, length, take, get_or}
+use Rattle.std.proofs.Common.{Option, Some, None}
 use Rattle.std.proofs.Common.{refl, sym, ap, ◌∙◌, subst, add-one}
 use Rattle.std.proofs.Math.Seq.{take-suc}
 use Rattle.std.proofs.lemmas.List.{take_all}
@@ -13,7 +14,7 @@ use Rattle.ideal_world.specs.WellFormed.{IsWellFormed}
 use Rattle.ideal_world.specs.World.{WorldState, WorldTurned, entry_of, step, step_entry}
 use Rattle.ideal_world.proofs.Falling.{step-rests}
 use Rattle.ideal_world.proofs.Keeping.{step-named}
-use Rattle.ideal_world.proofs.Rest.{NoneSteps}
+use Rattle.ideal_world.proofs.RestRounds.{NoneSteps}
 use Rattle.program_rules.specs.Verdicts.Verdict.{CanGoOn}
 use Rattle.journal_check.proofs.Verdicts.{at-rest}
 

@@ -1,5 +1,6 @@
 -- The laws of verdicts, over the laws of the ideal world.
-use Rattle.std.proofs.Common.{◌≡◌, ◌≢◌, ◌⊎◌, inl, inr, ℕ, zero, suc, ◌+◌, ◌<◌, ◌≤◌, ◌^◌, Bool, true, false, List, [], ◌∷◌, ◌++◌, length, take}
+use Rattle.std.proofs.Common.{◌≡◌, ◌≢◌, ◌⊎◌, inl, inr, ℕ, zero, suc, ◌+◌, ◌<◌, ◌≤◌, ◌^◌, Bool, true, false, List, []}
+use Rattle.std.proofs.Common.{◌∷◌, ◌++◌, length, take}
 use Rattle.std.proofs.Common.{Option, Some, None, refl, sym, ap, ◌∙◌, arith, subst, slice_get, nat_lt}
 use Rattle.std.proofs.lemmas.Bool.Decides.{nat_tests}
 use Rattle.std.proofs.lemmas.Option.{slice_get_past, same_Some}
@@ -10,11 +11,11 @@ use Rattle.busdma_base.specs.declared.journals.journal.JournalEntry.{JournalEntr
 use Rattle.busdma_base.specs.declared.scenarios.scenario.Scenario.{Scenario}
 use Rattle.busdma_base.specs.Scenarios.Valid.{IsValid}
 use Rattle.program_rules.specs.Reports.Report.{entry_line, report}
-use Rattle.program_rules.specs.Verdicts.Lines.{lines, alike_lines as alike}
+use Rattle.program_rules.specs.Verdicts.TextLines.{lines, alike_lines as alike}
 use Rattle.program_rules.specs.Verdicts.ReportLines.{entry_lines, closing_lines}
 use Rattle.journal_check.proofs.EntryLines.{one-actor, lines-report, report-from_lines}
 use Rattle.journal_check.proofs.Judging as judging
-use Rattle.ideal_world.specs.Ends.{IsAtRest, world_end as end_of}
+use Rattle.ideal_world.specs.Ends.{IsAtRest, world_end}
 use Rattle.ideal_world.specs.Left.{left_of}
 use Rattle.ideal_world.specs.Legal.{Leads, IsLegal, journal_of, round_from}
 use Rattle.ideal_world.specs.WellFormed.{IsWellFormed}
@@ -22,7 +23,7 @@ use Rattle.ideal_world.specs.World.{WorldState, opening_world, step, step_of, st
 use Rattle.ideal_world.proofs.Falling.{step-falls}
 use Rattle.ideal_world.proofs.Keeping.{step-keeps, step-named}
 use Rattle.ideal_world.proofs.Opens.{opens-well}
-use Rattle.ideal_world.proofs.Rest.{NoneSteps, in_round}
+use Rattle.ideal_world.proofs.RestRounds.{NoneSteps, in_round}
 use Rattle.program_rules.specs.declared.verdict.Verdict.{Verdict}
 use Rattle.program_rules.specs.declared.verdict.Verdict.TheVariants.{Yes, No}
 use Rattle.program_rules.specs.Verdicts.Verdict.{FollowsText as Follows, journal_at, CanGoOn}
@@ -63,7 +64,8 @@ module _ (s : Scenario) where
       let count = well.count in
       let a = steps-within w e.actor e is in
       let b = steps-within w f.actor f also in
-      let same : e.actor ≡ f.actor = one-actor s n e f (omega (arith, a, count, few)) (omega (arith, b, count, few)) h in
+      let same : e.actor ≡ f.actor = one-actor s n e f (omega (arith, a, count, few)) (omega (arith, b, count, few))
+      h in
       same_Some e f (sym is ∙ (ap (step_entry w) same ∙ also))
 
   -- an actor of a list can step, or none of them can
@@ -143,7 +145,8 @@ module _ (s : Scenario) where
 
     abbrev Breaks : List (List ℕ) → ℕ → Type 0
     Breaks = judging.Breaks (λ (e : JournalEntry). e.actor) step_entry (λ w a. (step w a).world) (entry_line s)
-        (IsWellFormed s) (λ w a well. keeps w well a) one (λ w es. closing_lines (journal_at w es)) (opening_world s) opens rests
+        (IsWellFormed s) (λ w a well. keeps w well a) one (λ w es. closing_lines (journal_at w es)) (opening_world s)
+        opens rests
 
     breaks-at : (text : List ℕ) (number : ℕ) → Breaks (lines text) number → BreaksAt s text number
     breaks-at text number b =
@@ -156,13 +159,16 @@ module _ (s : Scenario) where
           journal = j;
           legal = legal;
           same = b.front ∙ sym (ap (take b.before) (lines-report s j valid));
-          breaks = λ k own h. b.breaks k.entries own.last own.leads own.rest (h ∙ ap (take number) (report-lines k own));
+          breaks = λ k own h. b.breaks k.entries own.last own.leads own.rest
+              (h ∙ ap (take number) (report-lines k own));
         }
 
     pub no-breaks : (text : List ℕ) (number : ℕ) → IsVerdict s text (No number) → BreaksAt s text number
     no-breaks text number (inl f) =
-        breaks-at text number (judging.within-breaks (λ (e : JournalEntry). e.actor) step_entry (λ w a. (step w a).world) (entry_line s)
-        (IsWellFormed s) (λ w a well. keeps w well a) one (λ w es. closing_lines (journal_at w es)) (opening_world s) opens rests
+        breaks-at text number (judging.within-breaks (λ (e : JournalEntry). e.actor) step_entry
+        (λ w a. (step w a).world) (entry_line s)
+        (IsWellFormed s) (λ w a well. keeps w well a) one (λ w es. closing_lines (journal_at w es)) (opening_world s)
+        opens rests
         (lines text) number (record {
           right = record {
             entries = f.right.entries;
@@ -176,8 +182,10 @@ module _ (s : Scenario) where
           place = f.place;
         }))
     no-breaks text number (inr f) =
-        breaks-at text number (judging.end-breaks (λ (e : JournalEntry). e.actor) step_entry (λ w a. (step w a).world) (entry_line s)
-        (IsWellFormed s) (λ w a well. keeps w well a) one (λ w es. closing_lines (journal_at w es)) (opening_world s) opens rests
+        breaks-at text number (judging.end-breaks (λ (e : JournalEntry). e.actor) step_entry (λ w a. (step w a).world)
+        (entry_line s)
+        (IsWellFormed s) (λ w a well. keeps w well a) one (λ w es. closing_lines (journal_at w es)) (opening_world s)
+        opens rests
         (lines text) number (record {
           right = record {
             entries = f.right.entries;
@@ -212,7 +220,8 @@ module _ (s : Scenario) where
         let x = yes-legal text j f in
         let y = yes-legal text k g in
         let same = judging.one-whole (λ (e : JournalEntry). e.actor) step_entry (λ w a. (step w a).world) (entry_line s)
-        (IsWellFormed s) (λ w a well. keeps w well a) one (λ w es. closing_lines (journal_at w es)) (opening_world s) opens rests
+        (IsWellFormed s) (λ w a well. keeps w well a) one (λ w es. closing_lines (journal_at w es)) (opening_world s)
+        opens rests
         j.entries k.entries x.0.last y.0.last x.0.leads x.0.rest y.0.leads y.0.rest
         (sym (report-lines j x.0) ∙ (ap lines (sym x.1 ∙ y.1) ∙ report-lines k y.0)) in
         its-own j x.0 ∙ (ap (journal_at x.0.last) (sym same.0)

@@ -3,7 +3,7 @@ use Rattle.std.specs.Prelude.{◌≡◌, ℕ, ◌+◌, ◌≤◌, ◌++◌, Bool
 use Rattle.busdma_base.specs.declared.journals.journal.JournalEntry.{JournalEntry}
 use Rattle.busdma_base.specs.declared.scenarios.scenario.Scenario.{Scenario}
 use Rattle.program_rules.specs.Reports.Report.{entry_line}
-use Rattle.program_rules.specs.Verdicts.Lines.{lines}
+use Rattle.program_rules.specs.Verdicts.TextLines.{lines}
 use Rattle.program_rules.specs.Verdicts.ReportLines.{entry_lines}
 use Rattle.ideal_world.specs.Ends.{IsAtRest}
 use Rattle.ideal_world.specs.Legal.{Leads}
@@ -22,13 +22,15 @@ IsJudged s n w line Wrong after = CanGoOn w × (IsNextLine s n w line → ⊥)
 IsJudged s n w line Nobody after = (after ≡ w) × (IsNextLine s n w line → ⊥)
 
 -- entries lead to this world, the first lines are theirs, and the bytes of the text from a place on are left
-pub record AreFollowed (s : Scenario) (text : List ℕ) (entries : List JournalEntry) (at : ℕ) (w : WorldState) : Type 0 where
+pub record AreFollowed (s : Scenario) (text : List ℕ) (entries : List JournalEntry) (at : ℕ) (w : WorldState) : Type
+    0 where
   pub leads : Leads (opening_world s) entries w
   pub read : lines text ≡ entry_lines s 0 entries ++ lines (drop at text)
 
 -- entries lead to this world and the first lines are theirs; the next line is the line of no step, or there
 -- is none
-pub record AreFollowedTo (s : Scenario) (text : List ℕ) (entries : List JournalEntry) (at : ℕ) (w : WorldState) : Type 0 where
+pub record AreFollowedTo (s : Scenario) (text : List ℕ) (entries : List JournalEntry) (at : ℕ) (w : WorldState) : Type
+    0 where
   pub followed : AreFollowed s text entries at w
   pub wrong : IsWrong s (length entries) w (lines (drop at text))
   pub within : at ≤ length text

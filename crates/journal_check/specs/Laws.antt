@@ -3,7 +3,7 @@ use Rattle.std.specs.Prelude.{◌≡◌, ℕ, ◌+◌, List, take}
 use Rattle.busdma_base.specs.declared.journals.journal.Journal.{Journal}
 use Rattle.busdma_base.specs.declared.scenarios.scenario.Scenario.{Scenario}
 use Rattle.program_rules.specs.Reports.Report.{report}
-use Rattle.program_rules.specs.Verdicts.Lines.{lines}
+use Rattle.program_rules.specs.Verdicts.TextLines.{lines}
 use Rattle.ideal_world.specs.Legal.{IsLegal}
 
 -- up to the line before this one, the text begins as some legal journal's report does; with this line, it begins

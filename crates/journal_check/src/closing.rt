@@ -1,7 +1,7 @@
 //! Compares two texts line by line.
 
 ghost use Rattle.std.specs.Prelude.{◌≡◌, ◌≤◌, length};
-ghost use Rattle.program_rules.specs.Verdicts.Lines.{alike_lines as alike, lines};
+ghost use Rattle.program_rules.specs.Verdicts.TextLines.{alike_lines as alike, lines};
 
 use crate::cutting::line_end;
 

@@ -2,7 +2,7 @@
 
 ghost use Rattle.std.specs.Prelude.{◌≡◌, ◌≤◌, ◌<◌, ◌==◌, ◌∷◌, IfSome, length, take, drop};
 ghost use Rattle.std.specs.List.{position};
-ghost use Rattle.program_rules.specs.Verdicts.Lines.{lines};
+ghost use Rattle.program_rules.specs.Verdicts.TextLines.{lines};
 
 /// Returns the first place of a byte in a text.
 pub(crate) fn place_of(text: &[u8], byte: u8) -> Option<usize>

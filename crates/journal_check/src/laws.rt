@@ -15,7 +15,7 @@ ghost use Rattle.program_rules.specs.declared.verdict.Verdict.TheVariants.{Yes, 
 ghost use Rattle.program_rules.specs.Verdicts.Header.{Cut, cut_of};
 ghost use Rattle.journal_check.specs.Header.{IsCut};
 ghost use Rattle.journal_check.specs.Laws.{BreaksAt};
-ghost use Rattle.program_rules.specs.Verdicts.Lines.{lines};
+ghost use Rattle.program_rules.specs.Verdicts.TextLines.{lines};
 ghost use Rattle.program_rules.specs.Verdicts.Verdict.{IsVerdict};
 
 /// The verdict is yes with a journal if and only if the journal is legal and the text is its report.

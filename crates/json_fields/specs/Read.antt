@@ -11,16 +11,16 @@ StopsWith stop.OutOfMemory r = Unit {0}
 StopsWith (stop.Refused q) r = q ≡ r
 
 -- if the code stops, the reading ends with the same refusal, unless memory ran out
-abbrev pub Fails : {A : Type 0} → Stop → Read A → Type 0
-Fails stop.OutOfMemory read = Unit {0}
-Fails (stop.Refused r) read = read ≡ Err r
+abbrev pub FailsReading : {A : Type 0} → Stop → Read A → Type 0
+FailsReading stop.OutOfMemory read = Unit {0}
+FailsReading (stop.Refused r) read = read ≡ Err r
 
 -- the code returns what the definition of reading gives, unless memory ran out
 abbrev pub Gives : {A : Type 0} → Result A Stop → Read A → Type 0
 Gives (Ok x) read = read ≡ Ok x
-Gives (Err e) read = Fails e read
+Gives (Err e) read = FailsReading e read
 
 -- the code's value, seen by `view`, is what the definition of reading gives, unless memory ran out
 abbrev pub GivesSeen : {X A : Type 0} → (X → A) → Result X Stop → Read A → Type 0
 GivesSeen view (Ok x) read = read ≡ Ok (view x)
-GivesSeen view (Err e) read = Fails e read
+GivesSeen view (Err e) read = FailsReading e read

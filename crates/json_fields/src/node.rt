@@ -6,11 +6,11 @@ ghost use Rattle.std.specs.Str.{bytes_eq};
 ghost use Rattle.serde_json.specs.Find.{get_member};
 ghost use Rattle.serde_json.specs.View.{view, members_view};
 ghost use Rattle.busdma_base.specs.Scenarios.Names as names;
-ghost use Rattle.scenario_format.specs.Json.Place.{key};
-ghost use Rattle.json_fields.specs.Place.{place_of};
+ghost use Rattle.scenario_format.specs.Json.DocumentPlaces.{key};
+ghost use Rattle.json_fields.specs.Place.{path_place};
 ghost use Rattle.json_fields.specs.Read.{Gives, GivesSeen, StopsWith};
 ghost use Rattle.scenario_format.specs.Json.Read.{refusal};
-ghost use Rattle.json_fields.specs.Field.{spot_of, placed_at};
+ghost use Rattle.json_fields.specs.Field.{spot_of, spot_with};
 ghost use Rattle.scenario_format.specs.Json.Field.{item_of, field, required};
 ghost use Rattle.scenario_format.specs.Json.Field.{members_of, only_keys, unknown_key};
 ghost use Rattle.scenario_format.specs.Json.Number.{number_in as number_of_kind, read_number as number_at};
@@ -38,7 +38,7 @@ pub struct Node<'v> {
 impl<'v> Node<'v> {
     /// Returns the refusal of this value, or `OutOfMemory` if there is no memory for its path.
     pub fn refuse(&self, kind: RefusalKind) -> Stop
-        ensures { StopsWith result (refusal kind (place_of self.now.path)) }
+        ensures { StopsWith result (refusal kind (path_place self.now.path)) }
     {
         self.path.refuse(self.alloc, kind)
     }
@@ -46,7 +46,7 @@ impl<'v> Node<'v> {
     /// Returns the refusal of the value at a key of this object, or `OutOfMemory` if there is no memory for
     /// its path.
     pub fn refuse_key<'a>(&'a self, kind: RefusalKind, name: &'a str) -> Stop
-        ensures { StopsWith result (refusal kind (key (place_of self.now.path) name.now)) }
+        ensures { StopsWith result (refusal kind (key (path_place self.now.path) name.now)) }
     {
         self.path.key(name).refuse(self.alloc, kind)
     }
@@ -81,7 +81,7 @@ impl<'v> Node<'v> {
 
     /// Returns another value at the same place.
     pub fn at(&self, value: &'v Value) -> Node<'v>
-        ensures { spot_of result ≡ placed_at (spot_of self.now) (view value.now) }
+        ensures { spot_of result ≡ spot_with (spot_of self.now) (view value.now) }
     {
         Node {
             alloc: self.alloc,

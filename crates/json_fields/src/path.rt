@@ -1,8 +1,8 @@
 //! The place of a value in a document.
 
 ghost use Rattle.std.specs.Prelude.{◌≡◌, ◌++◌, OnOk, IfOk, string_bytes};
-ghost use Rattle.scenario_format.specs.Json.Place.{top, key, item, path_text};
-ghost use Rattle.json_fields.specs.Place.{place_of};
+ghost use Rattle.scenario_format.specs.Json.DocumentPlaces.{top, key, item, path_text};
+ghost use Rattle.json_fields.specs.Place.{path_place as place_of};
 ghost use Rattle.json_fields.specs.Read.{StopsWith};
 ghost use Rattle.scenario_format.specs.Json.Read.{refusal};
 
@@ -23,7 +23,7 @@ pub enum Path<'a> {
 
 impl<'a> Path<'a> {
     /// Returns the path of the top of the document.
-    #[tactic(auto, unfolding(crate::specs::Place::place_of))]
+    #[tactic(auto, unfolding(crate::specs::Place::path_place))]
     pub fn top() -> Path<'a>
         ensures { place_of result ≡ top }
     {
@@ -31,7 +31,7 @@ impl<'a> Path<'a> {
     }
 
     /// Returns the path of the value at a key of the object at this path.
-    #[tactic(auto, unfolding(crate::specs::Place::place_of))]
+    #[tactic(auto, unfolding(crate::specs::Place::path_place))]
     pub fn key(&'a self, name: &'a str) -> Path<'a>
         ensures { place_of result ≡ key (place_of self.now) name.now }
     {
@@ -39,7 +39,7 @@ impl<'a> Path<'a> {
     }
 
     /// Returns the path of an item of the list at this path, counted from 0.
-    #[tactic(auto, unfolding(crate::specs::Place::place_of))]
+    #[tactic(auto, unfolding(crate::specs::Place::path_place))]
     pub fn item(&'a self, place: usize) -> Path<'a>
         ensures { place_of result ≡ item (place_of self.now) place }
     {
@@ -70,7 +70,7 @@ impl<'a> Path<'a> {
     }
 }
 
-#[tactic(auto, unfolding(crate::specs::Place::place_of))]
+#[tactic(auto, unfolding(crate::specs::Place::path_place))]
 fn push_path(text: &mut String, path: &Path) -> Result<(), AllocError>
     ensures { OnOk result
         (string_bytes text.new ≡ string_bytes text.old ++ path_text (place_of path.now)) }

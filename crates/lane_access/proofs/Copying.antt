@@ -18,8 +18,8 @@ use Rattle.busdma_rules.specs.Tags.SyncOps.{postread, prewrite}
 use Rattle.busdma_rules.specs.Lending.Loans.{loan_of}
 use Rattle.map_sync.specs.Ranges.{chunk_range, range_of_chunks}
 use Rattle.busdma_rules.specs.Syncs.Positions.{placed_at, positions_of}
-use Rattle.map_sync.proofs.Traced.{ranges_alike}
-use Rattle.phys_memory.specs.Memory.{Memory, wire}
+use Rattle.map_sync.proofs.TraceLaws.{ranges_alike}
+use Rattle.phys_memory.specs.Memory.{FrameMemory, wire}
 use Rattle.busdma_rules.specs.Segments.Trace.{bus_addresses, chunk_extents, chunk_len}
 use Rattle.ideal_lane.specs.Loads.{is_coherent}
 use Rattle.ideal_lane.specs.State.{LaneState, LaneMemory}
@@ -27,10 +27,10 @@ use Rattle.ideal_lane.specs.Syncs.{has_byte_of}
 use Rattle.ideal_wire.specs.Traces.{traces_of}
 use Rattle.ideal_wire.specs.WireStep as wires
 use Rattle.ideal_wire.specs.WireStep.{copied_by}
-use Rattle.ideal_wire.proofs.Copies.{same_reads}
-use Rattle.ideal_wire.proofs.Placing.{own-place}
-use Rattle.ideal_wire.proofs.Positions.{found_one, of_range}
-use Rattle.ideal_wire.proofs.Reaching.{all-from}
+use Rattle.ideal_wire.proofs.Faithful.BytesPut.{same_reads}
+use Rattle.ideal_wire.proofs.Faithful.PlacedLoads.{own-place}
+use Rattle.ideal_wire.proofs.Laid.Positions.{found_one, of_range}
+use Rattle.ideal_wire.proofs.Loads.Reaching.{all-from}
 use Rattle.lane_state.specs.declared.holdings.Holdings.{Holdings}
 use Rattle.lane_state.specs.declared.kept.KeptMap.{KeptMap}
 use Rattle.lane_state.specs.Covered.{has_load}
@@ -39,7 +39,7 @@ use Rattle.lane_state.specs.Ideal.{ideal_of}
 use Rattle.lane_state.specs.Kept.{device_in, device_of}
 use Rattle.lane_state.specs.PagesLent.{IsRepaged}
 use Rattle.lane_state.specs.Wire.{IsWired, held_pages, wire_of}
-use Rattle.lane_state.proofs.Covering.{byte_count_is}
+use Rattle.lane_state.proofs.CoveredLaws.{byte_count_is}
 use Rattle.lane_state.proofs.Devices.{Loading, loading}
 use Rattle.lane_state.proofs.Keeping.{told-some}
 use Rattle.lane_state.proofs.Lying.{own-mine, trace-mine}
@@ -137,10 +137,11 @@ module _ (h : Holdings) (wired : IsWired h) (k : ℕ) (o : KeptMap) (there : get
 
   -- the chunks' range is copied as the trace's
   alike : (off len ops : ℕ) (w : Wire) →
-      copied_by ops (range_of_chunks off len (held.chunks_of o.map.stage)) w
+      copied_by ops (range_of_chunks off len (held.held_chunks o.map.stage)) w
       ≡ copied_by ops (stretch off len (traces_of l k)) w
   alike off len ops w =
-      ap (λ s. copied_by ops (range_of_chunks off len (held.chunks_of s)) w) x.stage ∙ by (prewrite ops) (postread ops)
+      ap (λ s. copied_by ops (range_of_chunks off len (held.held_chunks s)) w) x.stage
+      ∙ by (prewrite ops) (postread ops)
     where
       cs : List Chunk
       cs = x.bounced
@@ -184,9 +185,9 @@ module _ (h : Holdings) (wired : IsWired h) (k : ℕ) (o : KeptMap) (there : get
   both P Q [] all = (tt, tt)
   both P Q (t ∷ ps) all = let rest = both P Q ps all.1 in ((all.0.0, rest.0), (all.0.1, rest.1))
 
-  module _ (next : held.MapView KeptLoad) (repaged : IsRepaged o.map next) (n : Memory) (off len ops : ℕ)
+  module _ (next : held.MapView KeptLoad) (repaged : IsRepaged o.map next) (n : FrameMemory) (off len ops : ℕ)
       (copied : device_view (device_in next.stage) n
-      ≡ copied_by ops (range_of_chunks off len (held.chunks_of o.map.stage)) view) where
+      ≡ copied_by ops (range_of_chunks off len (held.held_chunks o.map.stage)) view) where
     abbrev now : Wire
     now = with_bytes_of (held_pages (maps h wired k o there on next repaged)) (wire n)
 
@@ -224,7 +225,7 @@ module _ (h : Holdings) (wired : IsWired h) (k : ℕ) (o : KeptMap) (there : get
         by (Some y) g = refl
 
     -- what is held is what the wire's definition says
-    pub sync-copied : now ≡ wires.synced k off len ops l (wire_of h)
+    pub sync-copied : now ≡ wires.wire_synced k off len ops l (wire_of h)
     sync-copied = by (loan_of l.loans k).coherent refl
       where
         by : (b : Bool) → (loan_of l.loans k).coherent ≡ b →
@@ -233,5 +234,5 @@ module _ (h : Holdings) (wired : IsWired h) (k : ℕ) (o : KeptMap) (there : get
         by true e =
             let none : x.bounced ≡ [] = x.load.direct (memory-of (sym x.load.coherent ∙ e)) in
             range-copied ∙ sym (alike off len ops (wire_of h))
-            ∙ none-copied ops (range_of_chunks off len (held.chunks_of o.map.stage)) (wire_of h)
-            (ap (λ s. range_of_chunks off len (held.chunks_of s)) x.stage ∙ ap (range_of_chunks off len) none)
+            ∙ none-copied ops (range_of_chunks off len (held.held_chunks o.map.stage)) (wire_of h)
+            (ap (λ s. range_of_chunks off len (held.held_chunks s)) x.stage ∙ ap (range_of_chunks off len) none)

@@ -8,7 +8,7 @@ use Rattle.busdma_machine.specs.declared.report.Report.{Report}
 use Rattle.busdma_machine.specs.declared.report.ReportName.TheVariants.{Absent, NotLoaded}
 use Rattle.busdma_rules.specs.Lending.Access.{dev_read_answer}
 use Rattle.busdma_rules.specs.Lending.Loans.{load_bytes, loan_of}
-use Rattle.loan_table.specs.Table.{buffer_of, is_known}
+use Rattle.loan_table.specs.Table.{buffer_of, is_marked_known}
 use Rattle.device_model.specs.Access.{bus_range}
 use Rattle.dma_map.specs.MapView.{segments_of}
 use Rattle.ideal_lane.specs.Accesses.{dev_read, values}
@@ -20,10 +20,10 @@ use Rattle.ideal_lane.specs.State.{LaneState, LaneMap}
 use Rattle.ideal_wire.specs.Laid.{is_behind}
 use Rattle.ideal_wire.specs.Traces.{traces_of}
 use Rattle.ideal_wire.specs.WireStep.{load_buses}
-use Rattle.ideal_wire.proofs.Copies.{same_reads}
-use Rattle.ideal_wire.proofs.FaithfulAccess.{dev_read_of}
-use Rattle.ideal_wire.proofs.Placing.{own}
-use Rattle.ideal_wire.proofs.Wiring.{faithful}
+use Rattle.ideal_wire.proofs.Faithful.BytesPut.{same_reads}
+use Rattle.ideal_wire.proofs.Faithful.FaithfulAccess.{dev_read_of}
+use Rattle.ideal_wire.proofs.Faithful.PlacedLoads.{own}
+use Rattle.ideal_wire.proofs.Faithful.Wiring.{faithful}
 use Rattle.lane_state.specs.declared.holdings.Holdings.{Holdings}
 use Rattle.lane_state.specs.declared.kept.KeptMap.{KeptMap}
 use Rattle.lane_state.specs.Covered.{has_load}
@@ -99,7 +99,7 @@ module _ (h : Holdings) (k off len : ℕ) (on : has_load (get h.maps.map k) ≡ 
       (gives l (answer.Bytes (values l (load_bytes l.loans k off len))))
   within = dev_read-within l k (map_of kept.0) (image-some map_of h.maps.map k kept.0 kept.1) kept.2 off len range
 
-  answers : dev_read_answer (is_known h.loans) (loan_of h.loans.loans k) off len
+  answers : dev_read_answer (is_marked_known h.loans) (loan_of h.loans.loans k) off len
       ≡ dev_read_answer (ideal.is_known l.memory) (loan_of l.loans k) off len
   answers =
       ap (λ f. dev_read_answer f (loan_of h.loans.loans k) off len)
@@ -107,13 +107,14 @@ module _ (h : Holdings) (k off len : ℕ) (on : has_load (get h.maps.map k) ≡ 
 
   -- the read is refused
   pub dev_read-refused : (r : Report) →
-      Refused r ≡ dev_read_answer (is_known h.loans) (loan_of h.loans.loans k) off len →
+      Refused r ≡ dev_read_answer (is_marked_known h.loans) (loan_of h.loans.loans k) off len →
       gives l (answer.Report r) ≡ dev_read k off len l
   dev_read-refused r is =
       sym (within ∙ refused _ r l _ (sym (is ∙ answers)))
 
   -- a read is done if it returns the bytes at the bus addresses
-  pub dev_read-by : (wired : IsWired h) → Fine ≡ dev_read_answer (is_known h.loans) (loan_of h.loans.loans k) off len →
+  pub dev_read-by : (wired : IsWired h) → Fine ≡ dev_read_answer (is_marked_known h.loans) (loan_of h.loans.loans k) off
+      len →
       (out : List ℕ) → out ≡ map (wire_of h) (load_buses l k off len) →
       gives l (answer.Bytes out) ≡ dev_read k off len l
   dev_read-by wired fine out is =
@@ -128,7 +129,7 @@ module _ (h : Holdings) (k off len : ℕ) (on : has_load (get h.maps.map k) ≡ 
 
   -- if the map's tag is not an IOMMU tag, the code reads the bytes at the bus addresses
   module _ (wired : IsWired h) (o : KeptMap) (there : get h.maps.map k ≡ Some o) (plain : is_behind l k ≡ false)
-      (fine : Fine ≡ dev_read_answer (is_known h.loans) (loan_of h.loans.loans k) off len) (out : List ℕ)
+      (fine : Fine ≡ dev_read_answer (is_marked_known h.loans) (loan_of h.loans.loans k) off len) (out : List ℕ)
       (is : out ≡ map (device_view (device_in o.map.stage) h.memory.memory)
       (bus_range off len (segments_of o.map.stage))) where
     loaded : has_load (Some o) ≡ true

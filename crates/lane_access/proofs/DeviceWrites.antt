@@ -16,7 +16,7 @@ use Rattle.busdma_rules.specs.declared.position.Position.{Position}
 use Rattle.busdma_rules.specs.Lending.Access.{dev_write_answer}
 use Rattle.busdma_rules.specs.Lending.Loans.{Loans, addresses_of, load_bytes, loan_of}
 use Rattle.loan_table.specs.Table.{AreIn, buffer_of, set_all}
-use Rattle.phys_memory.specs.Memory.{Memory, wire}
+use Rattle.phys_memory.specs.Memory.{FrameMemory, wire}
 use Rattle.ideal_lane.specs.Accesses.{dev_write}
 use Rattle.ideal_lane.specs.Asking.{Asking, by_reply}
 use Rattle.ideal_lane.specs.IdealMemory.{written}
@@ -26,7 +26,7 @@ use Rattle.ideal_wire.specs.Centre.{IsFaithful}
 use Rattle.ideal_wire.specs.Laid.{is_behind}
 use Rattle.ideal_wire.specs.WireStep as wires
 use Rattle.ideal_wire.specs.WireStep.{if_done, load_buses}
-use Rattle.ideal_wire.proofs.Calls.{dev_write-faithful}
+use Rattle.ideal_wire.proofs.Faithful.Calls.{dev_write-faithful}
 use Rattle.lane_state.specs.declared.holdings.Holdings.{Holdings}
 use Rattle.lane_state.specs.declared.kept.KeptMap.{KeptMap}
 use Rattle.lane_state.specs.Covered.{has_load}
@@ -76,7 +76,7 @@ module _ (h : Holdings) (wired : IsWired h) (k : ℕ) (o : KeptMap) (there : get
     (on : has_load (Some o) ≡ true) (plain : is_behind (ideal_of h) k ≡ false) (off : ℕ) (vs : List ℕ)
     (range : off + length vs ≤ length (buffer_of h.loans k))
     (fine : Fine ≡ dev_write_answer (loan_of h.loans.loans k) off (length vs))
-    (next : held.MapView KeptLoad) (repaged : IsRepaged o.map next) (n : Memory)
+    (next : held.MapView KeptLoad) (repaged : IsRepaged o.map next) (n : FrameMemory)
     (view : device_view (device_in next.stage) n
     ≡ put (bus_range off (length vs) (held.segments_of o.map.stage)) vs
     (device_view (device_in o.map.stage) h.memory.memory)) where
@@ -104,7 +104,7 @@ module _ (h : Holdings) (wired : IsWired h) (k : ℕ) (o : KeptMap) (there : get
       (trace-mine l wired.laid wired.apart h.maps.map refl h.unlent k (off + i) t.0 t.1)
 
   -- what is held is what the wire's definition says
-  pub dev_write-wire : with_bytes_of (held_pages now) (wire n) ≡ wires.dev_write k off vs l (wire_of h)
+  pub dev_write-wire : with_bytes_of (held_pages now) (wire n) ≡ wires.wire_dev_write k off vs l (wire_of h)
   dev_write-wire =
       repaged-put h wired k o there on next repaged n (load_buses l k off (length vs)) vs mine
       (view ∙ ap (λ ks. put ks vs (device_view (device_in o.map.stage) h.memory.memory))
@@ -114,7 +114,8 @@ module _ (h : Holdings) (wired : IsWired h) (k : ℕ) (o : KeptMap) (there : get
   stays : IsFaithful after (with_bytes_of (held_pages now) (wire n))
   stays =
       subst (IsFaithful after) (sym dev_write-wire)
-      (subst (λ (s : Asking Outcome). IsFaithful (by_reply s Nothing).lane (wires.dev_write k off vs l (wire_of h)))
+      (subst (λ (s : Asking Outcome). IsFaithful (by_reply s Nothing).lane
+      (wires.wire_dev_write k off vs l (wire_of h)))
       done
       (dev_write-faithful l (wire_of h) wired.apart wired.laid wired.faithful k off vs Nothing))
 

@@ -10,7 +10,7 @@ use Rattle.busdma_rules.specs.Lending.Loans.{addresses_of}
 use Rattle.loan_table.specs.Table.{AreIn}
 use Rattle.loan_table.proofs.Addresses.{AreIn-append}
 use Rattle.loan_table.proofs.Pieces.{addresses_of-append, two_parts}
-use Rattle.phys_memory.specs.Extents.{LiesIn}
+use Rattle.phys_memory.specs.Extents.{LiesInFrames}
 use Rattle.phys_memory.specs.Frames.{Lie}
 use Rattle.lane_state.specs.declared.holdings.Holdings.{Holdings}
 use Rattle.lane_access.specs.Raw.{IsInFrame}
@@ -18,7 +18,7 @@ use Rattle.lane_state.specs.Wire.{IsWired}
 use Rattle.lane_state.proofs.Devices.{own-low}
 use Rattle.lane_access.proofs.RawJudging.{run-some}
 use Rattle.lane_state.proofs.OwnBytes.{table-own}
-use Rattle.lane_state.proofs.Wires.{in_frame}
+use Rattle.lane_state.proofs.WireBytes.{in_frame}
 
 -- a range of a load, followed directly by another one
 pub load-more : (ps : List Position) (off at n : ℕ) → off ≤ at →
@@ -64,7 +64,7 @@ module _ (h : Holdings) (wired : IsWired h) where
       )
 
       frames : (es : List Extent) → AllByRecursion IsInFrame es → AreIn h.loans.bytes (addresses es) →
-          AllByRecursion (LiesIn h.memory.memory) es
+          AllByRecursion (LiesInFrames h.memory.memory) es
       frames [] framed are = tt
       frames (e ∷ es) framed are = (
         in_frame h.memory.memory h.loans.bytes e.pa.0 h.covered (there e es framed.0 are),

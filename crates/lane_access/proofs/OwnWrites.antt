@@ -5,7 +5,7 @@ use Rattle.std.specs.FinMap.{FinMap}
 use Rattle.busdma_machine.specs.Machine.Wire.{put}
 use Rattle.busdma_rules.specs.Lending.Loans.{Loans}
 use Rattle.loan_table.specs.Table.{AreIn, set_all}
-use Rattle.phys_memory.specs.Memory.{Memory, wire}
+use Rattle.phys_memory.specs.Memory.{FrameMemory, wire}
 use Rattle.ideal_lane.specs.IdealMemory.{written}
 use Rattle.ideal_lane.specs.State.{LaneState}
 use Rattle.ideal_wire.specs.Centre.{IsFaithful}
@@ -19,7 +19,7 @@ use Rattle.lane_state.proofs.MarkedMemory.{marks-held, marks-written, own-marks}
 use Rattle.lane_state.proofs.Marks.{has_set_all}
 use Rattle.lane_state.proofs.OwnBytes.{own-put}
 
-module _ (h : Holdings) (wired : IsWired h) (pas vs : List ℕ) (inside : AreIn h.loans.bytes pas) (n : Memory)
+module _ (h : Holdings) (wired : IsWired h) (pas vs : List ℕ) (inside : AreIn h.loans.bytes pas) (n : FrameMemory)
     (wires-are : wire n ≡ put pas vs (wire h.memory.memory)) where
   abbrev l : LaneState
   l = ideal_of h

@@ -1,5 +1,6 @@
 -- What an access of an IOMMU tag's address space is, by what is there, and what it reads and makes.
-use Rattle.std.proofs.Common.{◌≡◌, ℕ, zero, suc, ◌+◌, ◌^◌, ◌<◌, ◌≤◌, Bool, true, false, ◌||◌, not, cond, List, length, map}
+use Rattle.std.proofs.Common.{◌≡◌, ℕ, zero, suc, ◌+◌, ◌^◌, ◌<◌, ◌≤◌, Bool, true, false, ◌||◌, not, cond, List, length}
+use Rattle.std.proofs.Common.{map}
 use Rattle.std.proofs.Common.{slice_get, Some, None, is_some, nat_le, unwrap_or, refl, sym, ap, ◌∙◌, subst, arith}
 use mathlib.Core.Logic.{∥∥₁_elim}
 use Rattle.std.proofs.Props.{props}
@@ -25,11 +26,11 @@ use Rattle.ideal_wire.specs.Centre.{IsFaithful}
 use Rattle.ideal_wire.specs.OneProof.{IsFaithful-prop}
 use Rattle.ideal_wire.specs.WireStep as wires
 use Rattle.ideal_wire.specs.WireStep.{if_done}
-use Rattle.ideal_wire.proofs.Calls.{dev_write_at-faithful}
-use Rattle.ideal_wire.proofs.FaithfulRaw.{raw_read}
-use Rattle.ideal_wire.proofs.Placing.{own}
-use Rattle.ideal_wire.proofs.Positions.{fine_at}
-use Rattle.ideal_wire.proofs.Wiring.{faithful}
+use Rattle.ideal_wire.proofs.Faithful.Calls.{dev_write_at-faithful}
+use Rattle.ideal_wire.proofs.Faithful.FaithfulRaw.{raw_read}
+use Rattle.ideal_wire.proofs.Faithful.PlacedLoads.{own}
+use Rattle.ideal_wire.proofs.Laid.Positions.{fine_at}
+use Rattle.ideal_wire.proofs.Faithful.Wiring.{faithful}
 use Rattle.lane_state.specs.declared.holdings.Holdings.{Holdings}
 use Rattle.lane_state.specs.declared.kept.KeptTag.{KeptTag}
 use Rattle.lane_access.specs.declared.raw.RawAccess.{RawAccess}
@@ -151,7 +152,7 @@ module _ (h : Holdings) (t addr : ℕ) where
         pub write-step : dev_write_at t addr vs l ≡ gives written_at answer.Done
         write-step = write-there ∙ passes _ l _ fine
 
-        pub write-wire : wires.dev_write_at t addr vs l (wire_of h) ≡ put (pas (length vs)) vs (wire_of h)
+        pub write-wire : wires.wire_dev_write_at t addr vs l (wire_of h) ≡ put (pas (length vs)) vs (wire_of h)
         write-wire = ap (λ s. if_done s (put (pas (length vs)) vs (wire_of h)) (wire_of h)) write-step
 
         -- a write leaves the wire faithful
@@ -160,7 +161,8 @@ module _ (h : Holdings) (t addr : ℕ) where
             ∥∥₁_elim wired.mapped (IsFaithful-prop written_at (put (pas (length vs)) vs (wire_of h))) (λ mapped.
             subst (IsFaithful written_at) write-wire
             (subst
-            (λ (s : Asking Outcome). IsFaithful (by_reply s Nothing).lane (wires.dev_write_at t addr vs l (wire_of h)))
+            (λ (s : Asking Outcome). IsFaithful (by_reply s Nothing).lane
+            (wires.wire_dev_write_at t addr vs l (wire_of h)))
             write-step
             (dev_write_at-faithful l (wire_of h) wired.apart wired.laid wired.faithful
             (found-by h wired stands mapped) t addr vs Nothing)))

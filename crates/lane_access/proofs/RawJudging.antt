@@ -7,7 +7,7 @@ use Rattle.busdma_machine.specs.declared.report.Report.{Report}
 use Rattle.busdma_machine.specs.declared.report.ReportName.{ReportName}
 use Rattle.busdma_machine.specs.Judging.{judged, refused_or}
 use Rattle.busdma_machine.specs.Runs.{run_of}
-use Rattle.ideal_wire.proofs.Positions.{found_one}
+use Rattle.ideal_wire.proofs.Laid.Positions.{found_one}
 use Rattle.loan_table.proofs.Judgement.{judged-fine, judged-refused, judged-some, length-run_of}
 use Rattle.loan_table.proofs.Stretches.{run_of_sum}
 
@@ -27,7 +27,8 @@ run-get a (suc n) (suc i) x h =
 pub run-at : (a n i : ℕ) → i < n → slice_get (run_of a n) i ≡ Some (a + i)
 run-at a zero i h = absurd (omega (arith, h))
 run-at a (suc n) zero h = let e : a ≡ a + 0 = omega arith in ap Some e
-run-at a (suc n) (suc i) h = let e : a + 1 + i ≡ a + suc i = omega arith in run-at (a + 1) n i (omega (arith, h)) ∙ ap Some e
+run-at a (suc n) (suc i) h = let e : a + 1 + i ≡ a + suc i = omega arith in run-at (a + 1) n i (omega (arith, h))
+    ∙ ap Some e
 
 -- a run in two parts
 pub run-parts : (a n len : ℕ) → n ≤ len → run_of a len ≡ run_of a n ++ run_of (a + n) (len - n)
@@ -87,7 +88,8 @@ module _ (f : ℕ → Option ReportName) (addr done len : ℕ) (all : Judged)
   -- the next is refused
   pub stops-here : (name : ReportName) → f (addr + done) ≡ Some name → Refused (record { name = name; at = done }) ≡ all
   stops-here name some =
-      judged-some f done _ _ (addr + done) name all (run-some (addr + done) (len - done) (omega (arith, more))) some left
+      judged-some f done _ _ (addr + done) name all (run-some (addr + done) (len - done) (omega (arith, more))) some
+      left
 
   module _ (n : ℕ) (short : n ≤ len - done) where
     abbrev here : List ℕ

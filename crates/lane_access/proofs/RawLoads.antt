@@ -26,24 +26,24 @@ use Rattle.ideal_lane.specs.Unloads.{segments_in}
 use Rattle.ideal_wire.specs.Mapped.{AreMapped}
 use Rattle.ideal_wire.specs.Spaced.{is_spaced}
 use Rattle.ideal_wire.specs.Traces.{stage_at, traces_of}
-use Rattle.ideal_wire.proofs.Buses.{placed-buffers}
-use Rattle.ideal_wire.proofs.Placing.{own-place, place-of}
-use Rattle.ideal_wire.proofs.Positions.{found_one}
-use Rattle.ideal_wire.proofs.RawAccess.{AreFound, raw-reached}
+use Rattle.ideal_wire.proofs.Faithful.Buses.{placed-buffers}
+use Rattle.ideal_wire.proofs.Faithful.PlacedLoads.{own-place, place-of}
+use Rattle.ideal_wire.proofs.Laid.Positions.{found_one}
+use Rattle.ideal_wire.proofs.Faithful.RawAccess.{AreFound, raw-reached}
 use Rattle.lane_state.specs.declared.holdings.Holdings.{Holdings}
 use Rattle.lane_state.specs.declared.kept.KeptLoad.{KeptLoad}
 use Rattle.lane_state.specs.declared.kept.KeptMap.{KeptMap}
 use Rattle.lane_access.specs.declared.raw.LoadPlace.{LoadPlace}
 use Rattle.lane_state.specs.Covered.{has_load}
 use Rattle.lane_state.specs.Ideal.{ideal_of}
-use Rattle.lane_state.specs.Kept.{map_of, stage_of}
+use Rattle.lane_state.specs.Kept.{map_of, kept_stage}
 use Rattle.lane_access.specs.Raw.{AreShortOf, IsStanding}
 use Rattle.lane_state.specs.Wire.{IsWired}
 use Rattle.lane_state.proofs.MapValues.{image-some}
 use Rattle.lane_access.proofs.RawPlaces.{AreOfTable, of-table, segments-same}
 
 -- what is not loaded has no segments
-no-segments : (s : held.Stage KeptLoad) → is_loaded (stage_of s) ≡ false → segments_bytes (held.segments_of s) ≡ 0
+no-segments : (s : held.HeldStage KeptLoad) → is_loaded (kept_stage s) ≡ false → segments_bytes (held.segments_of s) ≡ 0
 no-segments held.idle h = refl
 no-segments (held.waiting load_at callback room) h = refl
 no-segments (held.loaded bounced segments pages) h = absurd (cc)
@@ -80,7 +80,7 @@ module _ (h : Holdings) (wired : IsWired h) where
         by : AreMapped l → segments_bytes (held.segments_of x.map.stage) ≡ length (buffer_of h.loans k)
         by mapped =
             let find : ℕ → Option ℕ = translated (l.spaces x.tag) in
-            let segments = segments_in (stage_of x.map.stage) in
+            let segments = segments_in (kept_stage x.map.stage) in
             ap segments_bytes (sym (segments-same x.map.stage))
             ∙ sym (bytes_length segments)
             ∙ sym (length-map (segment_bytes segments) find)
@@ -88,7 +88,8 @@ module _ (h : Holdings) (wired : IsWired h) where
             ∙ length-map (buses (traces_of l k)) (λ (b : ℕ). Some b)
             ∙ length-map (traces_of l k) (λ (p : Placed). p.bus)
             ∙ sym (length-map (traces_of l k) (λ (p : Placed). p.pa))
-            ∙ ap length (placed-buffers (bounced_in (stage_at l k)) 0 (addresses_of (loan_of h.loans.loans k).positions))
+            ∙ ap length (placed-buffers (bounced_in (stage_at l k)) 0
+            (addresses_of (loan_of h.loans.loans k).positions))
             ∙ length-map (loan_of h.loans.loans k).positions (λ (p : Position). p.pa)
 
     -- the segments of a tag's maps are short if all buffers are short

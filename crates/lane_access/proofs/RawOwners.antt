@@ -10,7 +10,7 @@ use Rattle.std.specs.List.{Contains}
 use Rattle.std.specs.Option.{option_map_or}
 use Rattle.busdma_machine.specs.declared.machine.address.Segment.{Segment}
 use Rattle.dma_map.specs.MapView as held
-use Rattle.busdma_rules.specs.Iommu.Space.{AreRuns, DeviceRun, run_end as end_of, has_page, translated}
+use Rattle.busdma_rules.specs.Iommu.Space.{AreSpaceRuns, DeviceRun, run_end, has_page, translated}
 use Rattle.busdma_rules.proofs.Iommu.Members.{live-is, place-in}
 use Rattle.busdma_rules.proofs.Iommu.Runs.{run-apart}
 use Rattle.busdma_rules.specs.Lending.Loans.{loan_of}
@@ -22,14 +22,14 @@ use Rattle.ideal_lane.specs.State.{LaneState, LaneTag}
 use Rattle.ideal_lane.specs.Unloads.{first_of, segments_in}
 use Rattle.ideal_wire.specs.Mapped.{AreMapped, HasRun}
 use Rattle.ideal_wire.specs.Spaced.{is_spaced}
-use Rattle.ideal_wire.proofs.Buffers.{all-at}
-use Rattle.ideal_wire.proofs.RawPlaces.{placed-byte}
+use Rattle.ideal_wire.proofs.Loads.Buffers.{all-at}
+use Rattle.ideal_wire.proofs.Faithful.RawPlaces.{placed-byte}
 use Rattle.lane_state.specs.declared.holdings.Holdings.{Holdings}
 use Rattle.lane_state.specs.declared.kept.KeptLoad.{KeptLoad}
 use Rattle.lane_state.specs.declared.kept.KeptMap.{KeptMap}
 use Rattle.lane_access.specs.declared.raw.Beginning.{Beginning}
 use Rattle.lane_state.specs.Ideal.{ideal_of}
-use Rattle.lane_state.specs.Kept.{map_of, stage_of}
+use Rattle.lane_state.specs.Kept.{map_of, kept_stage}
 use Rattle.lane_state.specs.MapValues.{entry_values}
 use Rattle.lane_access.specs.Raw.{AreShortOf, is_later, last_of, later}
 use Rattle.lane_state.specs.Wire.{IsWired}
@@ -41,7 +41,7 @@ abbrev segments : KeptMap → List Segment
 segments x = held.segments_of x.map.stage
 
 -- what has a segment is loaded
-has-load : (s : held.Stage KeptLoad) → 1 ≤ length (held.segments_of s) → is_loaded (stage_of s) ≡ true
+has-load : (s : held.HeldStage KeptLoad) → 1 ≤ length (held.segments_of s) → is_loaded (kept_stage s) ≡ true
 has-load held.idle h = absurd (omega arith)
 has-load (held.waiting load_at callback room) h = absurd (omega arith)
 has-load (held.loaded bounced segments pages) h = refl
@@ -223,11 +223,11 @@ module _ (h : Holdings) (wired : IsWired h) (mapped : AreMapped (ideal_of h)) (t
   device : is_spaced l t ≡ true
   device = spaced-tag h wired t a reached
 
-  runs : AreRuns 1 (l.spaces t).pages (l.spaces t).runs
+  runs : AreSpaceRuns 1 (l.spaces t).pages (l.spaces t).runs
   runs = by (get l.tags t) refl device
     where
       by : (o : Option LaneTag) → get l.tags t ≡ o → option_map_or (λ (g : LaneTag). g.device) o false ≡ true →
-          AreRuns 1 (l.spaces t).pages (l.spaces t).runs
+          AreSpaceRuns 1 (l.spaces t).pages (l.spaces t).runs
       by None e d = absurd (cc)
       by (Some g) e d = (wired.spaced.each t g e d).runs
 
@@ -242,8 +242,8 @@ module _ (h : Holdings) (wired : IsWired h) (mapped : AreMapped (ideal_of h)) (t
 
   run-of : (k : ℕ) (x : KeptMap) → get h.maps.map k ≡ Some x → x.tag ≡ t → 1 ≤ length (segments x) → Run x
   run-of k x there tag has =
-      let same : segments_in (stage_of x.map.stage) ≡ segments x = segments-same x.map.stage in
-      let r : HasRun (l.spaces x.tag) (segments_in (stage_of x.map.stage)) =
+      let same : segments_in (kept_stage x.map.stage) ≡ segments x = segments-same x.map.stage in
+      let r : HasRun (l.spaces x.tag) (segments_in (kept_stage x.map.stage)) =
       (mapped.each k (map_of x) (image-some map_of h.maps.map k x there) (ap (is_spaced l) tag ∙ device)
       (has-load x.map.stage has)).run (subst (λ (ss : List Segment). 1 ≤ length ss) (sym same) has) in
       let live : Contains (l.spaces t).runs r.run = subst (λ u. Contains (l.spaces u).runs r.run) tag r.live in
@@ -255,7 +255,7 @@ module _ (h : Holdings) (wired : IsWired h) (mapped : AreMapped (ideal_of h)) (t
         first = ap first_of (sym same) ∙ r.first;
         some = (live-is 1 (l.spaces t).pages (l.spaces t).runs r.run runs live).1;
         within = λ i b at_b.
-            all-at (λ a. has_page (a / 4096) r.run ≡ true) (segment_bytes (segments_in (stage_of x.map.stage))) i b
+            all-at (λ a. has_page (a / 4096) r.run ≡ true) (segment_bytes (segments_in (kept_stage x.map.stage))) i b
             r.within (ap (λ ss. slice_get (segment_bytes ss) i) same ∙ at_b);
       }
 
@@ -264,31 +264,32 @@ module _ (h : Holdings) (wired : IsWired h) (mapped : AreMapped (ideal_of h)) (t
       first_of (segments y) ≤ page → first_of (segments y) ≤ first_of (segments x)
   begins-first x y r q has up = by (nat_lt r.run.first q.run.first) refl
     where
-      parts : (nat_le r.run.first page ≡ true) × (nat_lt page (end_of r.run) ≡ true)
-      parts = and_parts (nat_le r.run.first page) (nat_lt page (end_of r.run)) has
+      parts : (nat_le r.run.first page ≡ true) × (nat_lt page (run_end r.run) ≡ true)
+      parts = and_parts (nat_le r.run.first page) (nat_lt page (run_end r.run)) has
 
       by : (v : Bool) → nat_lt r.run.first q.run.first ≡ v → first_of (segments y) ≤ first_of (segments x)
       by true e =
           let behind : r.run.first < q.run.first = ltb-true r.run.first q.run.first e in
-          let end : page < end_of r.run = ltb-true page (end_of r.run) parts.1 in
+          let end : page < run_end r.run = ltb-true page (run_end r.run) parts.1 in
           let begins : q.run.first ≤ page = subst (λ n. n ≤ page) q.first up in
           let some : 1 ≤ length q.run.frames = q.some in
           let shared : has_page q.run.first r.run ≡ true =
           rw (
             le-leb r.run.first q.run.first (omega (arith, behind)),
-            lt-ltb q.run.first (end_of r.run) (omega (arith, end, begins)),
+            lt-ltb q.run.first (run_end r.run) (omega (arith, end, begins)),
           ) refl in
           let own : has_page q.run.first q.run ≡ true =
           rw (
             le-leb q.run.first q.run.first (omega arith),
-            lt-ltb q.run.first (end_of q.run) (omega (arith, some)),
+            lt-ltb q.run.first (run_end q.run) (omega (arith, some)),
           ) refl in
           let one : r.at ≡ q.at =
           run-apart 1 (l.spaces t).pages (l.spaces t).runs r.at q.at q.run.first r.run q.run runs r.there q.there shared
           own in
           let same : Some r.run ≡ Some q.run =
           sym r.there ∙ ap (slice_get (l.spaces t).runs) one ∙ q.there in
-          let first : r.run.first ≡ q.run.first = ap (λ (o : Option DeviceRun). option_map_or (λ (g : DeviceRun). g.first) o 0) same in
+          let first : r.run.first ≡ q.run.first =
+          ap (λ (o : Option DeviceRun). option_map_or (λ (g : DeviceRun). g.first) o 0) same in
           absurd (omega (arith, behind, first))
       by false e =
           let before : q.run.first ≤ r.run.first = ltb-false r.run.first q.run.first e in
@@ -318,7 +319,7 @@ module _ (h : Holdings) (wired : IsWired h) (mapped : AreMapped (ideal_of h)) (t
         let page_in : has_page page run.run ≡ true =
         ap (λ n. has_page n run.run) (sym same_page)
         ∙ run.within p b (placed-byte (segments x) b p found) in
-        let parts = and_parts (nat_le run.run.first page) (nat_lt page (end_of run.run)) page_in in
+        let parts = and_parts (nat_le run.run.first page) (nat_lt page (run_end run.run)) page_in in
         let low : run.run.first ≤ page = leb-true run.run.first page parts.0 in
         record {
           there = there;
@@ -382,7 +383,8 @@ module _ (h : Holdings) (wired : IsWired h) (t a : ℕ)
       by None e = e
       by (Some p) e =
           let one : IsProp ⊥ = hlevel (props) in
-          absurd (∥∥₁_elim wired.mapped one (λ mapped. none-owned h wired mapped t a reached b same_page is j k x at tag p e))
+          absurd (∥∥₁_elim wired.mapped one (λ mapped. none-owned h wired mapped t a reached b same_page is j k x at tag
+          p e))
 
   none-at : (es : List (ℕ × KeptMap)) →
       ((j k : ℕ) (x : KeptMap) → slice_get es j ≡ Some (k, x) → (x.tag == t) ≡ true →
@@ -412,7 +414,8 @@ module _ (h : Holdings) (wired : IsWired h) (t a : ℕ)
     where
       there-or-not : (o : Option ℕ) → place_in 0 (segments e.1) b ≡ o → (e.1.tag == t) ≡ true →
           position_in (ideal_of h) t b (entry_values map_of es) ≡ slice_get (loan_of (ideal_of h).loans m).positions p →
-          position_in (ideal_of h) t b (entry_values map_of (e ∷ es)) ≡ slice_get (loan_of (ideal_of h).loans m).positions p
+          position_in (ideal_of h) t b (entry_values map_of (e ∷ es))
+          ≡ slice_get (loan_of (ideal_of h).loans m).positions p
       there-or-not None is mine rest = none-of-it (ideal_of h) t b e.0 e.1 es is ∙ rest
       there-or-not (Some q) is mine rest =
           let key : e.0 ≡ m = others 0 e.0 e.1 refl mine q is in
@@ -426,7 +429,8 @@ module _ (h : Holdings) (wired : IsWired h) (t a : ℕ)
 
       by : (v : Bool) → (e.1.tag == t) ≡ v →
           position_in (ideal_of h) t b (entry_values map_of es) ≡ slice_get (loan_of (ideal_of h).loans m).positions p →
-          position_in (ideal_of h) t b (entry_values map_of (e ∷ es)) ≡ slice_get (loan_of (ideal_of h).loans m).positions p
+          position_in (ideal_of h) t b (entry_values map_of (e ∷ es))
+          ≡ slice_get (loan_of (ideal_of h).loans m).positions p
       by true mine rest = there-or-not (place_in 0 (segments e.1) b) refl mine rest
       by false other rest = another-tag (ideal_of h) t b e.0 e.1 es other ∙ rest
 
@@ -439,7 +443,8 @@ module _ (h : Holdings) (wired : IsWired h) (t a : ℕ)
   -- where the load that begins last has the address, or not
   pub position-last : (last : Beginning) → last_of t (a / 4096) None (entries h.maps.map) ≡ Some last → (x : KeptMap) →
       get h.maps.map last.map ≡ Some x → (o : Option ℕ) → place_in 0 (segments x) b ≡ o →
-      position_in (ideal_of h) t b (entries (ideal_of h).maps) ≡ option_map_or (λ p. slice_get (loan_of (ideal_of h).loans last.map).positions p) o None
+      position_in (ideal_of h) t b (entries (ideal_of h).maps)
+      ≡ option_map_or (λ p. slice_get (loan_of (ideal_of h).loans last.map).positions p) o None
   position-last last is x there None found =
       ap (position_in (ideal_of h) t b) (entries-map_values map_of h.maps.map)
       ∙ none-at (entries h.maps.map) (λ j k y at tag. other j k y at tag (place_in 0 (segments y) b) refl)

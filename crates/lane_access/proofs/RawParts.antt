@@ -14,7 +14,7 @@ use Rattle.busdma_rules.specs.Lending.Loans.{loan_of}
 use Rattle.loan_table.proofs.Judgement.{judged-some, length-run_of}
 use Rattle.ideal_lane.specs.Accesses.{position_in, unless_unlent}
 use Rattle.ideal_lane.specs.State.{LaneState}
-use Rattle.ideal_wire.proofs.Positions.{of_range}
+use Rattle.ideal_wire.proofs.Laid.Positions.{of_range}
 use Rattle.lane_access.specs.declared.raw.LoadPlace.{LoadPlace}
 use Rattle.lane_access.specs.declared.raw.RawAccess.{RawAccess}
 use Rattle.lane_access.specs.Raw.{lent_refusal, position_at, refusal_of, unlent_of}

@@ -10,15 +10,15 @@ use Rattle.busdma_rules.specs.Lending.Loans.{loan_of}
 use Rattle.ideal_lane.specs.Accesses.{place_in, position_in}
 use Rattle.ideal_lane.specs.State.{LaneState}
 use Rattle.ideal_lane.specs.Unloads.{segments_in}
-use Rattle.ideal_wire.proofs.Lent.{entry_found}
-use Rattle.ideal_wire.proofs.Reaching.{all-from}
+use Rattle.ideal_wire.proofs.Faithful.Lent.{entry_found}
+use Rattle.ideal_wire.proofs.Loads.Reaching.{all-from}
 use Rattle.lane_state.specs.declared.kept.KeptLoad.{KeptLoad}
 use Rattle.lane_state.specs.declared.kept.KeptMap.{KeptMap}
-use Rattle.lane_state.specs.Kept.{map_of, stage_of}
+use Rattle.lane_state.specs.Kept.{map_of, kept_stage}
 use Rattle.lane_state.specs.MapValues.{entry_values}
 
 -- the segments of a map are those of its ideal one
-pub segments-same : (s : held.Stage KeptLoad) → segments_in (stage_of s) ≡ held.segments_of s
+pub segments-same : (s : held.HeldStage KeptLoad) → segments_in (kept_stage s) ≡ held.segments_of s
 segments-same held.idle = refl
 segments-same (held.waiting load_at callback room) = refl
 segments-same (held.loaded bounced segments pages) = refl
@@ -36,7 +36,7 @@ of-table maps =
 
 module _ (l : LaneState) (t a k : ℕ) (x : KeptMap) (es : List (ℕ × KeptMap)) where
   abbrev place : Option ℕ
-  place = place_in 0 (segments_in (stage_of x.map.stage)) a
+  place = place_in 0 (segments_in (kept_stage x.map.stage)) a
 
   abbrev rest : Option Position
   rest = position_in l t a (entry_values map_of es)

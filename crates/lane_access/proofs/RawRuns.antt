@@ -1,11 +1,12 @@
 -- Device addresses of one page, and where their bytes lie.
-use Rattle.std.proofs.Common.{◌≡◌, ℕ, zero, suc, ◌+◌, ◌*◌, ◌/◌, ◌%◌, ◌<◌, ◌≤◌, true, List, [], ◌∷◌, ◌++◌, map, Option, Some}
+use Rattle.std.proofs.Common.{◌≡◌, ℕ, zero, suc, ◌+◌, ◌*◌, ◌/◌, ◌%◌, ◌<◌, ◌≤◌, true, List, [], ◌∷◌, ◌++◌, map, Option}
+use Rattle.std.proofs.Common.{Some}
 use Rattle.std.proofs.Common.{None, option_map, is_some, unwrap_or, refl, sym, ap, ◌∙◌, arith}
 use Rattle.std.proofs.lemmas.List.{map-append}
 use Rattle.std.specs.List.{AllByRecursion}
 use Rattle.busdma_machine.specs.declared.machine.address.Extent.{Extent}
 use Rattle.busdma_machine.specs.Runs.{addresses, run_of}
-use Rattle.busdma_rules.specs.Iommu.Space.{Space, frame_of_page as frame_at, translated}
+use Rattle.busdma_rules.specs.Iommu.Space.{Space, frame_of_page, translated}
 use Rattle.loan_table.proofs.Extending.{addresses-push}
 use Rattle.loan_table.proofs.Stretches.{run_of_sum}
 
@@ -38,18 +39,18 @@ module _ (s : Space) where
   pub page-reached : (a i : ℕ) → a % 4096 + i < 4096 → is_some (translated s (a + i)) ≡ is_some (translated s a)
   page-reached a i h =
       let e : (a + i) / 4096 ≡ a / 4096 = omega (arith, h) in
-      ap (λ p. is_some (option_map (λ f. 4096 * f + (a + i) % 4096) (frame_at s.runs p))) e
-      ∙ some-frame (frame_at s.runs (a / 4096)) ((a + i) % 4096) (a % 4096)
+      ap (λ p. is_some (option_map (λ f. 4096 * f + (a + i) % 4096) (frame_of_page s.runs p))) e
+      ∙ some-frame (frame_of_page s.runs (a / 4096)) ((a + i) % 4096) (a % 4096)
 
   -- the bytes of a device page are at the same distances in their frame
   pub page-raw : (a i : ℕ) → a % 4096 + i < 4096 → is_some (translated s a) ≡ true → raw (a + i) ≡ raw a + i
   page-raw a i h some =
       let e : (a + i) / 4096 ≡ a / 4096 = omega (arith, h) in
-      ap (λ p. unwrap_or (option_map (λ f. 4096 * f + (a + i) % 4096) (frame_at s.runs p)) 0) e
-      ∙ further (frame_at s.runs (a / 4096)) (a % 4096) i ((a + i) % 4096) (omega (arith, h)) some
+      ap (λ p. unwrap_or (option_map (λ f. 4096 * f + (a + i) % 4096) (frame_of_page s.runs p)) 0) e
+      ∙ further (frame_of_page s.runs (a / 4096)) (a % 4096) i ((a + i) % 4096) (omega (arith, h)) some
 
   pub raw-offset : (a : ℕ) → is_some (translated s a) ≡ true → raw a % 4096 ≡ a % 4096
-  raw-offset a some = offset (frame_at s.runs (a / 4096)) (a % 4096) (omega arith) some
+  raw-offset a some = offset (frame_of_page s.runs (a / 4096)) (a % 4096) (omega arith) some
 
   run-from : (a i n : ℕ) → a % 4096 + i + n ≤ 4096 → is_some (translated s a) ≡ true →
       map raw (run_of (a + i) n) ≡ run_of (raw a + i) n

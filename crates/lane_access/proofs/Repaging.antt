@@ -9,26 +9,26 @@ use Rattle.std.specs.Ordering.{nat_cmp}
 use Rattle.std.specs.FinMap.{FinMap, get, insert}
 use Rattle.busdma_machine.specs.declared.name.ZoneId.{ZoneId}
 use Rattle.busdma_machine.specs.Machine.Page.{FrameBytes}
-use Rattle.busdma_machine.specs.Machine.PageList.{frames_of, page_addresses}
+use Rattle.busdma_machine.specs.Machine.PageList.{page_frames, page_addresses}
 use Rattle.busdma_machine.specs.Machine.Wire.{put, with_bytes_of}
 use Rattle.lane_state.specs.declared.kept.KeptLoad.{KeptLoad}
 use Rattle.dma_map.specs.MapView as held
-use Rattle.phys_memory.specs.Memory.{Memory, wire}
+use Rattle.phys_memory.specs.Memory.{FrameMemory, wire}
 use Rattle.phys_memory.proofs.PageBytes.{IsNone}
 use Rattle.ideal_lane.specs.State.{LaneState}
 use Rattle.ideal_lane.proofs.Lookups.{get_put}
 use Rattle.ideal_lane.proofs.Weights.{weigh-put}
 use Rattle.lane_state.specs.declared.holdings.Holdings.{Holdings}
 use Rattle.lane_state.specs.declared.kept.KeptMap.{KeptMap}
-use Rattle.lane_state.specs.Covered.{has_load, is_returning, is_tried, lends_pages, pages_due}
+use Rattle.lane_state.specs.Covered.{has_load, is_covered_returning, is_tried, lends_pages, pages_due}
 use Rattle.lane_state.specs.Held.{device_view, devices_of}
 use Rattle.lane_state.specs.Ideal.{ideal_of}
-use Rattle.lane_state.specs.Kept.{device_in, device_of, due_in, due_of, map_of, stage_of}
+use Rattle.lane_state.specs.Kept.{device_in, device_of, due_in, due_of, map_of, kept_stage}
 use Rattle.lane_state.specs.MapValues.{map_values}
 use Rattle.lane_state.specs.PagesLent.{IsRepaged}
 use Rattle.lane_state.specs.Wire.{IsWired, held_pages, wire_of}
 use Rattle.lane_state.proofs.Bytes.{devices-elsewhere}
-use Rattle.lane_state.proofs.Changing.{held-put}
+use Rattle.lane_state.proofs.ChangeLaws.{held-put}
 use Rattle.lane_state.proofs.Devices.{Loading, loading}
 use Rattle.lane_state.proofs.MapTables.{AreMaps, returns-alike, told-put}
 use Rattle.lane_state.proofs.MapValues.{image-some, map_values-insert}
@@ -36,25 +36,25 @@ use Rattle.lane_state.proofs.Places.{put-back}
 use Rattle.lane_state.proofs.Views.{IsMine}
 
 -- ---- pages of the same frames
-none-of : (ps : List FrameBytes) (f : ℕ) → IsNone ps f → AllByRecursion (λ g. f ≢ g) (frames_of ps)
+none-of : (ps : List FrameBytes) (f : ℕ) → IsNone ps f → AllByRecursion (λ g. f ≢ g) (page_frames ps)
 none-of [] f h = tt
 none-of (p ∷ ps) f h = (h.0, none-of ps f h.1)
 
-of-none : (ps : List FrameBytes) (f : ℕ) → AllByRecursion (λ g. f ≢ g) (frames_of ps) → IsNone ps f
+of-none : (ps : List FrameBytes) (f : ℕ) → AllByRecursion (λ g. f ≢ g) (page_frames ps) → IsNone ps f
 of-none [] f h = tt
 of-none (p ∷ ps) f h = (h.0, of-none ps f h.1)
 
-none-alike : (ps qs : List FrameBytes) (f : ℕ) → frames_of qs ≡ frames_of ps → IsNone ps f → IsNone qs f
+none-alike : (ps qs : List FrameBytes) (f : ℕ) → page_frames qs ≡ page_frames ps → IsNone ps f → IsNone qs f
 none-alike ps qs f same h = of-none qs f (subst (AllByRecursion (λ g. f ≢ g)) (sym same) (none-of ps f h))
 
-by-frames : (ps : List FrameBytes) → page_addresses ps ≡ map (λ f. 4096 * f) (frames_of ps)
+by-frames : (ps : List FrameBytes) → page_addresses ps ≡ map (λ f. 4096 * f) (page_frames ps)
 by-frames [] = refl
 by-frames (p ∷ ps) = ap (λ xs. 4096 * p.frame ∷ xs) (by-frames ps)
 
-addresses-alike : (ps qs : List FrameBytes) → frames_of qs ≡ frames_of ps → page_addresses qs ≡ page_addresses ps
+addresses-alike : (ps qs : List FrameBytes) → page_frames qs ≡ page_frames ps → page_addresses qs ≡ page_addresses ps
 addresses-alike ps qs same = by-frames qs ∙ ap (map (λ f. 4096 * f)) same ∙ sym (by-frames ps)
 
-lengths-alike : (ps qs : List FrameBytes) → frames_of qs ≡ frames_of ps → length qs ≡ length ps
+lengths-alike : (ps qs : List FrameBytes) → page_frames qs ≡ page_frames ps → length qs ≡ length ps
 lengths-alike ps qs same =
     sym (length-map qs (λ (p : FrameBytes). p.frame)) ∙ ap length same ∙ length-map ps (λ (p : FrameBytes). p.frame)
 
@@ -76,8 +76,8 @@ module _ (h : Holdings) (wired : IsWired h) (k : ℕ) (o : KeptMap) (there : get
   stage : next.stage ≡ held.loaded x.bounced x.segments repaged.pages
   stage = ap (λ (v : held.MapView KeptLoad). v.stage) repaged.is ∙ ap (held.with_pages repaged.pages) x.stage
 
-  frames : frames_of repaged.pages.items ≡ frames_of x.pages.items
-  frames = repaged.frames ∙ ap (λ s. frames_of (device_in s).pages) x.stage
+  frames : page_frames repaged.pages.items ≡ page_frames x.pages.items
+  frames = repaged.frames ∙ ap (λ s. page_frames (device_in s).pages) x.stage
 
   -- the changed map means the same to the ideal driver
   map-same : map_of changed ≡ map_of o
@@ -94,12 +94,12 @@ module _ (h : Holdings) (wired : IsWired h) (k : ℕ) (o : KeptMap) (there : get
       tries : next.tried ≡ o.map.tried
       tries = ap (λ (v : held.MapView KeptLoad). v.tried) repaged.is
 
-      stages : stage_of next.stage ≡ stage_of o.map.stage
+      stages : kept_stage next.stage ≡ kept_stage o.map.stage
       stages =
-          ap stage_of stage
+          ap kept_stage stage
           ∙ ap (λ ps. Rattle.ideal_lane.specs.State.Loaded x.bounced x.segments ps)
           (addresses-alike x.pages.items repaged.pages.items frames)
-          ∙ sym (ap stage_of x.stage)
+          ∙ sym (ap kept_stage x.stage)
 
   pub ideal-maps : map_values map_of maps ≡ l.maps
   ideal-maps =
@@ -132,8 +132,8 @@ module _ (h : Holdings) (wired : IsWired h) (k : ℕ) (o : KeptMap) (there : get
         omega (arith, weight, before, after, size, few);
     returning =
         returns-alike h.maps.map maps h.agenda.returns
-        (told-put is_returning h.maps.map k changed
-        (ap (λ v. Rattle.lane_state.specs.Covered.returns_in v.stage) map-same ∙ sym (ap is_returning there)))
+        (told-put is_covered_returning h.maps.map k changed
+        (ap (λ v. Rattle.lane_state.specs.Covered.returns_in v.stage) map-same ∙ sym (ap is_covered_returning there)))
         h.returning;
     tried = λ q. told-put is_tried h.maps.map k changed
         (ap (λ v. Rattle.std.specs.Prelude.◌||◌ (Rattle.ideal_lane.specs.Outcomes.is_idle v.stage) v.tried) map-same
@@ -157,7 +157,7 @@ module _ (h : Holdings) (wired : IsWired h) (k : ℕ) (o : KeptMap) (there : get
       (subst (λ s. IsNone (device_in s).pages f) x.stage (subst (λ q. IsNone (device_of q).pages f) there none))))
 
   -- what is held changes as its device reaches it
-  pub repaged-put : (n : Memory) (keys vs : List ℕ) →
+  pub repaged-put : (n : FrameMemory) (keys vs : List ℕ) →
       ((i a : ℕ) → Rattle.std.specs.Prelude.slice_get keys i ≡ Some a → IsMine h.maps.map k a) →
       device_view (device_in next.stage) n ≡ put keys vs (device_view (device_in o.map.stage) h.memory.memory) →
       with_bytes_of (held_pages maps) (wire n) ≡ put keys vs (wire_of h)

@@ -7,8 +7,8 @@ use Rattle.std.proofs.lemmas.Map.Views.{exact_unsigned_eq}
 use Rattle.busdma_machine.specs.declared.name.ZoneId.{ZoneId}
 use Rattle.ideal_lane.specs.Syncs.{counted_in, greatest_share}
 use Rattle.lane_state.specs.declared.kept.KeptShare.{KeptShare}
-use Rattle.lane_state.specs.Kept.{share_of}
-use Rattle.lane_access.specs.Shares.{place_in}
+use Rattle.lane_state.specs.Kept.{kept_share}
+use Rattle.lane_access.specs.Shares.{share_place}
 
 -- a share with one more copy, up to the greatest number
 abbrev pub raised : KeptShare → KeptShare
@@ -41,29 +41,29 @@ one-before z zone count rest y ne = by (y == zone) (y == z) refl refl
     by true false e f = refl
     by false b e f = refl
 
-pub share-raised : (shares : List KeptShare) (z : ℕ) (d : KeptShare) → place_in z shares < length shares →
-    share_of (set shares (place_in z shares) (raised (get_or shares (place_in z shares) d)))
-    ≡ counted_in z (share_of shares)
+pub share-raised : (shares : List KeptShare) (z : ℕ) (d : KeptShare) → share_place z shares < length shares →
+    kept_share (set shares (share_place z shares) (raised (get_or shares (share_place z shares) d)))
+    ≡ counted_in z (kept_share shares)
 share-raised [] z d inside = absurd (omega arith)
 share-raised (s ∷ shares) z d inside = by (z == s.zone.0) refl inside (share-raised shares z d)
   where
-    by : (b : Bool) → (z == s.zone.0) ≡ b → cond b 0 (suc (place_in z shares)) < suc (length shares) →
-        (place_in z shares < length shares →
-        share_of (set shares (place_in z shares) (raised (get_or shares (place_in z shares) d)))
-        ≡ counted_in z (share_of shares)) →
-        share_of (set (s ∷ shares) (cond b 0 (suc (place_in z shares)))
-        (raised (get_or (s ∷ shares) (cond b 0 (suc (place_in z shares))) d)))
-        ≡ counted_in z (share_of (s ∷ shares))
+    by : (b : Bool) → (z == s.zone.0) ≡ b → cond b 0 (suc (share_place z shares)) < suc (length shares) →
+        (share_place z shares < length shares →
+        kept_share (set shares (share_place z shares) (raised (get_or shares (share_place z shares) d)))
+        ≡ counted_in z (kept_share shares)) →
+        kept_share (set (s ∷ shares) (cond b 0 (suc (share_place z shares)))
+        (raised (get_or (s ∷ shares) (cond b 0 (suc (share_place z shares))) d)))
+        ≡ counted_in z (kept_share (s ∷ shares))
     by true e within rest =
-        λ i y. (one-raised z s.zone.0 s.count (share_of shares) y (exact_unsigned_eq z s.zone.0 e)) i
+        λ i y. (one-raised z s.zone.0 s.count (kept_share shares) y (exact_unsigned_eq z s.zone.0 e)) i
     by false e within rest =
         let before = rest (omega (arith, within)) in
         λ i y. (ap (λ f. cond (y == s.zone.0) s.count (f y)) before
-        ∙ one-before z s.zone.0 s.count (share_of shares) y
+        ∙ one-before z s.zone.0 s.count (kept_share shares) y
         (λ q. Rattle.std.proofs.lemmas.Bool.false≢true (sym e ∙ eq-eqb z s.zone.0 q))) i
 
-pub share-new : (shares : List KeptShare) (z : ZoneId) → length shares ≤ place_in z.0 shares →
-    share_of (shares ++ record { zone = z; count = 1 } ∷ []) ≡ counted_in z.0 (share_of shares)
+pub share-new : (shares : List KeptShare) (z : ZoneId) → length shares ≤ share_place z.0 shares →
+    kept_share (shares ++ record { zone = z; count = 1 } ∷ []) ≡ counted_in z.0 (kept_share shares)
 share-new [] z past = λ i y. (by (y == z.0)) i
   where
     by : (b : Bool) → cond b 1 0 ≡ cond b (min (0 + 1) greatest_share) 0
@@ -71,29 +71,29 @@ share-new [] z past = λ i y. (by (y == z.0)) i
     by false = refl
 share-new (s ∷ shares) z past = by (z.0 == s.zone.0) refl past (share-new shares z)
   where
-    by : (b : Bool) → (z.0 == s.zone.0) ≡ b → suc (length shares) ≤ cond b 0 (suc (place_in z.0 shares)) →
-        (length shares ≤ place_in z.0 shares →
-        share_of (shares ++ record { zone = z; count = 1 } ∷ []) ≡ counted_in z.0 (share_of shares)) →
-        share_of (s ∷ shares ++ record { zone = z; count = 1 } ∷ []) ≡ counted_in z.0 (share_of (s ∷ shares))
+    by : (b : Bool) → (z.0 == s.zone.0) ≡ b → suc (length shares) ≤ cond b 0 (suc (share_place z.0 shares)) →
+        (length shares ≤ share_place z.0 shares →
+        kept_share (shares ++ record { zone = z; count = 1 } ∷ []) ≡ counted_in z.0 (kept_share shares)) →
+        kept_share (s ∷ shares ++ record { zone = z; count = 1 } ∷ []) ≡ counted_in z.0 (kept_share (s ∷ shares))
     by true e within rest = absurd (omega (arith, within))
     by false e within rest =
         let before = rest (omega (arith, within)) in
         λ i y. (ap (λ f. cond (y == s.zone.0) s.count (f y)) before
-        ∙ one-before z.0 s.zone.0 s.count (share_of shares) y
+        ∙ one-before z.0 s.zone.0 s.count (kept_share shares) y
         (λ q. Rattle.std.proofs.lemmas.Bool.false≢true (sym e ∙ eq-eqb z.0 s.zone.0 q))) i
 
 -- the share at the place of its zone has one more
-pub share-counted : (shares : List KeptShare) (z place n : ℕ) (x y : KeptShare) → place ≡ place_in z shares →
+pub share-counted : (shares : List KeptShare) (z place n : ℕ) (x y : KeptShare) → place ≡ share_place z shares →
     place < length shares → x ≡ get_or shares place x → y ≡ get_or shares place y →
     n ≡ min (x.count + 1) greatest_share →
-    share_of (set shares place (record { zone = y.zone; count = n })) ≡ counted_in z (share_of shares)
+    kept_share (set shares place (record { zone = y.zone; count = n })) ≡ counted_in z (kept_share shares)
 share-counted shares z place n x y at inside first second more =
     let same : y ≡ x = second
     ∙ get_or_from_slice_get shares place (get_or shares place x) y (slice_get-get_or shares place x inside) ∙ sym
     first in
     let is : record { zone = y.zone; count = n } ≡ raised (get_or shares place x) =
     (λ i. record { zone = (same i).zone; count = more i }) ∙ ap raised first in
-    let within : place_in z shares < length shares = omega (arith, at, inside) in
-    (λ i. share_of (set shares (at i) (is i)))
-    ∙ ap (λ q. share_of (set shares (place_in z shares) (raised (get_or shares q x)))) at
+    let within : share_place z shares < length shares = omega (arith, at, inside) in
+    (λ i. kept_share (set shares (at i) (is i)))
+    ∙ ap (λ q. kept_share (set shares (share_place z shares) (raised (get_or shares q x)))) at
     ∙ share-raised shares z x within

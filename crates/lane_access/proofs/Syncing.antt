@@ -15,13 +15,13 @@ use Rattle.busdma_machine.specs.Machine.Wire.{Wire, with_bytes_of}
 use Rattle.lane_state.specs.declared.kept.KeptLoad.{KeptLoad}
 use Rattle.dma_map.specs.MapView as held
 use Rattle.busdma_rules.specs.Tags.SyncOps.{is_mixed, postread, prewrite}
-use Rattle.busdma_rules.specs.Lending.Syncing.{lost, marked_range, sync_answer}
-use Rattle.busdma_rules.specs.Lending.Syncing as lending
+use Rattle.busdma_rules.specs.Lending.SyncEffects.{lost, marked_range, sync_answer}
+use Rattle.busdma_rules.specs.Lending.SyncEffects as lending
 use Rattle.busdma_rules.specs.Lending.Loans.{Loans, addresses_of, loan_of}
 use Rattle.loan_table.specs.Table.{AreIn, buffer_of, set_all}
 use Rattle.busdma_rules.proofs.Lending.Marking.{same_bytes, addresses_of-marked_range}
 use Rattle.map_sync.specs.Ranges.{range_of_chunks}
-use Rattle.phys_memory.specs.Memory.{Memory, wire}
+use Rattle.phys_memory.specs.Memory.{FrameMemory, wire}
 use Rattle.ideal_lane.specs.Asking.{Asking, by_reply}
 use Rattle.ideal_lane.specs.IdealMemory.{forgotten}
 use Rattle.ideal_lane.specs.Outcomes.{Outcome, gives, is_loaded, load_length, unless_past}
@@ -32,7 +32,7 @@ use Rattle.ideal_wire.specs.Centre.{IsFaithful, IsFaithfulTo}
 use Rattle.ideal_wire.specs.Traces.{placed_from, stage_at, traces_of}
 use Rattle.ideal_wire.specs.WireStep as wires
 use Rattle.ideal_wire.specs.WireStep.{copied_by, if_done}
-use Rattle.ideal_wire.proofs.Calls.{sync_range-faithful}
+use Rattle.ideal_wire.proofs.Faithful.Calls.{sync_range-faithful}
 use Rattle.lane_state.specs.declared.holdings.Holdings.{Holdings}
 use Rattle.lane_state.specs.declared.kept.KeptMap.{KeptMap}
 use Rattle.lane_state.specs.declared.kept.KeptShare.{KeptShare}
@@ -40,7 +40,7 @@ use Rattle.lane_state.specs.Covered.{has_load}
 use Rattle.lane_state.specs.Held.{device_view, devices_of}
 use Rattle.lane_state.specs.Held as bytes
 use Rattle.lane_state.specs.Ideal.{ideal_of}
-use Rattle.lane_state.specs.Kept.{device_in, map_of, share_of, stage_of}
+use Rattle.lane_state.specs.Kept.{device_in, map_of, kept_share, kept_stage}
 use Rattle.lane_state.specs.MapValues.{map_values}
 use Rattle.lane_state.specs.PagesLent.{IsRepaged}
 use Rattle.lane_state.specs.Wire.{IsWired, held_pages, wire_of}
@@ -111,10 +111,10 @@ synced-maps loans k off len ops q there = by (loan_of loans k).coherent
 
 -- ---- a sync that is done, where the map's pages and the driver's frames were copied
 module _ (h : Holdings) (wired : IsWired h) (k : ℕ) (o : KeptMap) (there : get h.maps.map k ≡ Some o)
-    (on : has_load (Some o) ≡ true) (next : held.MapView KeptLoad) (repaged : IsRepaged o.map next) (n : Memory)
+    (on : has_load (Some o) ≡ true) (next : held.MapView KeptLoad) (repaged : IsRepaged o.map next) (n : FrameMemory)
     (off len ops : ℕ)
     (copied : device_view (device_in next.stage) n
-    ≡ copied_by ops (range_of_chunks off len (held.chunks_of o.map.stage))
+    ≡ copied_by ops (range_of_chunks off len (held.held_chunks o.map.stage))
     (device_view (device_in o.map.stage) h.memory.memory))
     (range : off + len ≤ length (buffer_of h.loans k)) (alone : is_mixed ops ≡ false)
     (fine : sync_answer h.loans.loans k off len ops ≡ Fine) where
@@ -131,7 +131,7 @@ module _ (h : Holdings) (wired : IsWired h) (k : ℕ) (o : KeptMap) (there : get
   after = after_sync l k (map_of o) off len ops
 
   abbrev synced : Wire
-  synced = wires.synced k off len ops l (wire_of h)
+  synced = wires.wire_synced k off len ops l (wire_of h)
 
   is : get l.maps k ≡ Some (map_of o)
   is = image-some map_of h.maps.map k o there
@@ -159,7 +159,7 @@ module _ (h : Holdings) (wired : IsWired h) (k : ℕ) (o : KeptMap) (there : get
       subst (λ ts. IsFaithfulTo after.memory after.loans ts now) traces
       (subst (IsFaithful after) (sym (held-synced ∙ sym (ap (λ s. if_done s synced (wire_of h)) whole)))
       (subst (λ (s : Asking Outcome). IsFaithful (by_reply s Nothing).lane
-      (wires.sync_range k off len ops l (wire_of h)))
+      (wires.wire_sync_range k off len ops l (wire_of h)))
       whole
       (sync_range-faithful l (wire_of h) wired.apart wired.laid wired.faithful k off len ops Nothing)))
 
@@ -168,14 +168,14 @@ module _ (h : Holdings) (wired : IsWired h) (k : ℕ) (o : KeptMap) (there : get
       (shares : List KeptShare) → AreIn h.loans.bytes (lost h.loans.loans k off len ops) →
       marks ≡ set_all h.loans.bytes (lost h.loans.loans k off len ops) false →
       loans ≡ lending.synced h.loans.loans k off len ops → these ≡ table →
-      share_of shares
-      ≡ counted ((prewrite ops || postread ops) && list_any (has_byte_of off len) (held.chunks_of o.map.stage))
-      (option_map (λ z. z.0) o.map.zone) (share_of h.shares.items) →
+      kept_share shares
+      ≡ counted ((prewrite ops || postread ops) && list_any (has_byte_of off len) (held.held_chunks o.map.stage))
+      (option_map (λ z. z.0) o.map.zone) (kept_share h.shares.items) →
       gives (record l {
         maps = map_values map_of these;
         memory = bytes.held marks loans (devices_of these) n;
         loans = loans;
-        shares = share_of shares;
+        shares = kept_share shares;
       }) answer.Done
       ≡ sync_part k (map_of o) off len ops l
   part-done marks loans these shares are marked same put_in shared =
@@ -193,11 +193,11 @@ module _ (h : Holdings) (wired : IsWired h) (k : ℕ) (o : KeptMap) (there : get
       (λ a own. sym (own-marks h.loans.bytes (set_all h.loans.bytes keys false) l.memory (forgotten keys l.memory)
       before then (has_set_all h.loans.bytes keys false are) a) ∙ own)
       (set_all h.loans.bytes keys false) then in
-      let chunks : held.chunks_of o.map.stage ≡ bounced_in (map_of o).stage =
-      ap held.chunks_of x.stage ∙ sym (ap (λ s. bounced_in (stage_of s)) x.stage) in
-      let counts : share_of shares ≡ counted (copies off len ops (map_of o).stage) (map_of o).zone l.shares =
+      let chunks : held.held_chunks o.map.stage ≡ bounced_in (map_of o).stage =
+      ap held.held_chunks x.stage ∙ sym (ap (λ s. bounced_in (kept_stage s)) x.stage) in
+      let counts : kept_share shares ≡ counted (copies off len ops (map_of o).stage) (map_of o).zone l.shares =
       shared ∙ ap (λ cs. counted ((prewrite ops || postread ops) && list_any (has_byte_of off len) cs)
-      (option_map (λ (z : ZoneId). z.0) o.map.zone) (share_of h.shares.items)) chunks in
+      (option_map (λ (z : ZoneId). z.0) o.map.zone) (kept_share h.shares.items)) chunks in
       (λ i. gives (record l {
         maps = (ap (map_values map_of) put_in ∙ ideal-maps h wired k o there on next repaged) i;
         memory = memory i;
@@ -236,10 +236,10 @@ module _ (l : LaneState) (k : ℕ) (o : LaneMap) (there : get l.maps k ≡ Some 
       ∙ ap (λ n. sync_part k o 0 n ops l) (sym same)
 
   pub sync-wires : (len : ℕ) (w : Wire) → len ≡ load_length l k →
-      if_done (sync_part k o 0 len ops l) (wires.synced k 0 len ops l w) w ≡ wires.sync k ops l w
+      if_done (sync_part k o 0 len ops l) (wires.wire_synced k 0 len ops l w) w ≡ wires.wire_sync k ops l w
   sync-wires len w same =
-      ap (λ s. if_done s (wires.synced k 0 len ops l w) w) (sym (sync-whole len same))
-      ∙ ap (λ n. if_done (syncs.sync k ops l) (wires.synced k 0 n ops l w) w) same
+      ap (λ s. if_done s (wires.wire_synced k 0 len ops l w) w) (sym (sync-whole len same))
+      ∙ ap (λ n. if_done (syncs.sync k ops l) (wires.wire_synced k 0 n ops l w) w) same
 
   pub range-within : (off len : ℕ) → off + len ≤ load_length l k →
       syncs.sync_range k off len ops l ≡ sync_part k o off len ops l

@@ -1,5 +1,6 @@
 -- Loads of which no byte is bounced, for example loads of IOMMU tags' maps.
-use Rattle.std.proofs.Common.{◌≡◌, ℕ, ◌+◌, ◌≤◌, Bool, true, false, List, [], ◌∷◌, length, Some, None, refl, sym, ap, ◌∙◌}
+use Rattle.std.proofs.Common.{◌≡◌, ℕ, ◌+◌, ◌≤◌, Bool, true, false, List, [], ◌∷◌, length, Some, None, refl, sym, ap}
+use Rattle.std.proofs.Common.{◌∙◌}
 use Rattle.std.proofs.Common.{subst}
 use Rattle.std.specs.FinMap.{get}
 use Rattle.std.specs.List.{AllZip}
@@ -26,14 +27,14 @@ use Rattle.ideal_wire.specs.Laid.{IsInPage, is_behind}
 use Rattle.ideal_wire.specs.Traces.{placed_from, stage_at, stage_in, traces_of}
 use Rattle.ideal_wire.specs.WireStep as wires
 use Rattle.ideal_wire.specs.WireStep.{if_done, load_buses}
-use Rattle.ideal_wire.proofs.Calls.{dev_write-faithful}
-use Rattle.ideal_wire.proofs.Copies.{same_range}
+use Rattle.ideal_wire.proofs.Faithful.Calls.{dev_write-faithful}
+use Rattle.ideal_wire.proofs.Faithful.BytesPut.{same_range}
 use Rattle.lane_state.specs.declared.holdings.Holdings.{Holdings}
 use Rattle.lane_state.specs.declared.kept.KeptMap.{KeptMap}
 use Rattle.lane_state.specs.Changes.{with_written}
 use Rattle.lane_state.specs.Covered.{has_load}
 use Rattle.lane_state.specs.Ideal.{ideal_of}
-use Rattle.lane_state.specs.Kept.{map_of, stage_of}
+use Rattle.lane_state.specs.Kept.{map_of, kept_stage}
 use Rattle.lane_state.specs.Wire.{IsWired, wire_of}
 use Rattle.lane_state.proofs.Devices.{Loading, loading}
 use Rattle.lane_access.proofs.DeviceWrites.{dev_write-within}
@@ -85,7 +86,7 @@ module _ (h : Holdings) (wired : IsWired h) (k : ℕ) (o : KeptMap) (there : get
         ∙ passes (dev_write_answer (loan_of l.loans k) off (length vs)) l (gives (with_written pas vs l) answer.Done)
         (sym fine)
 
-    pub direct-wire : wires.dev_write k off vs l (wire_of h) ≡ put pas vs (wire_of h)
+    pub direct-wire : wires.wire_dev_write k off vs l (wire_of h) ≡ put pas vs (wire_of h)
     direct-wire =
         ap (λ s. if_done s (put (load_buses l k off (length vs)) vs (wire_of h)) (wire_of h)) direct-step
         ∙ ap (λ ks. put ks vs (wire_of h)) (direct-buses off (length vs))
@@ -93,7 +94,8 @@ module _ (h : Holdings) (wired : IsWired h) (k : ℕ) (o : KeptMap) (there : get
     pub direct-faithful : IsFaithful (with_written pas vs l) (put pas vs (wire_of h))
     direct-faithful =
         subst (IsFaithful (with_written pas vs l)) direct-wire
-        (subst (λ (s : Asking Outcome). IsFaithful (by_reply s Nothing).lane (wires.dev_write k off vs l (wire_of h)))
+        (subst (λ (s : Asking Outcome). IsFaithful (by_reply s Nothing).lane
+        (wires.wire_dev_write k off vs l (wire_of h)))
         direct-step
         (dev_write-faithful l (wire_of h) wired.apart wired.laid wired.faithful k off vs Nothing))
 
@@ -109,9 +111,9 @@ module _ (h : Holdings) (wired : IsWired h) (stands : Stands (ideal_of h)) (k : 
   unbounced : bounced_in (stage_at lane k) ≡ []
   unbounced =
       ap (λ q. bounced_in (stage_in q)) (image-some map_of h.maps.map k o there)
-      ∙ ap (λ s. bounced_in (stage_of s)) x.stage
+      ∙ ap (λ s. bounced_in (kept_stage s)) x.stage
       ∙ no-chunk x.bounced (page_addresses x.pages.items) x.load.paged
-      (subst (λ s. IsPageless (stage_of s)) x.stage (st.pageless zone))
+      (subst (λ s. IsPageless (kept_stage s)) x.stage (st.pageless zone))
     where
       st : StandsAt lane.maxmem lane.tags lane.mems k (map_of o)
       st = stands.each k (map_of o) (image-some map_of h.maps.map k o there)
@@ -131,7 +133,7 @@ module _ (h : Holdings) (wired : IsWired h) (stands : Stands (ideal_of h)) (k : 
     pub own-step : dev_write k off vs lane ≡ gives (with_written bytes vs lane) answer.Done
     own-step = direct-step h wired k o there on unbounced off vs range fine
 
-    pub own-wire : wires.dev_write k off vs lane (wire_of h) ≡ put bytes vs (wire_of h)
+    pub own-wire : wires.wire_dev_write k off vs lane (wire_of h) ≡ put bytes vs (wire_of h)
     own-wire = direct-wire h wired k o there on unbounced off vs range fine
 
     pub own-faithful : IsFaithful (with_written bytes vs lane) (put bytes vs (wire_of h))

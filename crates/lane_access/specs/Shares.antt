@@ -3,6 +3,6 @@ use Rattle.std.specs.Prelude.{ℕ, suc, ◌==◌, List, [], ◌∷◌, if◌then
 use Rattle.lane_state.specs.declared.kept.KeptShare.{KeptShare}
 
 -- the index of the first share of a zone, or the number of shares if the zone has none
-abbrev pub place_in : ℕ → List KeptShare → ℕ
-place_in z [] = 0
-place_in z (s ∷ shares) = if z == s.zone.0 then 0 else suc (place_in z shares)
+abbrev pub share_place : ℕ → List KeptShare → ℕ
+share_place z [] = 0
+share_place z (s ∷ shares) = if z == s.zone.0 then 0 else suc (share_place z shares)

@@ -25,7 +25,7 @@ ghost use Rattle.lane_state.specs.Covered.{has_load};
 ghost use Rattle.lane_state.specs.Changes.{with_written};
 ghost use Rattle.lane_state.specs.Held.{device_view};
 ghost use Rattle.lane_state.specs.Kept.{device_in};
-ghost use Rattle.lane_state.specs.PagesLent.{IsReached, IsRepaged};
+ghost use Rattle.lane_state.specs.PagesLent.{IsRangeReached, IsRepaged};
 ghost use Rattle.lane_access.specs.Raw.{IsInFrame};
 ghost use Rattle.lane_state.specs.Changes.{KeepsState};
 ghost use Rattle.lane_state.specs.Ideal.{given, ideal_of};
@@ -81,7 +81,7 @@ pub fn cpu_write(
     ensures done { IfOk result (λ answer.
         Gives (given holdings.new answer) ≡ accesses.cpu_write place bytes.now (ideal_of holdings.old)) }
     ensures wire { IfOk result (λ answer.
-        wire_of holdings.new ≡ wires.cpu_write place bytes.now (ideal_of holdings.old) (wire_of holdings.old)) }
+        wire_of holdings.new ≡ wires.wire_cpu_write place bytes.now (ideal_of holdings.old) (wire_of holdings.old)) }
     ensures script { holdings.new.script ≡ holdings.old.script }
     ensures memories { holdings.new.memories ≡ holdings.old.memories }
     ensures agenda { holdings.new.agenda ≡ holdings.old.agenda }
@@ -237,7 +237,7 @@ pub fn dev_write(
     ensures done { IfOk result (λ answer.
         Gives (given holdings.new answer) ≡ accesses.dev_write map off bytes.now (ideal_of holdings.old)) }
     ensures wire { IfOk result (λ answer.
-        wire_of holdings.new ≡ wires.dev_write map off bytes.now (ideal_of holdings.old) (wire_of holdings.old)) }
+        wire_of holdings.new ≡ wires.wire_dev_write map off bytes.now (ideal_of holdings.old) (wire_of holdings.old)) }
     ensures script { holdings.new.script ≡ holdings.old.script }
     ensures memories { holdings.new.memories ≡ holdings.old.memories }
     ensures agenda { holdings.new.agenda ≡ holdings.old.agenda }
@@ -302,7 +302,7 @@ fn read_load(
     off: u64,
     len: u64,
 ) -> Result<ByteList, AllocError>
-    requires { IsReached memory.now.memory map.old.stage off len }
+    requires { IsRangeReached memory.now.memory map.old.stage off len }
     ensures bytes { IfOk result (λ bytes.
         bytes ≡ mapped (device_view (device_in map.old.stage) memory.now.memory)
         (bus_range off len (segments_of map.old.stage))) }
@@ -370,7 +370,7 @@ fn write_parts(memory: &mut LanePages, parts: &[Extent], bytes: &[u8])
 
 /// Writes bytes to a map's load at their bus addresses, from `off` on.
 fn write_load(map: &mut DmaMap<KeptLoad<'_>>, memory: &mut LanePages, off: u64, bytes: &[u8])
-    requires { IsReached memory.old.memory map.old.stage off (length bytes.now) }
+    requires { IsRangeReached memory.old.memory map.old.stage off (length bytes.now) }
     ensures view { device_view (device_in map.new.stage) memory.new.memory
         ≡ put (bus_range off (length bytes.now) (segments_of map.old.stage)) bytes.now
         (device_view (device_in map.old.stage) memory.old.memory) }

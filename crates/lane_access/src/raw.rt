@@ -184,7 +184,7 @@ pub fn dev_write_at(
     ensures done { IfOk result (λ answer.
         Gives (given holdings.new answer) ≡ accesses.dev_write_at tag addr bytes.now (ideal_of holdings.old)) }
     ensures wire { IfOk result (λ answer.
-        wire_of holdings.new ≡ wires.dev_write_at tag addr bytes.now (ideal_of holdings.old) (wire_of holdings.old)) }
+        wire_of holdings.new ≡ wires.wire_dev_write_at tag addr bytes.now (ideal_of holdings.old) (wire_of holdings.old)) }
     ensures script { holdings.new.script ≡ holdings.old.script }
     ensures memories { holdings.new.memories ≡ holdings.old.memories }
     ensures agenda { holdings.new.agenda ≡ holdings.old.agenda }

@@ -5,9 +5,9 @@ ghost use Rattle.std.specs.Prelude.{nat_lt, IfOk, OnErr, vec_len, vec_capacity};
 ghost use Rattle.std.specs.FinMap.{get};
 ghost use Rattle.std.specs.List.{list_any};
 ghost use Rattle.std.specs.Option.{option_map};
-ghost use Rattle.dma_map.specs.MapView.{chunks_of};
+ghost use Rattle.dma_map.specs.MapView.{held_chunks as chunks_of};
 ghost use Rattle.busdma_rules.specs.Tags.SyncOps.{is_mixed, postread, prewrite};
-ghost use Rattle.busdma_rules.specs.Lending.Syncing.{lost, sync_answer};
+ghost use Rattle.busdma_rules.specs.Lending.SyncEffects.{lost, sync_answer};
 ghost use Rattle.busdma_rules.specs.Lending.Loans.{load_bytes};
 ghost use Rattle.loan_table.specs.Table.{AreIn, HasMap, IsSame, IsSynced, OnFine, OnRefused, buffer_of};
 ghost use Rattle.loan_table.specs.Table.{extent_count};
@@ -22,9 +22,9 @@ ghost use Rattle.ideal_wire.specs.WireStep as wires;
 ghost use Rattle.ideal_wire.specs.WireStep.{copied_by, if_done};
 ghost use Rattle.lane_state.specs.Covered.{has_load};
 ghost use Rattle.lane_state.specs.Held.{device_view};
-ghost use Rattle.lane_state.specs.Kept.{device_in, share_of};
+ghost use Rattle.lane_state.specs.Kept.{device_in, kept_share as share_of};
 ghost use Rattle.lane_state.specs.PagesLent.{IsBounced, IsRepaged};
-ghost use Rattle.lane_access.specs.Shares.{place_in};
+ghost use Rattle.lane_access.specs.Shares.{share_place};
 ghost use Rattle.lane_state.specs.Changes.{KeepsState};
 ghost use Rattle.lane_state.specs.Ideal.{given, ideal_of};
 ghost use Rattle.lane_state.specs.Wire.{IsWired, wire_of};
@@ -55,7 +55,7 @@ pub fn sync(
     ensures done { IfOk result (λ answer.
         Gives (given holdings.new answer) ≡ syncs.sync map ops.0 (ideal_of holdings.old)) }
     ensures wire { IfOk result (λ answer.
-        wire_of holdings.new ≡ wires.sync map ops.0 (ideal_of holdings.old) (wire_of holdings.old)) }
+        wire_of holdings.new ≡ wires.wire_sync map ops.0 (ideal_of holdings.old) (wire_of holdings.old)) }
     ensures script { holdings.new.script ≡ holdings.old.script }
     ensures memories { holdings.new.memories ≡ holdings.old.memories }
     ensures agenda { holdings.new.agenda ≡ holdings.old.agenda }
@@ -86,7 +86,7 @@ pub fn sync_range(
     ensures done { IfOk result (λ answer.
         Gives (given holdings.new answer) ≡ syncs.sync_range map off len ops.0 (ideal_of holdings.old)) }
     ensures wire { IfOk result (λ answer.
-        wire_of holdings.new ≡ wires.sync_range map off len ops.0 (ideal_of holdings.old) (wire_of holdings.old)) }
+        wire_of holdings.new ≡ wires.wire_sync_range map off len ops.0 (ideal_of holdings.old) (wire_of holdings.old)) }
     ensures script { holdings.new.script ≡ holdings.old.script }
     ensures memories { holdings.new.memories ≡ holdings.old.memories }
     ensures agenda { holdings.new.agenda ≡ holdings.old.agenda }
@@ -118,7 +118,7 @@ fn sync_part(
         Gives (given holdings.new answer) ≡ syncs.sync_part map o off len ops.0 (ideal_of holdings.old)) }
     ensures wire { IfOk result (λ answer. (o : LaneMap) → get (ideal_of holdings.old).maps map ≡ Some o →
         wire_of holdings.new ≡ if_done (syncs.sync_part map o off len ops.0 (ideal_of holdings.old))
-        (wires.synced map off len ops.0 (ideal_of holdings.old) (wire_of holdings.old)) (wire_of holdings.old)) }
+        (wires.wire_synced map off len ops.0 (ideal_of holdings.old) (wire_of holdings.old)) (wire_of holdings.old)) }
     ensures script { holdings.new.script ≡ holdings.old.script }
     ensures memories { holdings.new.memories ≡ holdings.old.memories }
     ensures agenda { holdings.new.agenda ≡ holdings.old.agenda }
@@ -269,7 +269,7 @@ fn count_copy(shares: &mut Vec<KeptShare>, zone: Option<ZoneId>)
 
 /// Returns the index of a zone's share, or the number of shares if the zone has none.
 fn place_of(shares: &[KeptShare], zone: ZoneId) -> usize
-    ensures { result ≡ place_in zone.0 shares.now }
+    ensures { result ≡ share_place zone.0 shares.now }
 {
     let mut place = 0;
     while place < shares.len() && shares[place].zone != zone {

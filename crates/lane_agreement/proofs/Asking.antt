@@ -3,7 +3,8 @@ use Rattle.std.proofs.Common.{◌≡◌, ℕ, ◌≤◌, true, List, [], ◌∷�
 use Rattle.std.proofs.lemmas.Bool.{eq-eqb}
 use Rattle.busdma_machine.specs.declared.name.MapId.{MapId}
 use Rattle.busdma_machine.specs.declared.bounce.hold.HubCall.{HubCall}
-use Rattle.busdma_machine.specs.declared.bounce.hold.HubCall.TheVariants.{AttachTag, CreateMap, DestroyMap, Grab, Release}
+use Rattle.busdma_machine.specs.declared.bounce.hold.HubCall.TheVariants.{AttachTag, CreateMap, DestroyMap, Grab}
+use Rattle.busdma_machine.specs.declared.bounce.hold.HubCall.TheVariants.{Release}
 use Rattle.busdma_machine.specs.declared.bounce.hold.HubCall.TheVariants.{TakeCallback, MemAlloc, MemFree}
 use Rattle.busdma_machine.specs.Bounce.Account.{Account, Held}
 use Rattle.busdma_machine.specs.Bounce.Serving.{is_holding}
@@ -13,7 +14,7 @@ use Rattle.busdma_machine.specs.Bounce.Places.{places}
 use Rattle.busdma_machine.proofs.Accounts.Names.{and_left}
 use Rattle.lane_agreement.specs.View.{View, Return, Idle}
 use Rattle.busdma_machine.specs.Bounce.Share.{Same, share}
-use Rattle.lane_agreement.specs.OwnShare.{share_of, is_return, one_if}
+use Rattle.lane_agreement.specs.OwnShare.{share_of, is_return, share_if}
 use Rattle.lane_agreement.specs.Agreement.{Agrees}
 use Rattle.lane_agreement.specs.After.{MayAsk, IsFront}
 use Rattle.lane_agreement.proofs.Own.{count-one, count-less}
@@ -41,7 +42,7 @@ idle l a m z agrees own here =
     let g : Same (share_of m.made_at (Some (record { zone = z; stage = Idle })) (l.mem_at m.made_at) l.returns)
     (share m a) = known l a m _ agrees own here in
     record {
-      made = omega (arith, g.made z, ap one_if (eq-eqb z z refl));
+      made = omega (arith, g.made z, ap share_if (eq-eqb z z refl));
       holds_nothing = omega (arith, g.holds, agrees.returns m.made_at (rw here refl));
       in_no_list = g.listed;
     }
@@ -68,7 +69,7 @@ front l a m rs r agrees own here place =
       held-once a m r.zone r.page (agrees.one r.page),
       g.holds_page r.zone r.page,
       count-one (is_return m.made_at r.zone r.page) r rs,
-      ap one_if this,
+      ap share_if this,
     )
 
 released : (l : View) (a : Account) (m : MapId) (z page : ℕ) (rs : List Return) → Agrees l a → m.lane.0 ≡ l.id →

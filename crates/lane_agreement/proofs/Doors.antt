@@ -8,7 +8,7 @@ use Rattle.busdma_machine.specs.declared.bounce.hold.HoldEntry.{HoldEntry}
 use Rattle.busdma_machine.specs.Bounce.Account.{Account}
 use Rattle.busdma_machine.specs.Bounce.AccountStep.{account_step}
 use Rattle.busdma_machine.specs.Bounce.History.{IsOpening, IsSound, after_entry, account_of}
-use Rattle.busdma_machine.specs.Bounce.Door.{Seen, account, Passes, Holds}
+use Rattle.busdma_machine.specs.Bounce.Door.{Seen, account, Passes, HoldsAtDoor}
 use Rattle.lane_agreement.specs.View.{View}
 use Rattle.lane_agreement.specs.Agreement.{Agrees}
 use Rattle.lane_agreement.specs.After.{after, MayAsk}
@@ -51,7 +51,7 @@ agrees-passes l d others e agrees served passes =
     (others_away d.serves l.id others served passes.apart))))
 
 pub agrees-holds : (fits : Bool) (l : View) (d : Seen) (c : HubCall) (r : HubReply) (e : Seen) → Agrees l (account d) →
-    IsTrue (d.serves l.id) → Holds d l.id c r e → MayAsk l c → Agrees (after fits l c r) (account e)
+    IsTrue (d.serves l.id) → HoldsAtDoor d l.id c r e → MayAsk l c → Agrees (after fits l c r) (account e)
 agrees-holds fits l d c r e agrees served holds asks =
     let b : Seen = holds.between in
     let own : List HoldEntry = record { lane = record { 0 = l.id }; call = c; reply = r } ∷ [] in

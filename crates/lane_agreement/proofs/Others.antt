@@ -4,16 +4,16 @@ use Rattle.busdma_machine.specs.declared.bounce.hold.HoldEntry.{HoldEntry}
 use Rattle.busdma_machine.specs.Bounce.Account.{Account}
 use Rattle.busdma_machine.specs.Bounce.History.{IsSound, account_of}
 use Rattle.busdma_machine.specs.Bounce.SameFor.{SameFor}
-use Rattle.busdma_machine.proofs.Accounts.Shares.{SameFor-history}
+use Rattle.busdma_machine.proofs.Accounts.ShareLaws.{SameFor-history}
 use Rattle.busdma_machine.proofs.Accounts.Places.{where-history}
-use Rattle.busdma_machine.specs.Bounce.WellFormed.{IsWellFormed}
+use Rattle.busdma_machine.specs.Bounce.WellFormed.{IsAccountWellFormed}
 use Rattle.lane_agreement.specs.View.{View}
 use Rattle.busdma_machine.specs.Bounce.Share.{share}
 use Rattle.lane_agreement.specs.OwnShare.{own_share}
 use Rattle.lane_agreement.specs.Agreement.{Agrees}
 use Rattle.busdma_machine.proofs.Accounts.Names.{Same-trans}
 
-pub agrees-stays : (l : View) (a : Account) (es : List HoldEntry) → IsWellFormed a → Agrees l a → IsSound a es →
+pub agrees-stays : (l : View) (a : Account) (es : List HoldEntry) → IsAccountWellFormed a → Agrees l a → IsSound a es →
     All (λ e. e.lane.0 ≢ l.id) es → Agrees l (account_of a es)
 agrees-stays l a es well agrees sound others =
     let same : SameFor l.id a (account_of a es) = SameFor-history l.id a es sound others in

@@ -9,19 +9,20 @@ use Rattle.std.proofs.lemmas.List.Sums.{sum_by-cons, sum_by-set}
 use Rattle.std.proofs.lemmas.Bool.Decides.{eqb_tells}
 use Rattle.busdma_machine.specs.declared.name.MapId.{MapId}
 use Rattle.busdma_machine.specs.declared.bounce.zone.Waiter.{Waiter}
-use Rattle.busdma_machine.specs.Bounce.Account.{Account, Zone, Held, Memory, same_map, zone_at, with_zone, no_zone, free}
+use Rattle.busdma_machine.specs.Bounce.Account.{Account, Zone, Held, Memory, same_map, zone_at, with_zone, no_zone}
+use Rattle.busdma_machine.specs.Bounce.Account.{free}
 use Rattle.busdma_machine.specs.declared.tags.tag.TagLimits.{TagLimits}
 use Rattle.busdma_machine.specs.Bounce.Growth.{serves_tag, zones_for}
-use Rattle.busdma_machine.specs.Bounce.Growth.{zone_for_tag as zone_of}
-use Rattle.busdma_machine.specs.Bounce.Growth.{with_zone_map as with_map, without_zone_map as without_map}
-use Rattle.busdma_machine.specs.Bounce.MemoryRuns.{in_run, with_memory_run as with_memory}
-use Rattle.busdma_machine.specs.Bounce.MemoryRuns.{without_memory_run as without_memory, frames_of}
-use Rattle.busdma_machine.specs.Bounce.Serving.{is_holding, handed, waiting_at_tail as queued, returned}
+use Rattle.busdma_machine.specs.Bounce.Growth.{zone_for_tag}
+use Rattle.busdma_machine.specs.Bounce.Growth.{with_zone_map, without_zone_map}
+use Rattle.busdma_machine.specs.Bounce.MemoryRuns.{in_run, with_memory_run}
+use Rattle.busdma_machine.specs.Bounce.MemoryRuns.{without_memory_run, frames_of}
+use Rattle.busdma_machine.specs.Bounce.Serving.{is_holding, handed, waiting_at_tail, returned}
 use Rattle.busdma_machine.specs.Bounce.Conditions.{times_made, times_in_zones, times_held, pages_held, memories}
-use Rattle.busdma_machine.proofs.Accounts.Counting.{get_or-set_as, count_by-append, count_by-filter_keeps}
-use Rattle.busdma_machine.proofs.Accounts.Counting.{sum_by-set_like}
+use Rattle.busdma_machine.proofs.Accounts.EditedSums.{get_or-set_as, count_by-append, count_by-filter_keeps}
+use Rattle.busdma_machine.proofs.Accounts.EditedSums.{sum_by-set_like}
 use Rattle.busdma_machine.specs.Bounce.Share.{Same, share, waiters}
-use Rattle.lane_agreement.specs.OwnShare.{one_if}
+use Rattle.lane_agreement.specs.OwnShare.{share_if}
 use Rattle.busdma_machine.proofs.Accounts.Names.{and_left, and_right, same_map-self, name-with_zone}
 
 pub and-true : (a : Bool) → (a && true) ≡ a
@@ -29,8 +30,8 @@ and-true true = refl
 and-true false = refl
 
 pub count-one : {X : Type 0} (test : X → Bool) (x : X) (xs : List X) →
-    count_by test (x ∷ xs) ≡ one_if (test x) + count_by test xs
-count-one test x xs = omega (arith, sum_by-cons (λ y. one_if (test y)) x xs)
+    count_by test (x ∷ xs) ≡ share_if (test x) + count_by test xs
+count-one test x xs = omega (arith, sum_by-cons (λ y. share_if (test y)) x xs)
 
 -- a count over a mapped list
 pub count-map : {X Y : Type 0} (test : X → Bool) (f : Y → X) (ys : List Y) →
@@ -42,11 +43,11 @@ count-map test f (y ∷ ys) =
 pub count-like : {X : Type 0} (p q : X → Bool) (xs : List X) → ((x : X) → p x ≡ q x) → count_by p xs ≡ count_by q xs
 count-like p q [] same = refl
 count-like p q (x ∷ xs) same =
-    omega (arith, count-like p q xs same, count-one p x xs, count-one q x xs, ap one_if (same x))
+    omega (arith, count-like p q xs same, count-one p x xs, count-one q x xs, ap share_if (same x))
 
 pub count-all : {X : Type 0} (p : X → Bool) (xs : List X) → ((x : X) → p x ≡ true) → count_by p xs ≡ length xs
 count-all p [] all = refl
-count-all p (x ∷ xs) all = omega (arith, count-all p xs all, count-one p x xs, ap one_if (all x))
+count-all p (x ∷ xs) all = omega (arith, count-all p xs all, count-one p x xs, ap share_if (all x))
 
 -- a filter lowers a count by what it takes out
 pub count-less : {X : Type 0} (q p : X → Bool) (xs : List X) → ((x : X) → q x ≡ true → p x ≡ true) →
@@ -58,15 +59,15 @@ count-less q p (x ∷ xs) h =
     + count_by q (x ∷ xs) ≡ count_by p (x ∷ xs)) [
       | true ↦ λ w. omega (
         arith,
-        ap one_if w,
-        ap one_if (h x w),
+        ap share_if w,
+        ap share_if (h x w),
         count-less q p xs h,
         count-one p x xs,
         count-one q x xs,
       )
       | false ↦ λ w. omega (
         arith,
-        ap one_if w,
+        ap share_if w,
         count-less q p xs h,
         count-one p x xs,
         count-one q x xs,
@@ -149,7 +150,7 @@ module _ (a : Account) (n : MapId) (z need : ℕ) (inside : z < length a.zones) 
   joined = record { map = n; zone = record { 0 = z }; need = need; have = free a z }
 
   pub queued-waiters : (test : Waiter → Bool) →
-      waiters test (queued a n z need) ≡ waiters test a + one_if (test joined)
+      waiters test (waiting_at_tail a n z need) ≡ waiters test a + share_if (test joined)
   queued-waiters test =
       omega (
         arith,
@@ -159,10 +160,10 @@ module _ (a : Account) (n : MapId) (z need : ℕ) (inside : z < length a.zones) 
             (record (zone_at a z) { wait = (zone_at a z).wait ++ joined ∷ [] }) no_zone inside,
       )
 
-  pub queued-made : (y : ℕ) → times_made n y (queued a n z need) ≡ times_made n y a
+  pub queued-made : (y : ℕ) → times_made n y (waiting_at_tail a n z need) ≡ times_made n y a
   queued-made y = get_or-set_as (λ (s : Zone). count_by (same_map n) s.maps) a.zones z y _ no_zone refl
 
-  pub queued-in_zones : times_in_zones n (queued a n z need).zones ≡ times_in_zones n a.zones
+  pub queued-in_zones : times_in_zones n (waiting_at_tail a n z need).zones ≡ times_in_zones n a.zones
   queued-in_zones = sum_by-set_like (λ (s : Zone). count_by (same_map n) s.maps) a.zones z _ no_zone refl refl
 
   -- a map joins a zone
@@ -175,32 +176,32 @@ module _ (a : Account) (n : MapId) (z need : ℕ) (inside : z < length a.zones) 
         arith,
         count_by-append (same_map n) (zone_at a z).maps (n ∷ []),
         count-one (same_map n) n [],
-        ap one_if (same_map-self n),
+        ap share_if (same_map-self n),
       )
 
-  pub with_map-in_zones : times_in_zones n (with_map a z n).zones ≡ times_in_zones n a.zones + 1
+  pub with_map-in_zones : times_in_zones n (with_zone_map a z n).zones ≡ times_in_zones n a.zones + 1
   with_map-in_zones =
       omega (arith, more, sum_by-set (λ (s : Zone). count_by (same_map n) s.maps) a.zones z fuller no_zone inside)
 
-  pub with_map-made : (y : ℕ) → times_made n y (with_map a z n) ≡ times_made n y a + one_if (z == y)
+  pub with_map-made : (y : ℕ) → times_made n y (with_zone_map a z n) ≡ times_made n y a + share_if (z == y)
   with_map-made y =
-      elim (eqb_tells z y) as (λ _. times_made n y (with_map a z n) ≡ times_made n y a + one_if (z == y)) [
-        | inl h ↦ subst (λ k. times_made n k (with_map a z n) ≡ times_made n k a + one_if (z == k)) h.1
+      elim (eqb_tells z y) as (λ _. times_made n y (with_zone_map a z n) ≡ times_made n y a + share_if (z == y)) [
+        | inl h ↦ subst (λ k. times_made n k (with_zone_map a z n) ≡ times_made n k a + share_if (z == k)) h.1
             (omega (
               arith,
               more,
-              ap one_if (eq-eqb z z refl),
+              ap share_if (eq-eqb z z refl),
               ap (λ (s : Zone). count_by (same_map n) s.maps) (get_or-set_same a.zones z fuller no_zone inside),
             ))
         | inr h ↦ omega (
           arith,
-          ap one_if (ne_eqb z y h.1),
+          ap share_if (ne_eqb z y h.1),
           ap (λ (s : Zone). count_by (same_map n) s.maps)
               (get_or-set_other a.zones z y fuller no_zone (λ e. h.1 (sym e))),
         )
       ]
 
-  pub with_map-waiters : (test : Waiter → Bool) → waiters test (with_map a z n) ≡ waiters test a
+  pub with_map-waiters : (test : Waiter → Bool) → waiters test (with_zone_map a z n) ≡ waiters test a
   with_map-waiters test =
       ap (λ k. k + count_by test a.ready) (sum_by-set_like
       (λ (s : Zone). count_by test s.wait) a.zones z _ no_zone refl refl)
@@ -212,11 +213,12 @@ module _ (a : Account) (n : MapId) (z need : ℕ) (inside : z < length a.zones) 
   none_left : count_by (same_map n) fewer.maps ≡ 0
   none_left = omega (arith, count-less (same_map n) (same_map n) (zone_at a z).maps (λ k e. e))
 
-  pub without_map-in_zones : times_in_zones n (without_map a z n).zones + times_made n z a ≡ times_in_zones n a.zones
+  pub without_map-in_zones : times_in_zones n (without_zone_map a z n).zones + times_made n z a
+      ≡ times_in_zones n a.zones
   without_map-in_zones =
       omega (arith, none_left, sum_by-set (λ (s : Zone). count_by (same_map n) s.maps) a.zones z fewer no_zone inside)
 
-  pub without_map-here : times_made n z (without_map a z n) ≡ 0
+  pub without_map-here : times_made n z (without_zone_map a z n) ≡ 0
   without_map-here =
       omega (
         arith,
@@ -225,19 +227,19 @@ module _ (a : Account) (n : MapId) (z need : ℕ) (inside : z < length a.zones) 
             (get_or-set_same a.zones z fewer no_zone inside),
       )
 
-  pub without_map-other : (y : ℕ) → y ≢ z → times_made n y (without_map a z n) ≡ times_made n y a
+  pub without_map-other : (y : ℕ) → y ≢ z → times_made n y (without_zone_map a z n) ≡ times_made n y a
   without_map-other y apart =
       ap (λ (s : Zone). count_by (same_map n) s.maps) (get_or-set_other a.zones z y fewer no_zone apart)
 
-  pub without_map-waiters : (test : Waiter → Bool) → waiters test (without_map a z n) ≡ waiters test a
+  pub without_map-waiters : (test : Waiter → Bool) → waiters test (without_zone_map a z n) ≡ waiters test a
   without_map-waiters test =
       ap (λ k. k + count_by test a.ready) (sum_by-set_like
       (λ (s : Zone). count_by test s.wait) a.zones z _ no_zone refl refl)
 
-pub zone_of-inside : (t : TagLimits) (zs : List Zone) → zone_of t zs < length (zones_for t zs)
+pub zone_of-inside : (t : TagLimits) (zs : List Zone) → zone_for_tag t zs < length (zones_for t zs)
 zone_of-inside t [] = omega arith
 zone_of-inside t (z ∷ zs) =
-    elim (serves_tag t z) as (λ v. (if v then 0 else suc (zone_of t zs)) < length
+    elim (serves_tag t z) as (λ v. (if v then 0 else suc (zone_for_tag t zs)) < length
     (z ∷ (if v then zs else zones_for t zs))) [
       | true ↦ omega arith
       | false ↦ omega (arith, zone_of-inside t zs)
@@ -250,7 +252,7 @@ module _ (n : MapId) where
   none_of (x ∷ xs) e =
       (elim (same_map n x.mem) as (λ v. same_map n x.mem ≡ v →
       (if v then x.frames ++ frames_of n xs else frames_of n xs) ≡ []) [
-        | true ↦ λ w. absurd (omega (arith, e, count-one (λ (x : Memory). same_map n x.mem) x xs, ap one_if w))
+        | true ↦ λ w. absurd (omega (arith, e, count-one (λ (x : Memory). same_map n x.mem) x xs, ap share_if w))
         | false ↦ λ w. none_of xs (omega (arith, e, count-one (λ (x : Memory). same_map n x.mem) x xs))
       ]) refl
 
@@ -261,27 +263,27 @@ module _ (n : MapId) where
       (elim (same_map n x.mem) as (λ v. same_map n x.mem ≡ v →
       (if v then x.frames ++ frames_of n (xs ++ record { mem = n; frames = fs } ∷ [])
       else frames_of n (xs ++ record { mem = n; frames = fs } ∷ [])) ≡ fs ++ []) [
-        | true ↦ λ w. absurd (omega (arith, e, count-one (λ (x : Memory). same_map n x.mem) x xs, ap one_if w))
+        | true ↦ λ w. absurd (omega (arith, e, count-one (λ (x : Memory). same_map n x.mem) x xs, ap share_if w))
         | false ↦ λ w. frames-last xs fs (omega (arith, e, count-one (λ (x : Memory). same_map n x.mem) x xs))
       ]) refl
 
-  pub with_memory-mems : (a : Account) (first k : ℕ) → memories n (with_memory a n first k) ≡ memories n a + 1
+  pub with_memory-mems : (a : Account) (first k : ℕ) → memories n (with_memory_run a n first k) ≡ memories n a + 1
   with_memory-mems a first k =
       omega (
         arith,
         count_by-append (λ (x : Memory). same_map n x.mem) a.mems
             (record { mem = n; frames = filter (in_run first k) a.bank } ∷ []),
         count-one (λ (x : Memory). same_map n x.mem) (record { mem = n; frames = filter (in_run first k) a.bank }) [],
-        ap one_if (same_map-self n),
+        ap share_if (same_map-self n),
       )
 
   pub with_memory-frames : (a : Account) (first k : ℕ) → memories n a ≡ 0 →
-      frames_of n (with_memory a n first k).mems ≡ filter (in_run first k) a.bank ++ []
+      frames_of n (with_memory_run a n first k).mems ≡ filter (in_run first k) a.bank ++ []
   with_memory-frames a first k e = frames-last a.mems (filter (in_run first k) a.bank) e
 
-  pub without_memory-mems : (a : Account) → memories n (without_memory a n) ≡ 0
+  pub without_memory-mems : (a : Account) → memories n (without_memory_run a n) ≡ 0
   without_memory-mems a =
       omega (arith, count-less (λ (x : Memory). same_map n x.mem) (λ (x : Memory). same_map n x.mem) a.mems (λ x e. e))
 
-  pub without_memory-frames : (a : Account) → frames_of n (without_memory a n).mems ≡ []
-  without_memory-frames a = none_of (without_memory a n).mems (without_memory-mems a)
+  pub without_memory-frames : (a : Account) → frames_of n (without_memory_run a n).mems ≡ []
+  without_memory-frames a = none_of (without_memory_run a n).mems (without_memory-mems a)

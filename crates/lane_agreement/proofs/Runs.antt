@@ -6,7 +6,7 @@ use Rattle.std.specs.List.{count_by, filter}
 use Rattle.busdma_machine.specs.Bounce.MemoryRuns.{frames_for, follow, crosses_none, lowest_run, in_run}
 use Rattle.busdma_machine.specs.Bounce.History.{IsRising}
 use Rattle.busdma_machine.specs.Bounce.MemoryRuns.{frames_from}
-use Rattle.lane_agreement.specs.OwnShare.{one_if}
+use Rattle.lane_agreement.specs.OwnShare.{share_if}
 use Rattle.busdma_machine.proofs.Accounts.Names.{and_left, and_right}
 use Rattle.lane_agreement.proofs.Own.{count-one}
 
@@ -23,7 +23,7 @@ whole_head g gs none =
     (elim (eqb (g % 4096) 0) as (λ v. eqb (g % 4096) 0 ≡ v → g % 4096 ≡ 0) [
       | true ↦ λ u. eqb-true (g % 4096) 0 u
       | false ↦
-          λ u. absurd (omega (arith, none, count-one (λ f. not (f % 4096 == 0)) g gs, ap (λ b. one_if (not b)) u))
+          λ u. absurd (omega (arith, none, count-one (λ f. not (f % 4096 == 0)) g gs, ap (λ b. share_if (not b)) u))
     ]) refl
 
 spaced : (f : ℕ) (fs : List ℕ) → IsRising (f ∷ fs) → f % 4096 ≡ 0 →

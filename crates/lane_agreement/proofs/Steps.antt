@@ -10,32 +10,36 @@ use Rattle.busdma_machine.specs.declared.bounce.zone.Waiter.{Waiter}
 use Rattle.busdma_machine.specs.declared.bounce.hold.HubCall.{HubCall}
 use Rattle.busdma_machine.specs.declared.bounce.hold.HubReply.TheVariants.{Nothing, Granted, Queued, NoPages, Called}
 use Rattle.busdma_machine.specs.Bounce.Account.{Account, same_map, zone_at, free, total}
-use Rattle.busdma_machine.specs.Bounce.Growth.{zone_for_tag as zone_of, with_zone_for, added}
-use Rattle.busdma_machine.specs.Bounce.Growth.{grown, maxpages, wanted_by_map, with_zone_map as with_map}
-use Rattle.busdma_machine.specs.Bounce.Growth.{without_zone_map as without_map}
+use Rattle.busdma_machine.specs.Bounce.Growth.{zone_for_tag, with_zone_for, added}
+use Rattle.busdma_machine.specs.Bounce.Growth.{grown, maxpages, wanted_by_map, with_zone_map}
+use Rattle.busdma_machine.specs.Bounce.Growth.{without_zone_map}
 use Rattle.busdma_machine.specs.Bounce.MemoryRuns.{in_run}
-use Rattle.busdma_machine.specs.Bounce.MemoryRuns.{with_memory_run as with_memory, without_memory_run as without_memory}
-use Rattle.busdma_machine.specs.Bounce.Serving.{handed, waiting_at_tail as queued, returned}
-use Rattle.busdma_machine.specs.Bounce.AccountStep.{AccountReply as Outcome, account_step, as_pages}
+use Rattle.busdma_machine.specs.Bounce.MemoryRuns.{with_memory_run, without_memory_run}
+use Rattle.busdma_machine.specs.Bounce.Serving.{handed, waiting_at_tail, returned}
+use Rattle.busdma_machine.specs.Bounce.AccountStep.{AccountReply, account_step, as_pages}
 use Rattle.busdma_machine.specs.Bounce.AccountStep.{created, grabbed, released}
 use Rattle.busdma_machine.specs.Bounce.AccountStep.{called_from}
 use Rattle.busdma_machine.specs.Bounce.Conditions.{MayCall, times_held}
 use Rattle.busdma_machine.specs.Bounce.Places.{places}
-use Rattle.busdma_machine.specs.Bounce.WellFormed.{IsWellFormed}
-use Rattle.busdma_machine.proofs.Accounts.Shares.{maxmem-step}
+use Rattle.busdma_machine.specs.Bounce.WellFormed.{IsAccountWellFormed}
+use Rattle.busdma_machine.proofs.Accounts.ShareLaws.{maxmem-step}
 use Rattle.busdma_machine.proofs.Accounts.Places.{where-step}
-use Rattle.lane_agreement.specs.View.{View, Return, OwnMap, Stage, Idle, Waiting, Loaded, Returning, changed, staged}
-use Rattle.lane_agreement.specs.View.{gone, with_mem, queued_back, emptied, unloaded, ended, restaged, given_back}
+use Rattle.lane_agreement.specs.View.{View, Return, OwnMap, SeenStage, Idle}
+use Rattle.lane_agreement.specs.View.{Waiting, Loaded, Returning, view_changed, view_staged}
+use Rattle.lane_agreement.specs.View.{gone, with_mem, queued_back, view_emptied}
+use Rattle.lane_agreement.specs.View.{unloaded, view_ended}
+use Rattle.lane_agreement.specs.View.{view_restaged, view_given_back}
 use Rattle.lane_agreement.specs.View.{zone_in, returning, is_returning, is_astray}
 use Rattle.busdma_machine.specs.Bounce.Share.{Same, share}
-use Rattle.lane_agreement.specs.OwnShare.{share_of, own_share, one_if}
+use Rattle.lane_agreement.specs.OwnShare.{share_of, own_share, share_if}
 use Rattle.lane_agreement.specs.Agreement.{Agrees}
-use Rattle.lane_agreement.specs.After.{addresses_of_pages as addresses, after_grab, after_create, after_callback}
-use Rattle.busdma_machine.proofs.Accounts.Names.{and_none, and_left, Same-refl, Same-trans, name-grown_for, name-with_map}
+use Rattle.lane_agreement.specs.After.{addresses_of_pages, after_grab, after_create, after_callback}
+use Rattle.busdma_machine.proofs.Accounts.Names.{and_none, and_left, Same-refl, Same-trans, name-grown_for}
+use Rattle.busdma_machine.proofs.Accounts.Names.{name-with_map}
 use Rattle.busdma_machine.proofs.Accounts.Names.{name-without_map, name-handed, name-queued, name-released, name-served}
 use Rattle.busdma_machine.proofs.Accounts.Names.{name-shorter, name-with_memory, name-without_memory}
 use Rattle.lane_agreement.proofs.Own.{count-one, count-less, zone_of-inside}
-use Rattle.busdma_machine.proofs.Accounts.Counting.{count_by-append, count_by-map_none}
+use Rattle.busdma_machine.proofs.Accounts.EditedSums.{count_by-append, count_by-map_none}
 use Rattle.lane_agreement.proofs.Places.{OtherReturns, no-returns, names-changed, share-handed, share-queued}
 use Rattle.lane_agreement.proofs.Places.{share-shorter, waits-tells, head-waits, back-returns, share-unloaded}
 use Rattle.lane_agreement.proofs.Places.{share-returned, front-returns, share-bare, share-with_map, share-without_map}
@@ -47,7 +51,7 @@ pub record Stepped (a b : Account) : Type 0 where
   pub places : (f : ℕ) → places f b ≡ places f a
   pub maxmem : b.maxmem ≡ a.maxmem
 
-pub stepped : (lane : ℕ) (c : HubCall) (a : Account) → MayCall lane c a → IsWellFormed a →
+pub stepped : (lane : ℕ) (c : HubCall) (a : Account) → MayCall lane c a → IsAccountWellFormed a →
     Stepped a (account_step lane c a).account
 stepped lane c a may well = record {
   places = λ f. where-step (λ g. g == f) lane c a may well;
@@ -72,7 +76,7 @@ pub agrees-changed : (l : View) (n : MapId) (o : Option OwnMap) (x : Option (Lis
     → ((m : MapId) → same_map m n ≡ false → Same (share m a) (share m b)) → OtherReturns n.made_at l.returns qs →
     Same (share_of n.made_at o x qs) (share n b)
     → (is_returning o ≡ false → returning n.made_at qs ≡ 0) → count_by (is_astray n.made_at (zone_in o)) qs ≡ 0 →
-    Agrees (changed l n.made_at o x qs) b
+    Agrees (view_changed l n.made_at o x qs) b
 agrees-changed l n o x qs a b agrees own s others returns same none straight = record {
   apart = λ f e. s.places f ∙ agrees.apart f e;
   one = λ f. omega (arith, s.places f, agrees.one f);
@@ -110,12 +114,12 @@ straight_back k z rs pages none =
           pages (λ p. and_none (k == k) _ right),
     )
 
-addresses-pages : (ps : List ℕ) → addresses (as_pages ps) ≡ ps
+addresses-pages : (ps : List ℕ) → addresses_of_pages (as_pages ps) ≡ ps
 addresses-pages [] = refl
 addresses-pages (p ∷ ps) = ap (λ qs. p ∷ qs) (addresses-pages ps)
 
 emptied-none : (k z : ℕ) (rs : List Return) (pages : List ℕ) → returning k rs ≡ 0 →
-    is_returning (Some (record { zone = z; stage = emptied pages })) ≡ false →
+    is_returning (Some (record { zone = z; stage = view_emptied pages })) ≡ false →
     returning k (rs ++ queued_back k z pages) ≡ 0
 emptied-none k z rs [] none h = rw (append-nil rs) none
   where
@@ -129,7 +133,7 @@ handed-ends : (fits : Bool) (l : View) (n : MapId) (z need : ℕ) (a0 a : Accoun
     returning n.made_at l.returns ≡ 0 → Stepped a0 (handed a n z need)
     → ((m : MapId) → same_map m n ≡ false → Same (share m a0) (share m a)) →
     Same (share_of n.made_at (Some (record { zone = z; stage = Idle })) (l.mem_at n.made_at) l.returns) (share n a)
-    → Agrees (ended fits l n.made_at z (take need (zone_at a z).avail)) (handed a n z need)
+    → Agrees (view_ended fits l n.made_at z (take need (zone_at a z).avail)) (handed a n z need)
 handed-ends true l n z need a0 a agrees own none s others g =
     agrees-changed l n _ _ l.returns a0 (handed a n z need) agrees own s
     (λ m off. Same-trans (share m a0) (share m a) _ (others m off) (name-handed m n off a z need))
@@ -165,20 +169,20 @@ agrees-grab fits l n z need nowait a agrees own inside here =
     (share n a) = known l a n _ agrees own here in
     let none : returning n.made_at l.returns ≡ 0 = agrees.returns n.made_at (rw here refl) in
     let pages : List ℕ = take need (zone_at a z).avail in
-    elim (leb need (free a z)) as (λ v. let o : Outcome = if v
+    elim (leb need (free a z)) as (λ v. let o : AccountReply = if v
     then record { account = handed a n z need; reply = Granted (as_pages (take need (zone_at a z).avail)) }
     else (if nowait then record { account = a; reply = NoPages }
-    else record { account = queued a n z need; reply = Queued (free a z) }) in
+    else record { account = waiting_at_tail a n z need; reply = Queued (free a z) }) in
     Stepped a o.account → Agrees (after_grab fits l n.made_at z need o.reply) o.account) [
-      | true ↦ λ s. subst (λ ps. Agrees (ended fits l n.made_at z ps) (handed a n z need))
+      | true ↦ λ s. subst (λ ps. Agrees (view_ended fits l n.made_at z ps) (handed a n z need))
           (sym (addresses-pages pages)) (handed-ends fits l n z need a a agrees own none s
           (λ m off. Same-refl (share m a)) g)
       | false ↦
-          (elim nowait as (λ v. let o : Outcome = if v then record { account = a; reply = NoPages }
-          else record { account = queued a n z need; reply = Queued (free a z) } in
+          (elim nowait as (λ v. let o : AccountReply = if v then record { account = a; reply = NoPages }
+          else record { account = waiting_at_tail a n z need; reply = Queued (free a z) } in
           Stepped a o.account → Agrees (after_grab fits l n.made_at z need o.reply) o.account) [
             | true ↦ λ s. agrees
-            | false ↦ λ s. agrees-changed l n _ _ l.returns a (queued a n z need) agrees own s
+            | false ↦ λ s. agrees-changed l n _ _ l.returns a (waiting_at_tail a n z need) agrees own s
                 (λ m off. name-queued m n off a z need) (no-returns n.made_at l.returns)
                 (share-queued n.made_at (l.mem_at n.made_at) l.returns n z need a inside g) (λ h. none)
                 (straight_none n.made_at z l.returns none)
@@ -191,7 +195,7 @@ pub agrees-callback : (fits : Bool) (l : View) (ws : List Waiter) (a : Account) 
 agrees-callback fits l [] a agrees is = λ s. agrees
 agrees-callback fits l (w ∷ ws) a agrees is =
     (elim (eqb w.map.lane.0 l.id) as (λ v. eqb w.map.lane.0 l.id ≡ v →
-    (let o : Outcome = if v then record {
+    (let o : AccountReply = if v then record {
       account = handed (record a { ready = ws }) w.map w.zone.0 w.need;
       reply = Called w.map (as_pages (take w.need (zone_at a w.zone.0).avail));
     } else record {
@@ -206,9 +210,9 @@ agrees-callback fits l (w ∷ ws) a agrees is =
           (omega (arith, head-waits w ws a is, (agrees.names w.map own).waits w.zone.0 w.need)) in
           let none : returning w.map.made_at l.returns ≡ 0 = agrees.returns w.map.made_at (rw here refl) in
           let pages : List ℕ = take w.need (zone_at a w.zone.0).avail in
-          subst (λ ps. Agrees (ended fits l w.map.made_at (zone_in (l.map_at w.map.made_at)) ps)
+          subst (λ ps. Agrees (view_ended fits l w.map.made_at (zone_in (l.map_at w.map.made_at)) ps)
           (handed (record a { ready = ws }) w.map w.zone.0 w.need)) (sym (addresses-pages pages))
-          (subst (λ o. Agrees (ended fits l w.map.made_at (zone_in o) pages)
+          (subst (λ o. Agrees (view_ended fits l w.map.made_at (zone_in o) pages)
           (handed (record a { ready = ws }) w.map w.zone.0 w.need)) (sym here)
           (handed-ends fits l w.map w.zone.0 w.need a (record a { ready = ws }) agrees own none s
           (λ m off. name-shorter m a w ws is off)
@@ -217,7 +221,7 @@ agrees-callback fits l (w ∷ ws) a agrees is =
       | false ↦ λ t s. agrees
     ]) refl
 
-abbrev own_map : ℕ → Stage → OwnMap
+abbrev own_map : ℕ → SeenStage → OwnMap
 own_map z s = record { zone = z; stage = s }
 
 returning-some : (o : Option OwnMap) → is_returning o ≡ true →
@@ -225,7 +229,7 @@ returning-some : (o : Option OwnMap) → is_returning o ≡ true →
 returning-some None h = absurd (false≢true h)
 returning-some (Some m) h = (m.zone, ap Some (stage m.zone m.stage h))
   where
-    stage : (z : ℕ) (s : Stage) → is_returning (Some (own_map z s)) ≡ true → own_map z s ≡ own_map z Returning
+    stage : (z : ℕ) (s : SeenStage) → is_returning (Some (own_map z s)) ≡ true → own_map z s ≡ own_map z Returning
     stage z Idle h = absurd (false≢true h)
     stage z (Waiting n) h = absurd (false≢true h)
     stage z (Loaded ps) h = absurd (false≢true h)
@@ -258,7 +262,7 @@ module _ (l : View) (r : Return) (rs : List Return) (a : Account) (agrees : Agre
         arith,
         ap (returning r.map) is,
         count-one (λ (q : Return). q.map == r.map) r rs,
-        ap one_if (eq-eqb r.map r.map refl),
+        ap share_if (eq-eqb r.map r.map refl),
       ) in
       returning-some (l.map_at r.map) (if_not (is_returning (l.map_at r.map))
       (λ e. absurd (omega (arith, here, agrees.returns r.map e))))
@@ -281,11 +285,11 @@ module _ (l : View) (r : Return) (rs : List Return) (a : Account) (agrees : Agre
       omega (arith, all, count-one (is_astray r.map z) r rs)
 
   pub agrees-back : times_held its_map r.zone r.page a ≡ 1 → Stepped a (released its_map r.zone r.page a).account →
-      Agrees (given_back l (r ∷ rs)) (released its_map r.zone r.page a).account
+      Agrees (view_given_back l (r ∷ rs)) (released its_map r.zone r.page a).account
   agrees-back held s =
       let z : ℕ = is_back.0 in
       subst
-      (λ o. Agrees (changed l r.map (restaged o (if returning r.map rs == 0 then Idle else Returning))
+      (λ o. Agrees (view_changed l r.map (view_restaged o (if returning r.map rs == 0 then Idle else Returning))
       (l.mem_at r.map) rs) (released its_map r.zone r.page a).account) (sym is_back.1)
       (agrees-changed l its_map
       (Some (record { zone = z; stage = if returning r.map rs == 0 then Idle else Returning })) (l.mem_at r.map) rs
@@ -306,7 +310,7 @@ pub agrees-create : (l : View) (n : MapId) (t : TagLimits) (first_done : Bool) (
     Agrees (after_create l n.made_at (created n t first_done a).reply) (created n t first_done a).account
 agrees-create l n t first_done a agrees own here s =
     let b : Account = with_zone_for t a in
-    let z : ℕ = zone_of t a.zones in
+    let z : ℕ = zone_for_tag t a.zones in
     let wanted : ℕ = wanted_by_map t first_done (zone_at b z) (total b z) (maxpages t a) in
     let c : Account = grown b z (added b z wanted) in
     let made : Bool = first_done || added b z wanted == wanted in
@@ -320,9 +324,9 @@ agrees-create l n t first_done a agrees own here s =
       length-set b.zones z (record (zone_at b z) { avail = (zone_at b z).avail ++ take (added b z wanted) b.bank }),
     )
     in
-    (elim made as (λ v. Stepped a (if v then with_map c z n else c) →
-    Agrees (if v then staged l n.made_at z Idle else l) (if v then with_map c z n else c)) [
-      | true ↦ λ s. agrees-changed l n _ _ l.returns a (with_map c z n) agrees own s
+    (elim made as (λ v. Stepped a (if v then with_zone_map c z n else c) →
+    Agrees (if v then view_staged l n.made_at z Idle else l) (if v then with_zone_map c z n else c)) [
+      | true ↦ λ s. agrees-changed l n _ _ l.returns a (with_zone_map c z n) agrees own s
           (λ m off. Same-trans (share m a) (share m c) _ (name-grown_for m t a _) (name-with_map m n off c z))
           (no-returns n.made_at l.returns) (share-with_map n.made_at (l.mem_at n.made_at) l.returns n z c inside g)
           (λ h. agrees.returns n.made_at (rw here refl))
@@ -332,9 +336,9 @@ agrees-create l n t first_done a agrees own here s =
 
 pub agrees-destroy : (l : View) (n : MapId) (z : ℕ) (a : Account) → Agrees l a → n.lane.0 ≡ l.id → z < length a.zones →
     l.map_at n.made_at ≡ Some (record { zone = z; stage = Idle })
-    → Stepped a (without_map a z n) → Agrees (gone l n.made_at) (without_map a z n)
+    → Stepped a (without_zone_map a z n) → Agrees (gone l n.made_at) (without_zone_map a z n)
 agrees-destroy l n z a agrees own inside here s =
-    agrees-changed l n _ _ l.returns a (without_map a z n) agrees own s
+    agrees-changed l n _ _ l.returns a (without_zone_map a z n) agrees own s
     (λ m off. name-without_map m n off a z) (no-returns n.made_at l.returns)
     (share-without_map n.made_at (l.mem_at n.made_at) l.returns n z a inside (known l a n _ agrees own here))
     (λ h. agrees.returns n.made_at (rw here refl))
@@ -343,20 +347,20 @@ agrees-destroy l n z a agrees own inside here s =
 -- a memory's frames, and its end
 pub agrees-with_memory : (l : View) (n : MapId) (first count : ℕ) (frames : List ℕ) (a : Account) → Agrees l a →
     n.lane.0 ≡ l.id → l.mem_at n.made_at ≡ None → filter (in_run first count) a.bank ++ [] ≡ frames
-    → Stepped a (with_memory a n first count) →
-    Agrees (with_mem l n.made_at (Some frames)) (with_memory a n first count)
+    → Stepped a (with_memory_run a n first count) →
+    Agrees (with_mem l n.made_at (Some frames)) (with_memory_run a n first count)
 agrees-with_memory l n first count frames a agrees own here are s =
-    agrees-changed l n (l.map_at n.made_at) (Some frames) l.returns a (with_memory a n first count) agrees own s
+    agrees-changed l n (l.map_at n.made_at) (Some frames) l.returns a (with_memory_run a n first count) agrees own s
     (λ m off. name-with_memory m n off a first count) (no-returns n.made_at l.returns)
     (subst (λ fs. Same (share_of n.made_at (l.map_at n.made_at) (Some fs) l.returns)
-    (share n (with_memory a n first count))) are
+    (share n (with_memory_run a n first count))) are
     (share-with_memory n.made_at (l.map_at n.made_at) l.returns n first count a
     (known_mem l a n None agrees own here))) (agrees.returns n.made_at) (agrees.zones n.made_at)
 
 pub agrees-without_memory : (l : View) (n : MapId) (a : Account) → Agrees l a → n.lane.0 ≡ l.id →
-    Stepped a (without_memory a n) → Agrees (with_mem l n.made_at None) (without_memory a n)
+    Stepped a (without_memory_run a n) → Agrees (with_mem l n.made_at None) (without_memory_run a n)
 agrees-without_memory l n a agrees own s =
-    agrees-changed l n (l.map_at n.made_at) None l.returns a (without_memory a n) agrees own s
+    agrees-changed l n (l.map_at n.made_at) None l.returns a (without_memory_run a n) agrees own s
     (λ m off. name-without_memory m n off a) (no-returns n.made_at l.returns)
     (share-without_memory n.made_at (l.map_at n.made_at) l.returns n (l.mem_at n.made_at) a (agrees.names n own))
     (agrees.returns n.made_at) (agrees.zones n.made_at)

@@ -9,28 +9,30 @@ use Rattle.busdma_machine.specs.declared.machine.address.Pa.{Pa}
 use Rattle.busdma_machine.specs.declared.name.MapId.{MapId}
 use Rattle.busdma_machine.specs.declared.bounce.zone.Waiter.{Waiter}
 use Rattle.busdma_machine.specs.declared.bounce.hold.HubCall.{HubCall}
-use Rattle.busdma_machine.specs.declared.bounce.hold.HubCall.TheVariants.{AttachTag, CreateMap, DestroyMap, Grab, Release}
+use Rattle.busdma_machine.specs.declared.bounce.hold.HubCall.TheVariants.{AttachTag, CreateMap, DestroyMap, Grab}
+use Rattle.busdma_machine.specs.declared.bounce.hold.HubCall.TheVariants.{Release}
 use Rattle.busdma_machine.specs.declared.bounce.hold.HubCall.TheVariants.{TakeCallback, MemAlloc, MemFree}
 use Rattle.busdma_machine.specs.declared.bounce.hold.HoldEntry.{HoldEntry}
 use Rattle.busdma_machine.specs.Bounce.Account.{Account, zone_at, free}
 use Rattle.busdma_machine.specs.Bounce.MemoryRuns.{frames_for, lowest_run}
-use Rattle.busdma_machine.specs.Bounce.AccountStep.{AccountReply as Outcome, account_step, as_pages}
+use Rattle.busdma_machine.specs.Bounce.AccountStep.{AccountReply, account_step, as_pages}
 use Rattle.busdma_machine.specs.Bounce.AccountStep.{grabbed, called_from, released}
-use Rattle.busdma_machine.specs.Bounce.AccountStep.{memory_placed as placed}
-use Rattle.busdma_machine.specs.Bounce.Serving.{handed, waiting_at_tail as queued}
+use Rattle.busdma_machine.specs.Bounce.AccountStep.{memory_placed}
+use Rattle.busdma_machine.specs.Bounce.Serving.{handed, waiting_at_tail}
 use Rattle.busdma_machine.specs.declared.bounce.hold.HubReply.TheVariants.{Nothing, Granted, Queued, NoPages, Called}
 use Rattle.lane_agreement.proofs.Places.{no-returns, waits-tells, head-waits}
 use Rattle.busdma_machine.specs.Bounce.Conditions.{MayCall, times_held}
 use Rattle.busdma_machine.specs.Bounce.History.{IsFrame, IsOpening, IsSound, account_of}
 use Rattle.busdma_machine.specs.Bounce.Places.{times}
-use Rattle.busdma_machine.specs.Bounce.WellFormed.{IsWellFormed}
+use Rattle.busdma_machine.specs.Bounce.WellFormed.{IsAccountWellFormed}
 use Rattle.busdma_machine.proofs.Accounts.Counts.{in_zones, shorter-enough}
 use Rattle.busdma_machine.proofs.Accounts.Places.{where-history, places-opening, times-rising}
 use Rattle.busdma_machine.proofs.Accounts.WellFormed.{account-well, well-opening}
 use Rattle.busdma_machine.proofs.Accounts.Rising.{bank-rises}
-use Rattle.lane_agreement.specs.View.{View, Return, Idle, Waiting, Loaded, staged, given_back, is_astray, zone_in}
+use Rattle.lane_agreement.specs.View.{View, Return, Idle, Waiting}
+use Rattle.lane_agreement.specs.View.{Loaded, view_staged, view_given_back, is_astray, zone_in}
 use Rattle.busdma_machine.specs.Bounce.Share.{Same, share}
-use Rattle.lane_agreement.specs.OwnShare.{share_of, one_if}
+use Rattle.lane_agreement.specs.OwnShare.{share_of, share_if}
 use Rattle.lane_agreement.specs.Agreement.{Agrees, IsFit}
 use Rattle.lane_agreement.specs.After.{after, after_mem_alloc, MayAsk, IsFront, IsFresh}
 use Rattle.busdma_machine.proofs.Accounts.Names.{Same-refl, name-attached}
@@ -44,27 +46,27 @@ use Rattle.lane_agreement.proofs.Runs.{lowest_run-frames}
 release : (l : View) (m : MapId) (z page : ℕ) (rs : List Return) (a : Account) → Agrees l a → m.lane.0 ≡ l.id →
     l.returns ≡ rs → IsFront rs m.made_at z page
     → times_held m z page a ≡ 1 → Stepped a (released m z page a).account →
-    Agrees (given_back l rs) (released m z page a).account
+    Agrees (view_given_back l rs) (released m z page a).account
 release l m z page [] a agrees own is f = absurd f
 release l m z page (r ∷ rs) a agrees own is f =
     let same : its_map l r rs a agrees is ≡ m =
     ap (λ k. record { lane = record { 0 = k }; made_at = r.map }) (sym own)
     ∙ ap (λ k. record { lane = m.lane; made_at = k }) f.0 in
     subst (λ (n : MapId). times_held n z page a ≡ 1 → Stepped a (released n z page a).account →
-    Agrees (given_back l (r ∷ rs)) (released n z page a).account) same
+    Agrees (view_given_back l (r ∷ rs)) (released n z page a).account) same
     (subst (λ k. times_held (its_map l r rs a agrees is) k page a ≡ 1 →
     Stepped a (released (its_map l r rs a agrees is) k page a).account →
-    Agrees (given_back l (r ∷ rs)) (released (its_map l r rs a agrees is) k page a).account) f.1
+    Agrees (view_given_back l (r ∷ rs)) (released (its_map l r rs a agrees is) k page a).account) f.1
     (subst (λ k. times_held (its_map l r rs a agrees is) r.zone k a ≡ 1 →
     Stepped a (released (its_map l r rs a agrees is) r.zone k a).account →
-    Agrees (given_back l (r ∷ rs)) (released (its_map l r rs a agrees is) r.zone k a).account) f.2
+    Agrees (view_given_back l (r ∷ rs)) (released (its_map l r rs a agrees is) r.zone k a).account) f.2
     (agrees-back l r rs a agrees is)))
 
 allocate : (l : View) (m : MapId) (len boundary limit : ℕ) (first : Option ℕ) (a : Account) → IsFit a → Agrees l a →
     m.lane.0 ≡ l.id → l.mem_at m.made_at ≡ None → lowest_run len boundary limit a.bank ≡ first
-    → Stepped a (placed m (frames_for len) first a).account →
-    Agrees (after_mem_alloc l m.made_at (placed m (frames_for len) first a).reply)
-    (placed m (frames_for len) first a).account
+    → Stepped a (memory_placed m (frames_for len) first a).account →
+    Agrees (after_mem_alloc l m.made_at (memory_placed m (frames_for len) first a).reply)
+    (memory_placed m (frames_for len) first a).account
 allocate l m len boundary limit None a fit agrees own here is s = agrees
 allocate l m len boundary limit (Some first) a fit agrees own here is s =
     let whole : count_by (λ f. not (f % 4096 == 0)) a.bank ≡ 0 = omega (arith, fit.whole) in
@@ -99,7 +101,7 @@ whole_frames (f ∷ fs) all =
     omega (
       arith,
       count-one (λ f. not (f % 4096 == 0)) f fs,
-      ap (λ b. one_if (not b)) here,
+      ap (λ b. share_if (not b)) here,
       whole_frames fs (All-tail IsFrame f fs all),
     )
 
@@ -113,7 +115,7 @@ fit-reached o es opening sound = record {
 
 -- a load that needs no page calls nobody
 pub agrees-loaded : (l : View) (k z : ℕ) (a : Account) → Agrees l a →
-    l.map_at k ≡ Some (record { zone = z; stage = Idle }) → Agrees (staged l k z (Loaded [])) a
+    l.map_at k ≡ Some (record { zone = z; stage = Idle }) → Agrees (view_staged l k z (Loaded [])) a
 agrees-loaded l k z a agrees here =
     let n : MapId = record { lane = record { 0 = l.id }; made_at = k } in
     let g : Same (share_of k (Some (record { zone = z; stage = Idle })) (l.mem_at k) l.returns) (share n a) =
@@ -165,12 +167,12 @@ pub granted-length : (n : MapId) (z need : ℕ) (nowait : Bool) (a : Account) (p
     (grabbed n z need nowait a).reply ≡ Granted pages → length pages ≡ need
 granted-length n z need nowait a pages =
     (elim (leb need (free a z)) as (λ v. leb need (free a z) ≡ v →
-    (let o : Outcome = if v then record {
+    (let o : AccountReply = if v then record {
       account = handed a n z need;
       reply = Granted (as_pages (take need (zone_at a z).avail));
     }
     else (if nowait then record { account = a; reply = NoPages }
-    else record { account = queued a n z need; reply = Queued (free a z) }) in
+    else record { account = waiting_at_tail a n z need; reply = Queued (free a z) }) in
     o.reply ≡ Granted pages → length pages ≡ need)) [
       | true ↦ λ t e. (let is : as_pages (take need (zone_at a z).avail) ≡ pages = cc in
           omega (
@@ -181,8 +183,8 @@ granted-length n z need nowait a pages =
           ))
       | false ↦
           (elim nowait as (λ v. leb need (free a z) ≡ false →
-          (let o : Outcome = if v then record { account = a; reply = NoPages }
-          else record { account = queued a n z need; reply = Queued (free a z) } in
+          (let o : AccountReply = if v then record { account = a; reply = NoPages }
+          else record { account = waiting_at_tail a n z need; reply = Queued (free a z) } in
           o.reply ≡ Granted pages → length pages ≡ need)) [
             | true ↦ λ t e. cc
             | false ↦ λ t e. cc
@@ -193,7 +195,7 @@ abbrev pub Called_for : View → List Pa → MapId → Type 0
 Called_for l pages n = (need : ℕ) × (n.lane.0 ≡ l.id) × (z : ℕ)
     × (l.map_at n.made_at ≡ Some (record { zone = z; stage = Waiting need })) × (length pages ≡ need)
 
-pub called-length : (l : View) (ws : List Waiter) (a : Account) (m : MapId) (pages : List Pa) → IsWellFormed a →
+pub called-length : (l : View) (ws : List Waiter) (a : Account) (m : MapId) (pages : List Pa) → IsAccountWellFormed a →
     Agrees l a → a.ready ≡ ws → (called_from ws l.id a).reply ≡ Called m pages
     → Called_for l pages m
 called-length l [] a m pages well agrees is = λ e. absurd (none e)
@@ -202,7 +204,7 @@ called-length l [] a m pages well agrees is = λ e. absurd (none e)
     none e = cc
 called-length l (w ∷ ws) a m pages well agrees is =
     (elim (eqb w.map.lane.0 l.id) as (λ v. eqb w.map.lane.0 l.id ≡ v →
-    (let o : Outcome = if v then record {
+    (let o : AccountReply = if v then record {
       account = handed (record a { ready = ws }) w.map w.zone.0 w.need;
       reply = Called w.map (as_pages (take w.need (zone_at a w.zone.0).avail));
     } else record {

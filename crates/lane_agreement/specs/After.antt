@@ -4,15 +4,17 @@ use Rattle.std.specs.Prelude.{◌≡◌, ℕ, ◌+◌, ◌≤◌, Bool, List, []
 use Rattle.std.specs.Prelude.{if◌then◌else◌}
 use Rattle.busdma_machine.specs.declared.machine.address.Pa.{Pa}
 use Rattle.busdma_machine.specs.declared.bounce.hold.HubCall.{HubCall}
-use Rattle.busdma_machine.specs.declared.bounce.hold.HubCall.TheVariants.{AttachTag, CreateMap, DestroyMap, Grab, Release}
+use Rattle.busdma_machine.specs.declared.bounce.hold.HubCall.TheVariants.{AttachTag, CreateMap, DestroyMap, Grab}
+use Rattle.busdma_machine.specs.declared.bounce.hold.HubCall.TheVariants.{Release}
 use Rattle.busdma_machine.specs.declared.bounce.hold.HubCall.TheVariants.{TakeCallback, MemAlloc, MemFree}
 use Rattle.busdma_machine.specs.declared.bounce.hold.HubReply.{HubReply}
 use Rattle.busdma_machine.specs.declared.bounce.hold.HubReply.TheVariants.{Grown, Granted, Queued, Called, Run}
 use Rattle.busdma_machine.specs.Tags.Tag.{could_bounce}
 use Rattle.busdma_machine.specs.Tags.TagFlags.{allocnow}
 use Rattle.busdma_machine.specs.Bounce.MemoryRuns.{frames_from}
-use Rattle.lane_agreement.specs.View.{View, OwnMap, Return, Idle, Waiting, Loaded, Returning, staged, gone, with_mem}
-use Rattle.lane_agreement.specs.View.{ended, given_back, zone_in}
+use Rattle.lane_agreement.specs.View.{View, OwnMap, Return, Idle, Waiting}
+use Rattle.lane_agreement.specs.View.{Loaded, Returning, view_staged, gone, with_mem}
+use Rattle.lane_agreement.specs.View.{view_ended, view_given_back, zone_in}
 
 -- the addresses of these pages, in order
 abbrev pub addresses_of_pages : List Pa → List ℕ
@@ -20,18 +22,19 @@ addresses_of_pages pages = map (λ p. p.0) pages
 
 -- the driver after the reply to its call for pages: its load ends, waits, or is refused and leaves all as it was
 abbrev pub after_grab : Bool → View → ℕ → ℕ → ℕ → HubReply → View
-after_grab fits l k z need (Granted pages) = ended fits l k z (addresses_of_pages pages)
-after_grab fits l k z need (Queued have) = staged l k z (Waiting need)
+after_grab fits l k z need (Granted pages) = view_ended fits l k z (addresses_of_pages pages)
+after_grab fits l k z need (Queued have) = view_staged l k z (Waiting need)
 after_grab fits l k z need _ = l
 
 -- the driver after the reply to its call to make a map: it has the idle map, if one was made
 abbrev pub after_create : View → ℕ → HubReply → View
-after_create l k (Grown g) = if g.made then staged l k g.zone.0 Idle else l
+after_create l k (Grown g) = if g.made then view_staged l k g.zone.0 Idle else l
 after_create l k _ = l
 
 -- the driver after the reply to its call for a callback: if one came, the load of its map ends with these pages
 abbrev pub after_callback : Bool → View → HubReply → View
-after_callback fits l (Called m pages) = ended fits l m.made_at (zone_in (l.map_at m.made_at)) (addresses_of_pages pages)
+after_callback fits l (Called m pages) = view_ended fits l m.made_at (zone_in (l.map_at m.made_at))
+    (addresses_of_pages pages)
 after_callback fits l _ = l
 
 -- the driver after the reply to its call for a memory: it has the memory's frames, if there was such a run
@@ -45,7 +48,7 @@ after fits l (AttachTag t) r = l
 after fits l (CreateMap m t first_done) r = after_create l m.made_at r
 after fits l (DestroyMap m z) r = gone l m.made_at
 after fits l (Grab m z need nowait) r = after_grab fits l m.made_at z.0 need r
-after fits l (Release m z page) r = given_back l l.returns
+after fits l (Release m z page) r = view_given_back l l.returns
 after fits l TakeCallback r = after_callback fits l r
 after fits l (MemAlloc m t) r = after_mem_alloc l m.made_at r
 after fits l (MemFree m) r = with_mem l m.made_at None

@@ -4,7 +4,7 @@ use Rattle.std.specs.List.{count_by}
 use Rattle.busdma_machine.specs.declared.name.MapId.{MapId}
 use Rattle.busdma_machine.specs.Bounce.Account.{Account}
 use Rattle.busdma_machine.specs.Bounce.Places.{places, frames_where}
-use Rattle.busdma_machine.specs.Bounce.WellFormed.{IsWellFormed}
+use Rattle.busdma_machine.specs.Bounce.WellFormed.{IsAccountWellFormed}
 use Rattle.busdma_machine.specs.Bounce.History.{IsRising}
 use Rattle.lane_agreement.specs.View.{View, is_returning, returning, is_astray, zone_in}
 use Rattle.busdma_machine.specs.Bounce.Share.{Same, share}
@@ -26,6 +26,6 @@ pub record Agrees (l : View) (a : Account) : Type 0 where
 
 -- an account fits: what holds of each account that a sound history leads to from an opening, whatever the drivers
 pub record IsFit (a : Account) : Type 0 where
-  pub well : IsWellFormed a
+  pub well : IsAccountWellFormed a
   pub rising : IsRising a.bank
   pub whole : frames_where (λ f. not (f % 4096 == 0)) a ≡ 0

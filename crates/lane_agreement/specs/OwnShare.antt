@@ -2,11 +2,11 @@
 use Rattle.std.specs.Prelude.{ℕ, ◌+◌, Bool, ◌&&◌, List, [], length, Option, Some, None, ◌==◌, if◌then◌else◌}
 use Rattle.std.specs.List.{count_by}
 use Rattle.busdma_machine.specs.Bounce.Share.{Share}
-use Rattle.lane_agreement.specs.View.{View, OwnMap, Return, Stage, Idle, Waiting, Loaded, Returning, returning}
+use Rattle.lane_agreement.specs.View.{View, OwnMap, Return, SeenStage, Idle, Waiting, Loaded, Returning, returning}
 
 -- 1 if this is so, and else 0
-abbrev pub one_if : Bool → ℕ
-one_if b = if b then 1 else 0
+abbrev pub share_if : Bool → ℕ
+share_if b = if b then 1 else 0
 
 -- a return is of this page of this zone by this map
 abbrev pub is_return : ℕ → ℕ → ℕ → Return → Bool
@@ -15,7 +15,7 @@ is_return k z page r = (r.page == page) && ((r.zone == z) && (r.map == k))
 -- 1 if the map exists and is of this zone, and else 0
 abbrev pub zone_is : ℕ → Option OwnMap → ℕ
 zone_is z None = 0
-zone_is z (Some m) = one_if (m.zone == z)
+zone_is z (Some m) = share_if (m.zone == z)
 
 -- 1 if the map exists, and else 0
 abbrev pub some : Option OwnMap → ℕ
@@ -23,13 +23,13 @@ some None = 0
 some (Some m) = 1
 
 -- the pages that a map at this stage holds
-abbrev pub pages_in : Stage → List ℕ
+abbrev pub pages_in : SeenStage → List ℕ
 pages_in s = (elim s [ Idle ↦ [] | Waiting n ↦ [] | Loaded ps ↦ ps | Returning ↦ [] ])
 
 -- how many pages the map holds, if it exists
-abbrev pub loaded : Option OwnMap → ℕ
-loaded None = 0
-loaded (Some m) = length (pages_in m.stage)
+abbrev pub share_loaded : Option OwnMap → ℕ
+share_loaded None = 0
+share_loaded (Some m) = length (pages_in m.stage)
 
 -- how often the map, if it exists, holds this page of this zone
 abbrev pub loaded_page : ℕ → ℕ → Option OwnMap → ℕ
@@ -37,17 +37,17 @@ loaded_page z page None = 0
 loaded_page z page (Some m) = count_by (λ p. (p == page) && (m.zone == z)) (pages_in m.stage)
 
 -- 1 if a map of the zone y, at this stage, waits for `need` pages of the zone z, and else 0
-abbrev pub waits_in : ℕ → ℕ → ℕ → Stage → ℕ
-waits_in y z need s =
-    (elim s [ Idle ↦ 0 | Waiting n ↦ one_if ((n == need) && (y == z)) | Loaded ps ↦ 0 | Returning ↦ 0 ])
+abbrev pub share_waiting : ℕ → ℕ → ℕ → SeenStage → ℕ
+share_waiting y z need s =
+    (elim s [ Idle ↦ 0 | Waiting n ↦ share_if ((n == need) && (y == z)) | Loaded ps ↦ 0 | Returning ↦ 0 ])
 
 -- 1 if the map exists and waits for so many pages of this zone, and else 0
 abbrev pub waits_for : ℕ → ℕ → Option OwnMap → ℕ
 waits_for z need None = 0
-waits_for z need (Some m) = waits_in m.zone z need m.stage
+waits_for z need (Some m) = share_waiting m.zone z need m.stage
 
 -- 1 if a map at this stage waits for pages, and else 0
-abbrev pub listed_in : Stage → ℕ
+abbrev pub listed_in : SeenStage → ℕ
 listed_in s = (elim s [ Idle ↦ 0 | Waiting n ↦ 1 | Loaded ps ↦ 0 | Returning ↦ 0 ])
 
 -- 1 if the map exists and waits for pages, and else 0
@@ -70,7 +70,7 @@ abbrev pub share_of : ℕ → Option OwnMap → Option (List ℕ) → List Retur
 share_of k o m rs = record {
   made = λ z. zone_is z o;
   in_zones = some o;
-  holds = loaded o + returning k rs;
+  holds = share_loaded o + returning k rs;
   holds_page = λ z page. loaded_page z page o + count_by (is_return k z page) rs;
   waits = λ z need. waits_for z need o;
   listed = listed o;

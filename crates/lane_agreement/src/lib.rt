@@ -14,9 +14,10 @@ ghost use Rattle.busdma_machine.specs.Bounce.AccountStep.{account_step, grabbed,
 ghost use Rattle.busdma_machine.specs.Bounce.Conditions.{MayCall};
 ghost use Rattle.busdma_machine.specs.Bounce.History.{IsOpening, IsSound, account_of};
 ghost use Rattle.busdma_machine.specs.Bounce.Places.{times};
-ghost use Rattle.busdma_machine.specs.Bounce.WellFormed.{IsWellFormed};
-ghost use Rattle.lane_agreement.specs.View.{View, Return, Idle, Waiting, Loaded, staged, unloaded, given_back};
-ghost use Rattle.busdma_machine.specs.Bounce.Door.{Seen, account, Passes, Holds};
+ghost use Rattle.busdma_machine.specs.Bounce.WellFormed.{IsAccountWellFormed};
+ghost use Rattle.lane_agreement.specs.View.{View, Return, Idle, Waiting};
+ghost use Rattle.lane_agreement.specs.View.{Loaded, view_staged, unloaded, view_given_back};
+ghost use Rattle.busdma_machine.specs.Bounce.Door.{Seen, account, Passes, HoldsAtDoor};
 ghost use Rattle.busdma_machine.specs.declared.bounce.hold.HubReply.{HubReply};
 ghost use Rattle.lane_agreement.specs.Agreement.{Agrees, IsFit};
 ghost use Rattle.lane_agreement.specs.After.{after, after_callback, MayAsk, IsFresh, IsLike, left_of_map, brought};
@@ -31,7 +32,7 @@ pub fn opening_agrees()
 /// Sound history entries of other drivers keep a driver's agreement with the account. The account is well
 /// formed before them.
 pub fn agreement_stays()
-    ensures { (l : View) (a : Account) (es : List HoldEntry) → IsWellFormed a → Agrees l a → IsSound a es →
+    ensures { (l : View) (a : Account) (es : List HoldEntry) → IsAccountWellFormed a → Agrees l a → IsSound a es →
         All (λ e. e.lane.0 ≢ l.id) es → Agrees l (account_of a es) }
 {}
 
@@ -42,7 +43,7 @@ pub fn doors_keep_agreement()
         IsTrue (d.serves l.id) → Passes d others e → Agrees l (account e) }
     ensures holds { (fits : Bool) (l : View) (d : Seen) (c : HubCall) (r : HubReply) (e : Seen) →
         Agrees l (account d) →
-        IsTrue (d.serves l.id) → Holds d l.id c r e → MayAsk l c → Agrees (after fits l c r) (account e) }
+        IsTrue (d.serves l.id) → HoldsAtDoor d l.id c r e → MayAsk l c → Agrees (after fits l c r) (account e) }
 {}
 
 /// The account allows each call that a driver's own state allows, if the driver agrees with the account.
@@ -59,7 +60,7 @@ pub fn agreement_follows()
     ensures unload { (l : View) (k z : ℕ) (pages : List ℕ) (a : Account) → Agrees l a →
         l.map_at k ≡ Some (record { zone = z; stage = Loaded pages }) → Agrees (unloaded l k z pages) a }
     ensures no_page { (l : View) (k z : ℕ) (a : Account) → Agrees l a →
-        l.map_at k ≡ Some (record { zone = z; stage = Idle }) → Agrees (staged l k z (Loaded [])) a }
+        l.map_at k ≡ Some (record { zone = z; stage = Idle }) → Agrees (view_staged l k z (Loaded [])) a }
 {}
 
 /// A sound history leads to an account that fits.
@@ -71,7 +72,7 @@ pub fn history_fits()
 pub fn loads_get_their_need()
     ensures granted { (m : MapId) (z need : ℕ) (nowait : Bool) (a : Account) (pages : List Pa) →
         (grabbed m z need nowait a).reply ≡ Granted pages → length pages ≡ need }
-    ensures called { (l : View) (a : Account) (m : MapId) (pages : List Pa) → IsWellFormed a → Agrees l a →
+    ensures called { (l : View) (a : Account) (m : MapId) (pages : List Pa) → IsAccountWellFormed a → Agrees l a →
         (called_from a.ready l.id a).reply ≡ Called m pages →
         (need : ℕ) × (m.lane.0 ≡ l.id) × (z : ℕ)
         × (l.map_at m.made_at ≡ Some (record { zone = z; stage = Waiting need })) × (length pages ≡ need) }
@@ -80,11 +81,11 @@ pub fn loads_get_their_need()
 /// A callback lowers what is left to do for its map, and so does the return of a page.
 pub fn left_falls()
     ensures callback { (fits : Bool) (l : View) (a : Account) (m : MapId) (pages : List Pa) (items : ℕ) →
-        IsWellFormed a → Agrees l a →
+        IsAccountWellFormed a → Agrees l a →
         (called_from a.ready l.id a).reply ≡ Called m pages →
         left_of_map items (after_callback fits l (Called m pages)) m.made_at + brought fits items + 1 ≤ left_of_map items l m.made_at }
     ensures back { (l : View) (r : Return) (rs : List Return) (items : ℕ) → l.returns ≡ r ∷ rs →
-        left_of_map items (given_back l (r ∷ rs)) r.map + 1 ≤ left_of_map items l r.map }
+        left_of_map items (view_given_back l (r ∷ rs)) r.map + 1 ≤ left_of_map items l r.map }
 {}
 
 /// Drivers that are alike agree with the same accounts.

@@ -10,7 +10,7 @@ use Rattle.busdma_machine.specs.declared.name.MapId.{MapId}
 use Rattle.busdma_base.specs.declared.scenarios.script.Place.{Place}
 use Rattle.busdma_machine.specs.Machine.Wire.{Wire}
 use Rattle.busdma_machine.specs.Runs.{run_of}
-use Rattle.busdma_rules.specs.Lending.Syncing.{lost}
+use Rattle.busdma_rules.specs.Lending.SyncEffects.{lost}
 use Rattle.busdma_rules.specs.Lending.Loans.{load_bytes}
 use Rattle.busdma_rules.specs.Rings.Descriptors.{descriptor_bytes}
 use Rattle.ideal_lane.specs.Accesses.{cpu_read, cpu_write, dev_write, dev_write_at, raw_bytes}
@@ -23,7 +23,8 @@ use Rattle.ideal_lane.specs.Standing.{Stands}
 use Rattle.ideal_lane.specs.State.{LaneState}
 use Rattle.ideal_lane.specs.Syncs.{sync, sync_range}
 use Rattle.ideal_lane.specs.Unloads.{segments_in}
-use Rattle.ideal_lane.proofs.Effects.{DeviceWrites, Fetches, Operation, Posts, RawWrites, Same, Syncs, Touches, Transfer}
+use Rattle.ideal_lane.proofs.Effects.{DeviceWrites, Fetches, Operation, Posts, RawWrites, Same, Syncs, Touches}
+use Rattle.ideal_lane.proofs.Effects.{Transfer}
 use Rattle.ideal_lane.proofs.Effects.{Work, Writes}
 use Rattle.ideal_lane.proofs.Stepping.{Only}
 use Rattle.ideal_lane.proofs.Stepping.{cpu_write-touches, transfer-touches}
@@ -33,12 +34,13 @@ use Rattle.ideal_wire.specs.Machine.{IsInMachine}
 use Rattle.ideal_wire.specs.OneProof.{IsFaithful-prop}
 use Rattle.ideal_wire.specs.WireStep as wires
 use Rattle.ideal_wire.specs.WireStep.{IsRead, Reads, place_bytes}
-use Rattle.ideal_wire.proofs.KeptSpaces.{touches-spaced}
-use Rattle.ideal_wire.proofs.MappedTurns.{touches-mapped}
-use Rattle.ideal_wire.proofs.Calls.{cpu_write-faithful, dev_write-faithful, dev_write_at-faithful, sync-faithful, sync_range-faithful}
-use Rattle.ideal_wire.proofs.SameBytes.{judged-same}
-use Rattle.ideal_wire.proofs.StillLaid.{touches-laid}
-use Rattle.ideal_wire.proofs.Wiring.{own-forgotten, own-written, cpu_read-reads as reads}
+use Rattle.ideal_wire.proofs.Devices.KeptSpaces.{touches-spaced}
+use Rattle.ideal_wire.proofs.Devices.MappedTurns.{touches-mapped}
+use Rattle.ideal_wire.proofs.Faithful.Calls.{cpu_write-faithful, dev_write-faithful, dev_write_at-faithful}
+use Rattle.ideal_wire.proofs.Faithful.Calls.{sync-faithful, sync_range-faithful}
+use Rattle.ideal_wire.proofs.Laid.SameBytes.{judged-same}
+use Rattle.ideal_wire.proofs.Laid.StillLaid.{touches-laid}
+use Rattle.ideal_wire.proofs.Faithful.Wiring.{own-forgotten, own-written, cpu_read-reads as reads}
 use Rattle.lane_state.specs.declared.holdings.Holdings.{Holdings}
 use Rattle.lane_core.specs.Calls.{unless_foreign, wire_unless_foreign}
 use Rattle.lane_state.specs.Changes.{KeepsState}
@@ -81,7 +83,11 @@ is-touched {l} call (Syncs m off len ops is o there i alone fine) =
 is-touched {l} call (Writes place bs va at reaches fine) =
     record { rest = refl; own = own-written (bytes_at l (run_of va (length (bytes_of bs)))) (bytes_of bs) l.memory }
 is-touched {l} call (RawWrites t addr bs g there fine) =
-    record { rest = refl; own = own-written (raw_bytes l t (run_of addr (length (bytes_of bs)))) (bytes_of bs) l.memory }
+    record {
+      rest = refl;
+      own = own-written (raw_bytes l t (run_of addr (length (bytes_of bs)))) (bytes_of bs)
+          l.memory;
+    }
 is-touched {l} call (DeviceWrites m off bs o there i fine) =
     record { rest = refl; own = own-written (load_bytes l.loans m off (length (bytes_of bs))) (bytes_of bs) l.memory }
 
@@ -143,14 +149,15 @@ module _ (h k : Holdings) (wired : IsWired h) (stands : Stands (ideal_of h)) (x 
         spaced = touches-spaced l stands wired.laid wired.machine wired.spaced made;
         mapped = ∥∥₁_map wired.mapped (λ mapped.
             touches-mapped l stands wired.laid wired.machine wired.spaced mapped made);
-        faithful = subst (λ (s : Asking Outcome). IsFaithful (by_reply s Nothing).lane (wire_of k)) (sym done) (faithful Nothing);
+        faithful = subst (λ (s : Asking Outcome). IsFaithful (by_reply s Nothing).lane (wire_of k)) (sym done)
+            (faithful Nothing);
       };
       ahead = ap items_ahead touched.rest;
       maps = ap (λ (x : LaneState). x.maps) touched.rest;
       due = ap (λ (x : LaneState). x.due) touched.rest;
     }
 
-  pub synced : (m ops : ℕ) → Gives (given k x) ≡ sync m ops l → wire_of k ≡ wires.sync m ops l (wire_of h) →
+  pub synced : (m ops : ℕ) → Gives (given k x) ≡ sync m ops l → wire_of k ≡ wires.wire_sync m ops l (wire_of h) →
       IsCalledOn h k
   synced m ops done wire =
       called-on (Transfer (item.Sync m ops)) tt (sync m ops l) done (transfer-touches l (item.Sync m ops))
@@ -158,7 +165,7 @@ module _ (h k : Holdings) (wired : IsWired h) (stands : Stands (ideal_of h)) (x 
       (sync-faithful l (wire_of h) wired.apart wired.laid wired.faithful m ops r))
 
   pub synced_range : (m off len ops : ℕ) → Gives (given k x) ≡ sync_range m off len ops l →
-      wire_of k ≡ wires.sync_range m off len ops l (wire_of h) → IsCalledOn h k
+      wire_of k ≡ wires.wire_sync_range m off len ops l (wire_of h) → IsCalledOn h k
   synced_range m off len ops done wire =
       called-on (Transfer (item.SyncRange m off len ops)) tt (sync_range m off len ops l) done
       (transfer-touches l (item.SyncRange m off len ops))
@@ -166,7 +173,7 @@ module _ (h k : Holdings) (wired : IsWired h) (stands : Stands (ideal_of h)) (x 
       (sync_range-faithful l (wire_of h) wired.apart wired.laid wired.faithful m off len ops r))
 
   pub cpu_written : (place : Place) (vs : List ℕ) → Gives (given k x) ≡ cpu_write place vs l →
-      wire_of k ≡ wires.cpu_write place vs l (wire_of h) → IsCalledOn h k
+      wire_of k ≡ wires.wire_cpu_write place vs l (wire_of h) → IsCalledOn h k
   cpu_written place vs done wire =
       called-on (Operation (op.CpuWrite place (bytes.Listed vs))) tt (cpu_write place vs l) done
       (cpu_write-touches l place (bytes.Listed vs))
@@ -174,7 +181,7 @@ module _ (h k : Holdings) (wired : IsWired h) (stands : Stands (ideal_of h)) (x 
       (cpu_write-faithful l (wire_of h) wired.apart wired.laid wired.faithful place vs r))
 
   pub dev_written : (m off : ℕ) (vs : List ℕ) → Gives (given k x) ≡ dev_write m off vs l →
-      wire_of k ≡ wires.dev_write m off vs l (wire_of h) → IsCalledOn h k
+      wire_of k ≡ wires.wire_dev_write m off vs l (wire_of h) → IsCalledOn h k
   dev_written m off vs done wire =
       called-on (Transfer (item.DevWrite m off (bytes.Listed vs))) tt (dev_write m off vs l) done
       (transfer-touches l (item.DevWrite m off (bytes.Listed vs)))
@@ -182,7 +189,7 @@ module _ (h k : Holdings) (wired : IsWired h) (stands : Stands (ideal_of h)) (x 
       (dev_write-faithful l (wire_of h) wired.apart wired.laid wired.faithful m off vs r))
 
   pub dev_written_at : (t addr : ℕ) (vs : List ℕ) → Gives (given k x) ≡ dev_write_at t addr vs l →
-      wire_of k ≡ wires.dev_write_at t addr vs l (wire_of h) → IsCalledOn h k
+      wire_of k ≡ wires.wire_dev_write_at t addr vs l (wire_of h) → IsCalledOn h k
   dev_written_at t addr vs done wire =
       called-on (Transfer (item.DevWriteAt t addr (bytes.Listed vs))) tt (dev_write_at t addr vs l) done
       (transfer-touches l (item.DevWriteAt t addr (bytes.Listed vs)))
@@ -203,34 +210,35 @@ kept-on h k wired s = record {
 
 module _ {E : Type 0} (h k : Holdings) (wired : IsWired h) (stands : Stands (ideal_of h)) where
   pub sync-after : (m ops : ℕ) (r : Result Answer E) → IfOk r (λ a. Gives (given k a) ≡ sync m ops (ideal_of h)) →
-      IfOk r (λ a. wire_of k ≡ wires.sync m ops (ideal_of h) (wire_of h)) → OnErr r (KeepsState h k) → IsCalledOn h k
+      IfOk r (λ a. wire_of k ≡ wires.wire_sync m ops (ideal_of h) (wire_of h)) → OnErr r (KeepsState h k) →
+      IsCalledOn h k
   sync-after m ops (Ok a) done wire err = synced h k wired stands a m ops done wire
   sync-after m ops (Err x) done wire err = kept-on h k wired err
 
   pub sync_range-after : (m off len ops : ℕ) (r : Result Answer E) →
       IfOk r (λ a. Gives (given k a) ≡ sync_range m off len ops (ideal_of h)) →
-      IfOk r (λ a. wire_of k ≡ wires.sync_range m off len ops (ideal_of h) (wire_of h)) →
+      IfOk r (λ a. wire_of k ≡ wires.wire_sync_range m off len ops (ideal_of h) (wire_of h)) →
       OnErr r (KeepsState h k) → IsCalledOn h k
   sync_range-after m off len ops (Ok a) done wire err = synced_range h k wired stands a m off len ops done wire
   sync_range-after m off len ops (Err x) done wire err = kept-on h k wired err
 
   pub cpu_write-after : (place : Place) (vs : List ℕ) (r : Result Answer E) →
       IfOk r (λ a. Gives (given k a) ≡ cpu_write place vs (ideal_of h)) →
-      IfOk r (λ a. wire_of k ≡ wires.cpu_write place vs (ideal_of h) (wire_of h)) → OnErr r (KeepsState h k) →
+      IfOk r (λ a. wire_of k ≡ wires.wire_cpu_write place vs (ideal_of h) (wire_of h)) → OnErr r (KeepsState h k) →
       IsCalledOn h k
   cpu_write-after place vs (Ok a) done wire err = cpu_written h k wired stands a place vs done wire
   cpu_write-after place vs (Err x) done wire err = kept-on h k wired err
 
   pub dev_write-after : (m off : ℕ) (vs : List ℕ) (r : Result Answer E) →
       IfOk r (λ a. Gives (given k a) ≡ dev_write m off vs (ideal_of h)) →
-      IfOk r (λ a. wire_of k ≡ wires.dev_write m off vs (ideal_of h) (wire_of h)) → OnErr r (KeepsState h k) →
+      IfOk r (λ a. wire_of k ≡ wires.wire_dev_write m off vs (ideal_of h) (wire_of h)) → OnErr r (KeepsState h k) →
       IsCalledOn h k
   dev_write-after m off vs (Ok a) done wire err = dev_written h k wired stands a m off vs done wire
   dev_write-after m off vs (Err x) done wire err = kept-on h k wired err
 
   pub dev_write_at-after : (t addr : ℕ) (vs : List ℕ) (r : Result Answer E) →
       IfOk r (λ a. Gives (given k a) ≡ dev_write_at t addr vs (ideal_of h)) →
-      IfOk r (λ a. wire_of k ≡ wires.dev_write_at t addr vs (ideal_of h) (wire_of h)) → OnErr r (KeepsState h k) →
+      IfOk r (λ a. wire_of k ≡ wires.wire_dev_write_at t addr vs (ideal_of h) (wire_of h)) → OnErr r (KeepsState h k) →
       IsCalledOn h k
   dev_write_at-after t addr vs (Ok a) done wire err = dev_written_at h k wired stands a t addr vs done wire
   dev_write_at-after t addr vs (Err x) done wire err = kept-on h k wired err

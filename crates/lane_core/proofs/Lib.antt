@@ -1,4 +1,4 @@
-pub mod Appended
+pub mod AppendingLaws
 mod LaneCalls
 mod OneByte
 mod OneStanding

@@ -8,14 +8,15 @@ use Rattle.busdma_base.specs.declared.scenarios.scenario.PageRun.{PageRun}
 use Rattle.busdma_base.specs.Scenarios.PageRuns.{is_own, physical_in}
 use Rattle.lane_tables.specs.declared.queued.QueuedPage.{QueuedPage}
 use Rattle.busdma_rules.specs.Lending.Loans.{Loans}
-use Rattle.phys_memory.specs.Memory.{Memory, has_frame, wire}
+use Rattle.phys_memory.specs.Memory.{FrameMemory, memory_has_frame, wire}
 use Rattle.ideal_lane.specs.IdealMemory.{Known}
 use Rattle.ideal_lane.specs.Opening.{zeros}
 use Rattle.ideal_lane.specs.Places.{is_in_memory, physical_of}
 use Rattle.ideal_lane.proofs.Weights.{weigh-empty}
 use Rattle.lane_state.specs.declared.kept.KeptMap.{KeptMap}
 use Rattle.lane_state.specs.declared.kept.KeptMemory.{KeptMemory}
-use Rattle.lane_state.specs.Covered.{HasFramesOf, IsCovered, Reaches, reached_in, has_load, lends_pages, is_returning}
+use Rattle.lane_state.specs.Covered.{HasFramesOf, IsCovered, Reaches}
+use Rattle.lane_state.specs.Covered.{reached_in, has_load, lends_pages, is_covered_returning}
 use Rattle.lane_state.specs.Covered.{is_tried, pages_due}
 use Rattle.lane_state.specs.Held.{held, content_of, byte_among}
 use Rattle.lane_state.specs.Kept.{Device, memory_of, due_of}
@@ -24,7 +25,7 @@ use Rattle.lane_state.proofs.MapTables.{AreMaps}
 use Rattle.lane_state.proofs.MapValues.{entries-empty}
 use Rattle.lane_state.proofs.OwnRuns.{AreKnown, own_frame}
 
-module _ (pages : List PageRun) (bytes : FinMap nat_cmp Bool) (m : Memory) (known : AreKnown pages bytes)
+module _ (pages : List PageRun) (bytes : FinMap nat_cmp Bool) (m : FrameMemory) (known : AreKnown pages bytes)
     (opening : IsOpeningMemory pages m) where
   zero_at : (b : Bool) (x : ℕ) → (b ≡ true → x ≡ 0) →
       content_of (cond b (Some true) None) x ≡ cond b (Some (Known 0)) None
@@ -49,14 +50,15 @@ module _ (pages : List PageRun) (bytes : FinMap nat_cmp Bool) (m : Memory) (know
   opens-covered a = ap is_some (known a) ∙ some_at (is_own pages a) ∙ sym (opening.frames a)
 
 -- the frames of the pages are in the memory
-pub opens-framed : (pages : List PageRun) (m : Memory) → IsOpeningMemory pages m → HasFramesOf pages m
+pub opens-framed : (pages : List PageRun) (m : FrameMemory) → IsOpeningMemory pages m → HasFramesOf pages m
 opens-framed pages m opening f h =
     let same : 4096 * f / 4096 ≡ f = omega arith in
-    ap (has_frame m) (sym same) ∙ opening.frames (4096 * f) ∙ own_frame pages (4096 * f)
+    ap (memory_has_frame m) (sym same) ∙ opening.frames (4096 * f) ∙ own_frame pages (4096 * f)
     ∙ ap (λ x. list_any (λ r. is_one_of r.frame r.count x) pages) same ∙ h
 
 -- with no memory, the driver reaches what its pages have
-pub opens-reaching : (pages : List PageRun) (memories : FinMap nat_cmp KeptMemory) (m : Memory) → memories ≡ empty →
+pub opens-reaching : (pages : List PageRun) (memories : FinMap nat_cmp KeptMemory) (m : FrameMemory) → memories
+    ≡ empty →
     IsOpeningMemory pages m → Reaches pages memories m
 opens-reaching pages memories m none opening va =
     ap (λ f. f va) opening.physical
@@ -79,6 +81,6 @@ opens-mapless maps loans returns owed none unlent back =
           ∙ sym (ap has_load (at k));
       unlent = λ k. ap lends_pages (at k);
       promised = omega (arith, due);
-      returning = ap (λ rs. list_any (λ (q : QueuedPage). not (is_returning (get maps q.map.made_at))) rs) back;
+      returning = ap (λ rs. list_any (λ (q : QueuedPage). not (is_covered_returning (get maps q.map.made_at))) rs) back;
       tried = λ k. ap is_tried (at k);
     }

@@ -15,10 +15,11 @@ use Rattle.busdma_machine.specs.Machine.Page.{FrameBytes}
 use Rattle.busdma_machine.specs.Machine.VirtualPages.{pages_end}
 use Rattle.busdma_base.specs.Scenarios.PageRuns.{share_page}
 use Rattle.phys_memory.specs.declared.reach.Reach.{Reach}
-use Rattle.phys_memory.specs.Memory.{Memory, physical, reached_in, byte_in, with_page}
+use Rattle.phys_memory.specs.Memory.{FrameMemory, memory_physical as physical, reached_in, byte_in, with_page}
 use Rattle.phys_memory.proofs.Tables.{get_inserted}
 use Rattle.busdma_base.specs.Scenarios.PageRuns.{physical_in}
-use Rattle.lane_state.specs.OpeningMemory.{IsOwnRun, ArePages, IsOpeningMemory, is_one_of, row_of, HasRun, IsWithout}
+use Rattle.lane_state.specs.OpeningMemory.{IsOwnRun, ArePages, IsOpeningMemory}
+use Rattle.lane_state.specs.OpeningMemory.{is_one_of, row_of, HasPageRun, IsWithout}
 use Rattle.lane_state.proofs.OwnRuns.{no_run, own_at, same_tests, one_of_is, one_of_lo, one_of_hi, no_meeting}
 use Rattle.lane_state.proofs.OwnRuns.{either_false, in_none, own_frame, twice}
 
@@ -44,9 +45,9 @@ extend base i k v new old rest e is = at (nat_eq v k) refl
         ap (λ b. cond b (Some (old v)) rest) more
 
 -- one more page
-pub has_more : (run : PageRun) (i : ℕ) (m n : Memory) (page : FrameBytes) → run.va.0 % 4096 ≡ 0 →
-    HasRun (first_of run i) m n → page.frame ≡ run.frame + i → page.bytes ≡ replicate 4096 0
-    → HasRun (first_of run (i + 1)) m (with_page n (run.va.0 + 4096 * i) page 4096)
+pub has_more : (run : PageRun) (i : ℕ) (m n : FrameMemory) (page : FrameBytes) → run.va.0 % 4096 ≡ 0 →
+    HasPageRun (first_of run i) m n → page.frame ≡ run.frame + i → page.bytes ≡ replicate 4096 0
+    → HasPageRun (first_of run (i + 1)) m (with_page n (run.va.0 + 4096 * i) page 4096)
 has_more run i m n page aligned has frame bytes =
     let k : (run.va.0 + 4096 * i) / 4096 ≡ run.va.0 / 4096 + i = omega arith in
     let nth : page.frame ≡ run.frame + ((run.va.0 + 4096 * i) / 4096 - run.va.0 / 4096) = omega arith in
@@ -69,8 +70,9 @@ past base i = outside (is_one_of base i (base + i)) refl
     outside false e = refl
 
 -- the next page of a run and its frame are not there
-pub next_page : (run : PageRun) (i v : ℕ) (m n : Memory) → i < run.count → v ≡ run.va.0 / 4096 + i → IsWithout run m →
-    HasRun (first_of run i) m n → is_some (get n.table v) ≡ false
+pub next_page : (run : PageRun) (i v : ℕ) (m n : FrameMemory) → i < run.count → v ≡ run.va.0 / 4096 + i →
+    IsWithout run m →
+    HasPageRun (first_of run i) m n → is_some (get n.table v) ≡ false
 next_page run i v m n lt e free has =
     let gone : get m.table (run.va.0 / 4096 + i) ≡ None =
     free.table (run.va.0 / 4096 + i) (one_of_is (run.va.0 / 4096) run.count
@@ -79,8 +81,8 @@ next_page run i v m n lt e free has =
     ∙ ap (λ b. cond b (Some (row_of run (run.va.0 / 4096 + i))) (get m.table (run.va.0 / 4096 + i)))
     (past (run.va.0 / 4096) i) ∙ gone)
 
-pub next_frame : (run : PageRun) (i f : ℕ) (m n : Memory) → i < run.count → f ≡ run.frame + i → IsWithout run m →
-    HasRun (first_of run i) m n → is_some (get n.frames f) ≡ false
+pub next_frame : (run : PageRun) (i f : ℕ) (m n : FrameMemory) → i < run.count → f ≡ run.frame + i → IsWithout run m →
+    HasPageRun (first_of run i) m n → is_some (get n.frames f) ≡ false
 next_frame run i f m n lt e free has =
     let gone : get m.frames (run.frame + i) ≡ None =
     free.frames (run.frame + i) (one_of_is run.frame run.count (run.frame + i) (omega arith) (omega arith)) in
@@ -97,11 +99,11 @@ abbrev pub is_frame : List PageRun → ℕ → Bool
 is_frame runs f = list_any (λ r. is_one_of r.frame r.count f) runs
 
 -- a memory has the pages of these runs and no others, with 0 in every byte
-pub record HoldsPages (pages : List PageRun) (m : Memory) : Type 0 where
+pub record HoldsPages (pages : List PageRun) (m : FrameMemory) : Type 0 where
   pub table : (v : ℕ) → get m.table v ≡ rows_of pages v
   pub frames : (f : ℕ) → get m.frames f ≡ cond (is_frame pages f) (Some (replicate 4096 0)) None
 
-pub has_no_pages : (m : Memory) → m.table ≡ empty → m.frames ≡ empty → HoldsPages [] m
+pub has_no_pages : (m : FrameMemory) → m.table ≡ empty → m.frames ≡ empty → HoldsPages [] m
 has_no_pages m t f = record {
   table = λ v. ap (λ x. get x v) t ∙ get-empty nat_cmp v;
   frames = λ v. ap (λ x. get x v) f ∙ get-empty nat_cmp v;
@@ -117,7 +119,7 @@ no_row (r ∷ runs) v h =
     ap (λ b. cond b (Some (row_of r v)) (rows_of runs v)) parts.0 ∙ no_row runs v parts.1
 
 -- a run of its own pages and frames is not there yet
-pub is_without : (before : List PageRun) (run : PageRun) (m : Memory) →
+pub is_without : (before : List PageRun) (run : PageRun) (m : FrameMemory) →
     IsOwnRun before run → HoldsPages before m → IsWithout run m
 is_without before run m is has = record {
   table = λ v h. has.table v ∙ no_row before v (in_none (λ r. r.va.0 / 4096) before run v is.own_pages h);
@@ -142,8 +144,8 @@ rows_push (b ∷ before) run v h =
     (λ e. no_meeting (run.va.0 / 4096) run.count (b.va.0 / 4096) b.count v _ refl parts.0 e)
 
 -- the pages of one more run
-pub has_next : (pages : List PageRun) (i : ℕ) (m n : Memory) → i < length pages → ArePages pages →
-    HoldsPages (take i pages) m → HasRun (get_or pages i no_run) m n → HoldsPages (take (i + 1) pages) n
+pub has_next : (pages : List PageRun) (i : ℕ) (m n : FrameMemory) → i < length pages → ArePages pages →
+    HoldsPages (take i pages) m → HasPageRun (get_or pages i no_run) m n → HoldsPages (take (i + 1) pages) n
 has_next pages i m n lt are has new = record {
   table = λ v. new.table v ∙ ap (cond (is_one_of (run.va.0 / 4096) run.count v) (Some (row_of run v))) (has.table v)
       ∙ sym (ap (λ ps. rows_of ps v) (take_more pages i no_run lt)
@@ -229,7 +231,8 @@ rows_low before (run ∷ pages) v r h e =
     at false one rest is = rest is
 
 -- the memory of a driver's pages is the one in which it opens
-pub has_opening : (pages : List PageRun) (m : Memory) → ArePages pages → HoldsPages pages m → IsOpeningMemory pages m
+pub has_opening : (pages : List PageRun) (m : FrameMemory) → ArePages pages → HoldsPages pages m →
+    IsOpeningMemory pages m
 has_opening pages m are has = record {
   physical = λ i va. (at va) i;
   frames = λ a. ap is_some (has.frames (a / 4096))

@@ -24,7 +24,8 @@ small-each before (q ∷ script) (here, each) (suc p) o h = small-each _ script 
 
 module _ (driver : Driver) (h : Holdings) (valid : IsScript driver.script)
     (small : sum_by loaded_by driver.script ≤ loaded_limit) (script : h.script ≡ driver.script)
-    (place : h.agenda.place ≡ 0) (resend : h.due ≡ false) (promised : h.agenda.promised ≡ 0) (none : pages_due h.maps.map ≡ 0) where
+    (place : h.agenda.place ≡ 0) (resend : h.due ≡ false) (promised : h.agenda.promised ≡ 0)
+    (none : pages_due h.maps.map ≡ 0) where
   pub opens-small : HasSmallLoads h
   opens-small =
       let ahead : bytes_ahead (due_send (ideal_of h)) h.agenda.place h.script ≡ sum_by loaded_by driver.script =

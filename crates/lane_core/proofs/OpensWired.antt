@@ -20,9 +20,9 @@ use Rattle.ideal_wire.specs.Machine.{IsInMachine, IsOfMachine}
 use Rattle.ideal_wire.specs.Mapped.{AreMapped}
 use Rattle.ideal_wire.specs.Spaced.{AreSpaced}
 use Rattle.ideal_wire.specs.Traces.{stage_in}
-use Rattle.ideal_wire.proofs.KeptSpaces.{opens-spaced}
-use Rattle.ideal_wire.proofs.MappedTurns.{opens-mapped}
-use Rattle.ideal_wire.proofs.Openings.{opens-faithful, opens-laid}
+use Rattle.ideal_wire.proofs.Devices.KeptSpaces.{opens-spaced}
+use Rattle.ideal_wire.proofs.Devices.MappedTurns.{opens-mapped}
+use Rattle.ideal_wire.proofs.Faithful.Openings.{opens-faithful, opens-laid}
 use Rattle.lane_state.specs.declared.holdings.Holdings.{Holdings}
 use Rattle.lane_state.specs.declared.kept.KeptMap.{KeptMap}
 use Rattle.lane_state.specs.Ideal.{ideal_of}

@@ -14,8 +14,8 @@ use Rattle.lane_state.specs.declared.holdings.Holdings.{Holdings}
 use Rattle.lane_state.specs.SmallLoads.{loaded_once}
 
 -- how many pages the loads of a lane's maps have or wait for
-abbrev pub promised : Lane → ℕ
-promised l = l.holdings.agenda.promised
+abbrev pub promised_pages : Lane → ℕ
+promised_pages l = l.holdings.agenda.promised
 
 -- the driver with one more operation at the end of its script
 abbrev pub with_next : Op → LaneState → LaneState
@@ -38,7 +38,7 @@ pub record MayFollow (o : Op) (l : LaneState) (promised : ℕ) : Type 0 where
 
 -- an operation may be appended to a lane's script
 abbrev pub MayAppend : Op → Lane → Type 0
-MayAppend o l = MayFollow o (ideal l) (promised l)
+MayAppend o l = MayFollow o (ideal l) (promised_pages l)
 
 -- a driver's holdings are the same, except for its script, its places and its room
 pub record KeepsButScript (h k : Holdings) : Type 0 where

@@ -19,17 +19,17 @@ abbrev pub wire_unless_foreign : MapId → LaneState → Wire → Wire → Wire
 wire_unless_foreign m l after w = if m.lane.0 == l.id then after else w
 
 -- a sync of the complete load of a map
-abbrev pub sync : MapId → ℕ → LaneState → Asking Outcome
-sync m ops l = unless_foreign m l (syncs.sync m.made_at ops l)
+abbrev pub lane_sync : MapId → ℕ → LaneState → Asking Outcome
+lane_sync m ops l = unless_foreign m l (syncs.sync m.made_at ops l)
 
 -- a sync of `len` bytes of a map's load, from its byte `off` on
-abbrev pub sync_range : MapId → ℕ → ℕ → ℕ → LaneState → Asking Outcome
-sync_range m off len ops l = unless_foreign m l (syncs.sync_range m.made_at off len ops l)
+abbrev pub lane_sync_range : MapId → ℕ → ℕ → ℕ → LaneState → Asking Outcome
+lane_sync_range m off len ops l = unless_foreign m l (syncs.sync_range m.made_at off len ops l)
 
 -- the device reads `len` bytes of a map's load, from its byte `off` on
-abbrev pub dev_read : MapId → ℕ → ℕ → LaneState → Asking Outcome
-dev_read m off len l = unless_foreign m l (accesses.dev_read m.made_at off len l)
+abbrev pub lane_dev_read : MapId → ℕ → ℕ → LaneState → Asking Outcome
+lane_dev_read m off len l = unless_foreign m l (accesses.dev_read m.made_at off len l)
 
 -- the device writes these bytes into a map's load, from its byte `off` on
-abbrev pub dev_write : MapId → ℕ → List ℕ → LaneState → Asking Outcome
-dev_write m off vs l = unless_foreign m l (accesses.dev_write m.made_at off vs l)
+abbrev pub lane_dev_write : MapId → ℕ → List ℕ → LaneState → Asking Outcome
+lane_dev_write m off vs l = unless_foreign m l (accesses.dev_write m.made_at off vs l)

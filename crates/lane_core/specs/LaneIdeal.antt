@@ -7,7 +7,7 @@ use Rattle.ideal_lane.specs.Turns.{Turned}
 use Rattle.lane_core.specs.declared.lane.Lane.{Lane}
 use Rattle.lane_turns.specs.declared.turn.Turn.{Turn}
 use Rattle.lane_state.specs.Ideal.{ideal_of}
-use Rattle.lane_turns.specs.Turning.{answered}
+use Rattle.lane_turns.specs.TakenTurns.{answered}
 use Rattle.lane_state.specs.Wire.{wire_of}
 
 -- the ideal state of a lane
@@ -23,5 +23,5 @@ abbrev pub given : Lane → Answer → Outcome
 given l a = record { lane = ideal l; answer = a }
 
 -- the ideal state of a lane after a turn, with the turn's answer
-abbrev pub turned : Lane → Turn → Turned
-turned l t = record { lane = ideal l; turn = answered t }
+abbrev pub lane_turned : Lane → Turn → Turned
+lane_turned l t = record { lane = ideal l; turn = answered t }

@@ -3,7 +3,7 @@ use Rattle.std.specs.Prelude.{ℕ, List, [], ◌∷◌}
 use Rattle.std.specs.Coded.{×_prop, Unit-prop}
 use mathlib.Core.List.{is_set}
 use denote.Struct.Props.{props}
-use Rattle.busdma_rules.specs.Iommu.Space.{AreRuns, DeviceRun, IsRunIn, Space, run_end}
+use Rattle.busdma_rules.specs.Iommu.Space.{AreSpaceRuns, DeviceRun, IsRunIn, Space, run_end}
 use Rattle.ideal_lane.specs.State.{LaneState}
 use Rattle.ideal_wire.specs.OneProof.{AreLaid-prop, IsApart-prop, IsFaithful-prop, IsInMachine-prop}
 use Rattle.ideal_wire.specs.Spaced.{AreSpaced}
@@ -20,7 +20,7 @@ Space-set = hlevel (props, is_set, DeviceRun-set)
 IsRunIn-prop : (low high : ℕ) (r : DeviceRun) → IsProp (IsRunIn low high r)
 IsRunIn-prop low high r = hlevel (props)
 
-AreRuns-prop : (low high : ℕ) (rs : List DeviceRun) → IsProp (AreRuns low high rs)
+AreRuns-prop : (low high : ℕ) (rs : List DeviceRun) → IsProp (AreSpaceRuns low high rs)
 AreRuns-prop low high [] = Unit-prop
 AreRuns-prop low high (r ∷ rs) = ×_prop (IsRunIn-prop low high r) (AreRuns-prop (run_end r) high rs)
 

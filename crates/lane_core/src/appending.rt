@@ -5,10 +5,10 @@ ghost use Rattle.busdma_base.specs.Scenarios.Operations.{items_of};
 ghost use Rattle.ideal_lane.specs.Asking.{goes_on};
 ghost use Rattle.ideal_lane.specs.State.{named};
 ghost use Rattle.ideal_lane.specs.Turns.{operation, waits, went_on};
-ghost use Rattle.lane_core.specs.Appending.{KeepsButScript, MayAppend, is_ready, promised, with_next};
-ghost use Rattle.lane_core.specs.LaneIdeal.{ideal, turned, wire};
+ghost use Rattle.lane_core.specs.Appending.{KeepsButScript, MayAppend, is_ready, promised_pages, with_next};
+ghost use Rattle.lane_core.specs.LaneIdeal.{ideal, lane_turned as turned, wire};
 ghost use Rattle.lane_state.specs.Served.{IsServed};
-ghost use Rattle.lane_turns.specs.Turning.{IsTurned, is_held};
+ghost use Rattle.lane_turns.specs.TakenTurns.{IsTurned, is_held};
 
 use crate::lane::Lane;
 use busdma_base::{HubDoor, MapId, Op, Side};
@@ -77,7 +77,7 @@ impl<'s> Lane<'s> {
 
     /// Returns how many pages the loads of the lane's maps have or wait for.
     pub fn promised(&self) -> u32
-        ensures { result ≡ promised self.now }
+        ensures { result ≡ promised_pages self.now }
     {
         self.holdings.agenda.promised()
     }
@@ -93,7 +93,7 @@ impl<'s> Lane<'s> {
         ensures ok { OnOk result (ideal self.new ≡ with_next op.now (ideal self.old)) }
         ensures err { OnErr result (ideal self.new ≡ ideal self.old) }
         ensures wire { wire self.new ≡ wire self.old }
-        ensures promised { promised self.new ≡ promised self.old }
+        ensures promised { promised_pages self.new ≡ promised_pages self.old }
     {
         append(&mut self.holdings, op)
     }

@@ -36,9 +36,9 @@ impl Lane<'_> {
     ///
     /// `AllocError` if memory runs out. The lane's ideal state and its bytes are then unchanged.
     pub fn sync(&mut self, alloc: Global, map: MapId, ops: SyncOps) -> Result<Answer, AllocError>
-        ensures done { IfOk result (λ answer. Gives (given self.new answer) ≡ calls.sync map ops.0 (ideal self.old)) }
+        ensures done { IfOk result (λ answer. Gives (given self.new answer) ≡ calls.lane_sync map ops.0 (ideal self.old)) }
         ensures wire { OnOk result (wire self.new ≡ wire_unless_foreign map (ideal self.old)
-            (wires.sync map.made_at ops.0 (ideal self.old) (wire self.old)) (wire self.old)) }
+            (wires.wire_sync map.made_at ops.0 (ideal self.old) (wire self.old)) (wire self.old)) }
         ensures err { OnErr result (ideal self.new ≡ ideal self.old) }
         ensures err_wire { OnErr result (wire self.new ≡ wire self.old) }
     {
@@ -62,9 +62,9 @@ impl Lane<'_> {
         ops: SyncOps,
     ) -> Result<Answer, AllocError>
         ensures done { IfOk result (λ answer.
-            Gives (given self.new answer) ≡ calls.sync_range map off len ops.0 (ideal self.old)) }
+            Gives (given self.new answer) ≡ calls.lane_sync_range map off len ops.0 (ideal self.old)) }
         ensures wire { OnOk result (wire self.new ≡ wire_unless_foreign map (ideal self.old)
-            (wires.sync_range map.made_at off len ops.0 (ideal self.old) (wire self.old)) (wire self.old)) }
+            (wires.wire_sync_range map.made_at off len ops.0 (ideal self.old) (wire self.old)) (wire self.old)) }
         ensures err { OnErr result (ideal self.new ≡ ideal self.old) }
         ensures err_wire { OnErr result (wire self.new ≡ wire self.old) }
     {
@@ -100,7 +100,7 @@ impl Lane<'_> {
     ) -> Result<Answer, AllocError>
         ensures done { IfOk result (λ answer.
             Gives (given self.new answer) ≡ accesses.cpu_write place bytes.now (ideal self.old)) }
-        ensures wire { OnOk result (wire self.new ≡ wires.cpu_write place bytes.now (ideal self.old) (wire self.old)) }
+        ensures wire { OnOk result (wire self.new ≡ wires.wire_cpu_write place bytes.now (ideal self.old) (wire self.old)) }
         ensures err { OnErr result (ideal self.new ≡ ideal self.old) }
         ensures err_wire { OnErr result (wire self.new ≡ wire self.old) }
     {
@@ -121,7 +121,7 @@ impl Lane<'_> {
         len: u64,
     ) -> Result<Answer, AllocError>
         ensures done { IfOk result (λ answer.
-            Gives (given self.new answer) ≡ calls.dev_read map off len (ideal self.old)) }
+            Gives (given self.new answer) ≡ calls.lane_dev_read map off len (ideal self.old)) }
         ensures read { IfOk result (λ answer.
             Reads answer (load_buses (ideal self.old) map.made_at off len) (wire self.old)) }
         ensures wire { wire self.new ≡ wire self.old }
@@ -147,9 +147,9 @@ impl Lane<'_> {
         bytes: &[u8],
     ) -> Result<Answer, AllocError>
         ensures done { IfOk result (λ answer.
-            Gives (given self.new answer) ≡ calls.dev_write map off bytes.now (ideal self.old)) }
+            Gives (given self.new answer) ≡ calls.lane_dev_write map off bytes.now (ideal self.old)) }
         ensures wire { OnOk result (wire self.new ≡ wire_unless_foreign map (ideal self.old)
-            (wires.dev_write map.made_at off bytes.now (ideal self.old) (wire self.old)) (wire self.old)) }
+            (wires.wire_dev_write map.made_at off bytes.now (ideal self.old) (wire self.old)) (wire self.old)) }
         ensures err { OnErr result (ideal self.new ≡ ideal self.old) }
         ensures err_wire { OnErr result (wire self.new ≡ wire self.old) }
     {
@@ -198,7 +198,7 @@ impl Lane<'_> {
         ensures done { IfOk result (λ answer.
             Gives (given self.new answer) ≡ accesses.dev_write_at tag addr bytes.now (ideal self.old)) }
         ensures wire { OnOk result (wire self.new
-            ≡ wires.dev_write_at tag addr bytes.now (ideal self.old) (wire self.old)) }
+            ≡ wires.wire_dev_write_at tag addr bytes.now (ideal self.old) (wire self.old)) }
         ensures err { OnErr result (ideal self.new ≡ ideal self.old) }
         ensures err_wire { OnErr result (wire self.new ≡ wire self.old) }
     {

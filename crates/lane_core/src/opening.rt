@@ -12,7 +12,7 @@ ghost use Rattle.busdma_base.specs.Scenarios.Valid.{LoadsFrom};
 ghost use Rattle.ideal_lane.specs.Opening.{opening_lane};
 ghost use Rattle.ideal_wire.specs.Machine.{IsOfMachine};
 ghost use Rattle.lane_core.specs.LaneIdeal.{ideal};
-ghost use Rattle.lane_state.specs.OpeningMemory.{ArePages, IsOpeningMemory, HasRun, IsWithout};
+ghost use Rattle.lane_state.specs.OpeningMemory.{ArePages, IsOpeningMemory, HasPageRun, IsWithout};
 
 use crate::lane::Lane;
 use busdma_base::{Driver, LaneId, Pa, Page, PageRun, Va};
@@ -103,7 +103,7 @@ fn add_run(alloc: Global, memory: &mut LanePages, run: &PageRun) -> Result<(), A
     requires low { run.now.va.0 + 4096 * run.now.count ≤ pages_end }
     requires numbered { run.now.frame + run.now.count ≤ 2 ^ 30 }
     requires fresh { IsWithout run.now memory.old.memory }
-    ensures { OnOk result (HasRun run.now memory.old.memory memory.new.memory) }
+    ensures { OnOk result (HasPageRun run.now memory.old.memory memory.new.memory) }
 {
     for i in 0..run.count {
         let page = Page::new(alloc, run.frame + i, 0)?;

@@ -12,10 +12,10 @@ ghost use Rattle.ideal_wire.specs.Spaced.{AreSpaced};
 ghost use Rattle.ideal_wire.specs.WireStep.{Follows};
 ghost use Rattle.ideal_wire.specs.WireStep as wires;
 ghost use Rattle.lane_state.specs.Doing.{IsUndone};
-ghost use Rattle.lane_state.specs.Kept.{share_of};
-ghost use Rattle.lane_core.specs.LaneIdeal.{ideal, turned, wire};
+ghost use Rattle.lane_state.specs.Kept.{kept_share as share_of};
+ghost use Rattle.lane_core.specs.LaneIdeal.{ideal, lane_turned as turned, wire};
 ghost use Rattle.lane_state.specs.Served.{IsServed};
-ghost use Rattle.lane_turns.specs.Turning.{IsTurned, MayWant, has_step, is_held};
+ghost use Rattle.lane_turns.specs.TakenTurns.{IsTurned, MayWant, has_step, is_held};
 
 use crate::lane::Lane;
 use busdma_base::{HubDoor, Side, ZoneId};
@@ -56,7 +56,7 @@ impl Lane<'_> {
             IsTurned (D.seen door.old) (ideal self.old).id (lane_step (ideal self.old) side)
             (turned self.new turn) (is_held turn) (D.seen door.new)) }
         ensures wire { OnOk result (Follows (ideal self.old) (ideal self.new)
-            (wires.lane_step (ideal self.old) side (wire self.old)) (wire self.new)) }
+            (wires.wire_lane_step (ideal self.old) side (wire self.old)) (wire self.new)) }
         ensures served { IsServed (ideal self.new) (D.seen door.new) }
         ensures err { OnErr result (ideal self.new ≡ ideal self.old) }
         ensures err_wire { OnErr result (Follows (ideal self.old) (ideal self.new) (wire self.old) (wire self.new)) }

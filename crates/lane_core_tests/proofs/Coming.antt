@@ -15,12 +15,13 @@ use Rattle.busdma_machine.specs.declared.name.MapId.{MapId}
 use Rattle.busdma_machine.specs.Bounce.Account.{Account}
 use Rattle.busdma_machine.specs.Bounce.AccountStep.{account_step}
 use Rattle.busdma_machine.specs.Bounce.Conditions.{MayCall}
-use Rattle.busdma_machine.specs.Bounce.Door.{Seen, Allows, Passes, Holds, Fails, Misses, ArePagesOf, account}
+use Rattle.busdma_machine.specs.Bounce.Door.{Seen, Allows, Passes, HoldsAtDoor}
+use Rattle.busdma_machine.specs.Bounce.Door.{FailsAtDoor, Misses, ArePagesOf, account}
 use Rattle.busdma_machine.specs.Bounce.EachFrame.{LiesBelowMaxmem}
 use Rattle.busdma_machine.specs.Bounce.History.{IsOpening, IsSound, account_of}
 use Rattle.busdma_machine.specs.Bounce.MemoryRuns.{frames_of}
 use Rattle.busdma_machine.proofs.Accounts.LaneEntries.{account_of-append, sound-rest}
-use Rattle.busdma_machine.proofs.Accounts.Shares.{MayCall-stays, frames-stay}
+use Rattle.busdma_machine.proofs.Accounts.ShareLaws.{MayCall-stays, frames-stay}
 use Rattle.bounce_hub.specs.Seen.{HubSeen, door}
 use Rattle.lane_agreement.proofs.Doors.{agrees-passes}
 use Rattle.ideal_lane.specs.Asking.{Asking, Gives, Asks, by_reply}
@@ -31,7 +32,7 @@ use Rattle.ideal_lane.proofs.Own.{turn-own}
 use Rattle.lane_turns.specs.declared.turn.Turn.{Turn}
 use Rattle.lane_state.specs.Doing.{IsUndone}
 use Rattle.lane_state.specs.Served.{IsServed}
-use Rattle.lane_turns.specs.Turning.{IsTurned, is_held}
+use Rattle.lane_turns.specs.TakenTurns.{IsTurned, is_held}
 use Rattle.lane_core_tests.specs.Beside.{Beside, Comes, seen, seen_by}
 
 -- ---- a turn at a hub
@@ -56,7 +57,7 @@ comes-none lane h g opening history = record {
   history = history ∙ sym (append-nil h.history);
 }
 
-comes-held : (lane : ℕ) (h g : HubSeen) (c : HubCall) (r : HubReply) → Holds (door h) lane c r (door g) →
+comes-held : (lane : ℕ) (h g : HubSeen) (c : HubCall) (r : HubReply) → HoldsAtDoor (door h) lane c r (door g) →
     Comes lane h g
 comes-held lane h g c r held =
     let own : HoldEntry = record { lane = record { 0 = lane }; call = c; reply = r } in
@@ -143,18 +144,19 @@ module _ (l : LaneState) (g k : HubSeen) (served : IsServed l (door g)) where
         opening = form;
         below = subst (λ o. LiesBelowMaxmem o) (sym opening) served.below;
         sound = sound;
-        agrees = agrees-passes (view_of l) (seen_by l.id g) es (seen_by l.id k) served.agrees (own-number l.id) (record {
-          opening = opening;
-          form = form;
-          serves = refl;
-          apart = unserved l.id es others;
-          history = history;
-          sound = sound;
-        });
+        agrees = agrees-passes (view_of l) (seen_by l.id g) es (seen_by l.id k) served.agrees (own-number l.id)
+            (record {
+              opening = opening;
+              form = form;
+              serves = refl;
+              apart = unserved l.id es others;
+              history = history;
+              sound = sound;
+            });
       }
 
   pub still-held : (caller : ℕ) (c : HubCall) (r : HubReply) → l.id ≢ caller →
-      Holds (door g) caller c r (door k) → IsServed l (door k)
+      HoldsAtDoor (door g) caller c r (door k) → IsServed l (door k)
   still-held caller c r apart held =
       let came = comes-held caller g k c r held in
       grown came.entries came.opening came.history held.sound
@@ -167,15 +169,15 @@ module _ (l : LaneState) (g k : HubSeen) (served : IsServed l (door g)) where
 
   -- by what a call gives that takes memory
   pub still-made : {X E : Type 0} (caller : ℕ) (c : HubCall) (as_reply : X → HubReply) (r : Result X E) →
-      l.id ≢ caller → IfOk r (λ x. Holds (door g) caller c (as_reply x) (door k)) →
-      OnErr r (Fails (door g) (door k)) → IsServed l (door k)
+      l.id ≢ caller → IfOk r (λ x. HoldsAtDoor (door g) caller c (as_reply x) (door k)) →
+      OnErr r (FailsAtDoor (door g) (door k)) → IsServed l (door k)
   still-made caller c as_reply (Ok x) apart held fails = still-held caller c (as_reply x) apart held
   still-made caller c as_reply (Err e) apart held fails = still-passed fails.others fails.passes
 
   -- by the taking of a callback
   pub still-taken : (caller : ℕ) (as_reply : Called → HubReply) (r : Option Called) → l.id ≢ caller →
       MatchOption r (Misses (door g) caller (door k))
-      (λ c. Holds (door g) caller TakeCallback (as_reply c) (door k)) → IsServed l (door k)
+      (λ c. HoldsAtDoor (door g) caller TakeCallback (as_reply c) (door k)) → IsServed l (door k)
   still-taken caller as_reply None apart misses = still-passed misses.others misses.passes
   still-taken caller as_reply (Some c) apart held = still-held caller TakeCallback (as_reply c) apart held
 
@@ -224,8 +226,8 @@ module _ (lane other : ℕ) (h g : HubSeen) (apart : other ≢ lane) (came : Com
       (are ∙ sym (frames-stay m.lane.0 m (account (door h)) came.entries refl sound-them (away-from m.lane.0 own)))
 
   module _ (k : HubSeen) where
-    holds : (caller : ℕ) (c : HubCall) (r : HubReply) → Holds (door g) caller c r (door k) →
-        Holds (seen_by lane h) caller c r (seen_by lane k)
+    holds : (caller : ℕ) (c : HubCall) (r : HubReply) → HoldsAtDoor (door g) caller c r (door k) →
+        HoldsAtDoor (seen_by lane h) caller c r (seen_by lane k)
     holds caller c r held =
         let same : held.between.history ≡ g.history = same-history g held.others held.between held.passes in
         let first : held.between.opening ≡ g.opening = held.passes.opening in
@@ -253,16 +255,16 @@ module _ (lane other : ℕ) (h g : HubSeen) (apart : other ≢ lane) (came : Com
       sound = p.sound;
     }
 
-    fails : {X E : Type 0} (r : Result X E) → OnErr r (Fails (door g) (door k)) →
-        OnErr r (Fails (seen_by lane h) (seen_by lane k))
+    fails : {X E : Type 0} (r : Result X E) → OnErr r (FailsAtDoor (door g) (door k)) →
+        OnErr r (FailsAtDoor (seen_by lane h) (seen_by lane k))
     fails (Ok x) f = tt
     fails (Err e) f = record { others = came.entries; passes = passed f.others f.passes }
 
     taken : (caller : ℕ) (as_reply : Called → HubReply) (r : Option Called) →
         MatchOption r (Misses (door g) caller (door k))
-        (λ c. Holds (door g) caller TakeCallback (as_reply c) (door k)) →
+        (λ c. HoldsAtDoor (door g) caller TakeCallback (as_reply c) (door k)) →
         MatchOption r (Misses (seen_by lane h) caller (seen_by lane k))
-        (λ c. Holds (seen_by lane h) caller TakeCallback (as_reply c) (seen_by lane k))
+        (λ c. HoldsAtDoor (seen_by lane h) caller TakeCallback (as_reply c) (seen_by lane k))
     taken caller as_reply None m =
         record { others = came.entries; passes = passed m.others m.passes; reply = m.reply }
     taken caller as_reply (Some c) held = holds caller TakeCallback (as_reply c) held
@@ -291,31 +293,32 @@ module _ (b : Beside) (lane other : ℕ) (h g : HubSeen) (is : record { lane = l
     abbrev after : Beside
     after = record { lane = lane; hub = k }
 
-    pub holds-at : (caller : ℕ) (c : HubCall) (r : HubReply) → Holds (door g) caller c r (door k) →
-        Holds (seen b) caller c r (seen after)
+    pub holds-at : (caller : ℕ) (c : HubCall) (r : HubReply) → HoldsAtDoor (door g) caller c r (door k) →
+        HoldsAtDoor (seen b) caller c r (seen after)
     holds-at caller c r held =
-        subst (λ (x : Beside). Holds (seen x) caller c r (seen after)) is
+        subst (λ (x : Beside). HoldsAtDoor (seen x) caller c r (seen after)) is
         (holds lane other h g apart came l served k caller c r held)
 
     pub made-at : {X E : Type 0} (caller : ℕ) (c : HubCall) (as_reply : X → HubReply) (r : Result X E) →
-        IfOk r (λ x. Holds (door g) caller c (as_reply x) (door k)) →
-        IfOk r (λ x. Holds (seen b) caller c (as_reply x) (seen after))
+        IfOk r (λ x. HoldsAtDoor (door g) caller c (as_reply x) (door k)) →
+        IfOk r (λ x. HoldsAtDoor (seen b) caller c (as_reply x) (seen after))
     made-at caller c as_reply (Ok x) held = holds-at caller c (as_reply x) held
     made-at caller c as_reply (Err e) held = tt
 
-    pub fails-at : {X E : Type 0} (r : Result X E) → OnErr r (Fails (door g) (door k)) →
-        OnErr r (Fails (seen b) (seen after))
+    pub fails-at : {X E : Type 0} (r : Result X E) → OnErr r (FailsAtDoor (door g) (door k)) →
+        OnErr r (FailsAtDoor (seen b) (seen after))
     fails-at r f =
-        subst (λ (x : Beside). OnErr r (Fails (seen x) (seen after))) is (fails lane other h g apart came l served k r f)
+        subst (λ (x : Beside). OnErr r (FailsAtDoor (seen x) (seen after))) is
+        (fails lane other h g apart came l served k r f)
 
     pub taken-at : (caller : ℕ) (as_reply : Called → HubReply) (r : Option Called) →
         MatchOption r (Misses (door g) caller (door k))
-        (λ c. Holds (door g) caller TakeCallback (as_reply c) (door k)) →
+        (λ c. HoldsAtDoor (door g) caller TakeCallback (as_reply c) (door k)) →
         MatchOption r (Misses (seen b) caller (seen after))
-        (λ c. Holds (seen b) caller TakeCallback (as_reply c) (seen after))
+        (λ c. HoldsAtDoor (seen b) caller TakeCallback (as_reply c) (seen after))
     taken-at caller as_reply r m =
         subst (λ (x : Beside). MatchOption r (Misses (seen x) caller (seen after))
-        (λ c. Holds (seen x) caller TakeCallback (as_reply c) (seen after))) is
+        (λ c. HoldsAtDoor (seen x) caller TakeCallback (as_reply c) (seen after))) is
         (taken lane other h g apart came l served k caller as_reply r m)
 
 -- a driver that a hub serves is served by the door of its number

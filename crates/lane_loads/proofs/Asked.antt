@@ -17,7 +17,7 @@ use Rattle.busdma_rules.specs.Segments.Chunks.{need_of}
 use Rattle.ideal_lane.specs.Asking.{Asking, Gives, Asks}
 use Rattle.ideal_lane.specs.Loads.{Asked, asked, chunks_for, device_load, ended, finished, granted, is_device}
 use Rattle.ideal_lane.specs.Loads.{limits_of, load, load_chunks}
-use Rattle.ideal_lane.specs.Loads.{load_entries, load_judged, zone_of_map as zone_of}
+use Rattle.ideal_lane.specs.Loads.{load_entries, load_judged, zone_of_map}
 use Rattle.ideal_lane.specs.Outcomes.{Outcome, gives, is_idle, refused, unless_absent, unless_refused}
 use Rattle.ideal_lane.specs.Standing.{StandsAt}
 use Rattle.ideal_lane.specs.State.{LaneMap, LaneMemory, LaneState, named}
@@ -104,17 +104,18 @@ module _ (l : LaneState) (m : ℕ) (b : Bio) (nowait : Bool) (items : List Item)
           load-direct none =
               let test : (need_of chunks == 0) ≡ true = grind (arith, nat_tests) in
               cut ∙ ap (λ b. if b then Gives (finished m o l.place x chunks [] l)
-              else Asks (Grab (named l m) (record { 0 = zone_of o }) (need_of chunks) x.nowait)
+              else Asks (Grab (named l m) (record { 0 = zone_of_map o }) (need_of chunks) x.nowait)
               (granted m o x chunks l)) test
 
           pub load-bounced : get l.mems m ≡ None → (n : ℕ) → n ≡ need_of chunks → 0 < n →
-              step ≡ Asks (Grab (named l m) (record { 0 = zone_of o }) n nowait) (granted m o x (bio_chunks l o b) l)
+              step ≡ Asks (Grab (named l m) (record { 0 = zone_of_map o }) n nowait)
+              (granted m o x (bio_chunks l o b) l)
           load-bounced own n is some =
               let test : (need_of chunks == 0) ≡ false = grind (arith, nat_tests) in
               cut ∙ ap (λ b. if b then Gives (finished m o l.place x chunks [] l)
-              else Asks (Grab (named l m) (record { 0 = zone_of o }) (need_of chunks) x.nowait)
+              else Asks (Grab (named l m) (record { 0 = zone_of_map o }) (need_of chunks) x.nowait)
               (granted m o x chunks l)) test
-              ∙ (λ i. Asks (Grab (named l m) (record { 0 = zone_of o }) (sym is i) nowait)
+              ∙ (λ i. Asks (Grab (named l m) (record { 0 = zone_of_map o }) (sym is i) nowait)
               (granted m o x (plain-chunks l m o b own i) l))
 
 -- the load of a memory's own map needs no page

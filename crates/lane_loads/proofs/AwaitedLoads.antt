@@ -22,17 +22,18 @@ use Rattle.ideal_lane.specs.Standing.{IsPageless, Stands}
 use Rattle.ideal_lane.specs.State.{LaneMap, LaneMemory, LaneState, LaneTag}
 use Rattle.ideal_wire.specs.Laid.{AreInPages, AreLaid, is_loadable}
 use Rattle.ideal_wire.specs.Machine.{IsInMachine}
-use Rattle.ideal_wire.proofs.Asked.{all-fine, all-map, all-of, direct-bytes, of-pages, pages-entries}
-use Rattle.ideal_wire.proofs.Bios.{IsOfPages, bio-paged, bio_places, pages-own, with-pages}
-use Rattle.ideal_wire.proofs.MemoryLoads.{memory-ready}
-use Rattle.ideal_wire.proofs.Reaching.{entries-bytes}
+use Rattle.ideal_wire.proofs.Loads.Asked.{all-fine, all-map, all-of, direct-bytes, of-pages, pages-entries}
+use Rattle.ideal_wire.proofs.Loads.Bios.{IsOfPages, bio-paged, bio_places, pages-own, with-pages}
+use Rattle.ideal_wire.proofs.Loads.MemoryLoads.{memory-ready}
+use Rattle.ideal_wire.proofs.Loads.Reaching.{entries-bytes}
 use Rattle.lane_state.specs.declared.holdings.Holdings.{Holdings}
 use Rattle.lane_state.specs.declared.kept.KeptLoad.{KeptLoad}
 use Rattle.lane_state.specs.declared.kept.KeptMap.{KeptMap}
 use Rattle.lane_state.specs.declared.kept.KeptTag.{KeptTag}
-use Rattle.lane_state.specs.Awaiting.{IsAwaiting, awaited, kept_load, limits_at, page_entries}
+use Rattle.lane_state.specs.Awaiting.{IsAwaitingNow, awaited_map}
+use Rattle.lane_state.specs.Awaiting.{kept_load, limits_at, page_entries}
 use Rattle.lane_state.specs.Ideal.{ideal_of}
-use Rattle.lane_state.specs.Kept.{map_of, memory_of, stage_of, tag_of}
+use Rattle.lane_state.specs.Kept.{map_of, memory_of, kept_stage, tag_of}
 use Rattle.lane_state.specs.Loading.{AreOfMap, HasRoomForAny, IsLoadable, bio_chunks, bio_of, bio_reached, load_loan}
 use Rattle.lane_state.proofs.Called.{load-kept}
 use Rattle.lane_state.proofs.MapValues.{get-map_values, image-none, image-some}
@@ -116,7 +117,7 @@ module _ (h : Holdings) (stands : Stands (ideal_of h)) (m : ℕ) (w : KeptLoad) 
   pub begins-waiting : get h.memories.map m ≡ None → AreInPages h.pages.now bio → IsLoadable h.pages.now bio →
       ((x : LaneMap) → get l.maps m ≡ Some x → HasRoomForAny (limits_of l x) (bio_chunks l x bio) w.need room) →
       get h.loans.prepared m ≡ Some (load_loan l m bio) →
-      IsAwaiting h.pages.now h.maxmem (limits_at h.tags.map o.tag) (get h.loans.prepared m) w room
+      IsAwaitingNow h.pages.now h.maxmem (limits_at h.tags.map o.tag) (get h.loans.prepared m) w room
   begins-waiting own paged loadable fits prepared = record {
     loadable = loadable;
     paged = paged;
@@ -154,18 +155,18 @@ waits-with h stands m at w room kept =
     let o = x.0 in
     let bio = bio_of w.bytes in
     let image : get l.maps m ≡ Some (map_of o) = image-some map_of h.maps.map m o x.1 in
-    let waits : ◌≡◌ {A = Option (KeptLoad × LoadRoom × Option TagLimits)} (awaited h.tags.map (get h.maps.map m))
+    let waits : ◌≡◌ {A = Option (KeptLoad × LoadRoom × Option TagLimits)} (awaited_map h.tags.map (get h.maps.map m))
     (Some (w, room, limits_at h.tags.map o.tag)) =
-    ap (awaited h.tags.map) x.1
-    ∙ ap (λ (s : held.Stage KeptLoad). option_map (λ (y : ℕ × KeptLoad × LoadRoom).
-    (y.1, y.2, limits_at h.tags.map o.tag)) (held.waiting_load s)) x.2 in
-    let is : IsAwaiting h.pages.now h.maxmem (limits_at h.tags.map o.tag) (get h.loans.prepared m) w room =
+    ap (awaited_map h.tags.map) x.1
+    ∙ ap (λ (s : held.HeldStage KeptLoad). option_map (λ (y : ℕ × KeptLoad × LoadRoom).
+    (y.1, y.2, limits_at h.tags.map o.tag)) (held.held_waiting_load s)) x.2 in
+    let is : IsAwaitingNow h.pages.now h.maxmem (limits_at h.tags.map o.tag) (get h.loans.prepared m) w room =
     subst (λ (y : Option (KeptLoad × LoadRoom × Option TagLimits)).
-    IfSome y (λ z. IsAwaiting h.pages.now h.maxmem z.2 (get h.loans.prepared m) z.0 z.1)) waits
+    IfSome y (λ z. IsAwaitingNow h.pages.now h.maxmem z.2 (get h.loans.prepared m) z.0 z.1)) waits
     (h.awaiting m) in
     let own : get l.mems m ≡ None =
     unowned l stands m (map_of o) image
-    (λ none. subst IsPageless (ap stage_of x.2) ((stands.each m (map_of o) image).pageless none)) in
+    (λ none. subst IsPageless (ap kept_stage x.2) ((stands.each m (map_of o) image).pageless none)) in
     let entered : page_entries l.pages bio ≡ load_entries l bio =
     pages-entries l bio (of-pages l bio is.paged) in
     record {

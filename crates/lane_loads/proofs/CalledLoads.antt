@@ -57,7 +57,11 @@ module _ (l : LaneState) (m : ℕ) (o : LaneMap) where
       let t : TagLimits = limits_of l o in
       let segments : List Segment = segmentation t (placed_pieces t chunks (as_pages pages)) in
       by (nat_le (length segments) t.nsegments)
-      (record { lane = loaded m o at x (tag_placed t chunks (as_pages pages)) segments pages l; answer = Segments segments })
+      (record {
+        lane = loaded m o at x (tag_placed t chunks (as_pages pages)) segments pages l;
+        answer =
+            Segments segments;
+      })
       (record { lane = unpaged m o pages l; answer = Refused EFBIG }) (record { script = refl; due = refl })
       (record { script = refl; due = refl })
     where

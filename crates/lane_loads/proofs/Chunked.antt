@@ -18,9 +18,9 @@ use Rattle.busdma_machine.specs.Room.{Roomy}
 use Rattle.dma_map.specs.declared.room.LoadRoom.{LoadRoom}
 use Rattle.busdma_rules.specs.Memory.Bios.{is_rounded}
 use Rattle.busdma_rules.specs.Memory.Translation.{Translation}
-use Rattle.phys_memory.specs.Vector.{IfAll, spans_stream, walk_unless}
+use Rattle.phys_memory.specs.VectorStreams.{IfAll, spans_stream, walk_unless}
 use Rattle.busdma_rules.specs.Memory.Vectors.{entries_of}
-use Rattle.phys_memory.proofs.Vectors.{walk_stream}
+use Rattle.phys_memory.proofs.VectorLaws.{walk_stream}
 use Rattle.busdma_rules.specs.Segments.Building.{placed_pieces}
 use Rattle.busdma_rules.specs.Segments.Chunks.{chunks_of}
 use Rattle.busdma_rules.specs.Segments.Segmentation.{segmentation}

@@ -16,7 +16,7 @@ use Rattle.busdma_machine.specs.Bounce.AccountStep.{as_pages}
 use Rattle.busdma_machine.specs.Machine.Entry.{entries_addresses}
 use Rattle.busdma_machine.specs.Runs.{byte_count}
 use Rattle.busdma_machine.specs.Tags.TagFlags.{keep_pg_offset}
-use Rattle.busdma_base.specs.Scenarios.Queues.{queued_items as queued}
+use Rattle.busdma_base.specs.Scenarios.Queues.{queued_items}
 use Rattle.busdma_rules.specs.Lending.Loans.{new_loan}
 use Rattle.busdma_rules.specs.Iommu.Device.{device_chunk, device_chunks, load_frames}
 use Rattle.busdma_rules.specs.Iommu.Space.{Space, entered, first_free}
@@ -24,19 +24,19 @@ use Rattle.busdma_rules.specs.Segments.Building.{placed_pieces, tag_placed}
 use Rattle.busdma_rules.specs.Segments.Chunks.{bounced_of}
 use Rattle.busdma_rules.specs.Segments.Pieces.{chunk_pieces}
 use Rattle.busdma_rules.specs.Segments.Segmentation.{segmentation}
-use Rattle.busdma_rules.specs.Segments.Trace.{chunks_in_pages as placed}
+use Rattle.busdma_rules.specs.Segments.Trace.{chunks_in_pages}
 use Rattle.ideal_lane.specs.Loads.{Asked, are_few, device_load, finished, is_coherent, limits_of, loaded, staged}
 use Rattle.ideal_lane.specs.Loads.{taken, with_run, with_spaces}
 use Rattle.ideal_lane.specs.State.{Idle, LaneMap, LaneState, Loaded}
 use Rattle.ideal_lane.specs.Tags.{with_space}
-use Rattle.ideal_wire.proofs.LoadLaid.{device-direct}
+use Rattle.ideal_wire.proofs.Laid.LoadLaid.{device-direct}
 use Rattle.lane_loads.specs.DevicePages.{device_segments, page_for, with_frames}
 use Rattle.lane_loads.proofs.LoadSteps.{finished-few, finished-many}
 use Rattle.lane_state.proofs.Spaces.{spaces-same}
 
 -- no page changes a chunk of device addresses
 same-placed : (keep : Bool) (page at : ℕ) (es : List Entry) (pages : List Pa) →
-    placed keep (device_chunks page at es) pages ≡ device_chunks page at es
+    chunks_in_pages keep (device_chunks page at es) pages ≡ device_chunks page at es
 same-placed keep page at [] pages = refl
 same-placed keep page at (e ∷ es) pages =
     ap (λ cs. device_chunk page at e ∷ cs)
@@ -48,7 +48,8 @@ run-entered : (spaces : ℕ → Space) (k first : ℕ) (frames : List ℕ) → (
     with_run true k first frames spaces ≡ with_space k (with_frames frames (spaces k)) spaces
 run-entered spaces k first frames some free =
     λ i q. (by q (q == k) refl
-    ∙ ap (λ b. if q == k then (if b then spaces k else entered (first_free (spaces k) (length frames)) frames (spaces k))
+    ∙ ap (λ b. if q == k then (if b then spaces k else entered (first_free (spaces k) (length frames)) frames
+    (spaces k))
     else spaces q) (sym some)) i
   where
     by : (q : ℕ) (b : Bool) → (q == k) ≡ b →
@@ -146,7 +147,7 @@ module _ (m : ℕ) (o : LaneMap) (x : Asked) (l : LaneState) where
         ∙ (λ i. record {
           lane = record (staged m o (Loaded (bounced i) (built i) []) l) {
             loans = insert l.loans m (new_loan (is_coherent (get l.mems m)) (entries_addresses x.entries));
-            queue = l.queue ++ queued l.place x.items;
+            queue = l.queue ++ queued_items l.place x.items;
           };
           answer = Segments (built i);
         }))

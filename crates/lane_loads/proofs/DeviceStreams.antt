@@ -10,12 +10,13 @@ use Rattle.busdma_machine.specs.declared.machine.chunk.Entry.{Entry}
 use Rattle.busdma_machine.specs.declared.machine.chunk.Part.{Part}
 use Rattle.busdma_machine.specs.declared.report.Judged.{Judged}
 use Rattle.busdma_machine.specs.declared.report.Judged.TheVariants.{Fine, Refused}
-use Rattle.busdma_machine.specs.Machine.Entry.{HasPart, entries_of, entry_parts, extent_parts, others_of, parts_of}
+use Rattle.busdma_machine.specs.Machine.Entry.{HasPart, stream_entries, entry_parts}
+use Rattle.busdma_machine.specs.Machine.Entry.{extent_parts, others_of, parts_of}
 use Rattle.busdma_machine.specs.Machine.Spans.{bio_spans}
 use Rattle.busdma_rules.specs.Memory.Bios.{is_rounded}
-use Rattle.busdma_rules.specs.Memory.Extents.{extents_of, reached_addresses as reached}
+use Rattle.busdma_rules.specs.Memory.Extents.{extents_of, reached_addresses}
 use Rattle.busdma_rules.specs.Memory.Translation.{Translation}
-use Rattle.phys_memory.specs.Vector.{ending}
+use Rattle.phys_memory.specs.VectorStreams.{ending}
 use Rattle.busdma_rules.specs.Memory.Vectors.{with_entry}
 use Rattle.busdma_rules.specs.Memory.Vectors.{entries_of as walk_entries}
 use Rattle.busdma_rules.proofs.Memory.Extents.{begins}
@@ -30,16 +31,16 @@ others-behind r [] ps = refl
 others-behind r (e ∷ es) ps = ap (λ xs. e ∷ xs) (others-behind r es ps)
 
 entries-behind : (r : Bool) (es : List Extent) (ps : List Part) →
-    entries_of (extent_parts false r es ++ ps) ≡ entries_of ps
+    stream_entries (extent_parts false r es ++ ps) ≡ stream_entries ps
 entries-behind r [] ps = refl
 entries-behind r (e ∷ es) ps = entries-behind r es ps
 
 -- the first entry of a stream
 entry-first : (r : Bool) (es : List Extent) (ps : List Part) → 0 < length es → others_of ps ≡ [] →
-    entries_of (extent_parts true r es ++ ps) ≡ record { rounded = r; parts = es } ∷ entries_of ps
+    stream_entries (extent_parts true r es ++ ps) ≡ record { rounded = r; parts = es } ∷ stream_entries ps
 entry-first r [] ps some h = absurd (omega arith)
 entry-first r (e ∷ es) ps some h =
-    ap (λ xs. record { rounded = r; parts = e ∷ xs } ∷ entries_of (extent_parts false r es ++ ps))
+    ap (λ xs. record { rounded = r; parts = e ∷ xs } ∷ stream_entries (extent_parts false r es ++ ps))
     (others-behind r es ps ∙ ap (λ xs. es ++ xs) h ∙ append-nil es)
     ∙ ap (λ xs. record { rounded = r; parts = e ∷ es } ∷ xs) (entries-behind r es ps)
 
@@ -53,7 +54,7 @@ ends-opened : (j : Judged) → others_of (ending j) ≡ []
 ends-opened Fine = refl
 ends-opened (Refused r) = refl
 
-ends-empty : (j : Judged) → entries_of (ending j) ≡ []
+ends-empty : (j : Judged) → stream_entries (ending j) ≡ []
 ends-empty Fine = refl
 ends-empty (Refused r) = refl
 
@@ -64,10 +65,10 @@ module _ (j : Judged) where
       ap others_of (append_assoc (entry_parts e) (parts_of es) (ending j))
       ∙ opens-first e.rounded e.parts (parts_of es ++ ending j) h.0
 
-  same-entries : (es : List Entry) → AllByRecursion HasPart es → entries_of (parts_of es ++ ending j) ≡ es
+  same-entries : (es : List Entry) → AllByRecursion HasPart es → stream_entries (parts_of es ++ ending j) ≡ es
   same-entries [] h = ends-empty j
   same-entries (e ∷ es) h =
-      ap entries_of (append_assoc (entry_parts e) (parts_of es) (ending j))
+      ap stream_entries (append_assoc (entry_parts e) (parts_of es) (ending j))
       ∙ entry-first e.rounded e.parts (parts_of es ++ ending j) h.0 (none-before es h.1)
       ∙ ap (λ xs. e ∷ xs) (same-entries es h.1)
 
@@ -81,7 +82,7 @@ spans-touch : (rounded : Bool) (t : Translation) (spans : List Span) →
     AllByRecursion HasPart (walk_entries rounded t spans)
 spans-touch rounded t [] = tt
 spans-touch rounded t (s ∷ ss) =
-    let pas = reached t s.va.0 s.len in
+    let pas = reached_addresses t s.va.0 s.len in
     let others = spans-touch rounded t ss in
     entry-touches rounded pas (if nat_eq (length pas) s.len then walk_entries rounded t ss else [])
     (elim (nat_eq (length pas) s.len) as (λ b. AllByRecursion HasPart (if b then walk_entries rounded t ss else [])) [
@@ -89,7 +90,7 @@ spans-touch rounded t (s ∷ ss) =
       | false ↦ tt
     ])
 
-pub stream-entries : (l : LaneState) (b : Bio) → entries_of (load_stream l b) ≡ load_entries l b
+pub stream-entries : (l : LaneState) (b : Bio) → stream_entries (load_stream l b) ≡ load_entries l b
 stream-entries l b =
     same-entries (bio_reached l b) (load_entries l b)
     (spans-touch (is_rounded b) (load_translation l b) (bio_spans b))

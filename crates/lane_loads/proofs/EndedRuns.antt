@@ -1,12 +1,14 @@
 -- The run of a load of an IOMMU tag's map is live; and what a call that ends it leaves of a driver.
 use Rattle.std.proofs.Common.{◌≡◌, ◌⊎◌, ◌||◌, ◌==◌, ℕ, zero, suc, true, false, List, [], ◌∷◌, Option, Some, None}
-use Rattle.std.proofs.Common.{refl, sym, ap, ◌∙◌, ◌≤◌, Bool, IfSome, slice_get, is_some, length, unwrap_or, subst, arith}
+use Rattle.std.proofs.Common.{refl, sym, ap, ◌∙◌, ◌≤◌, Bool, IfSome, slice_get, is_some, length, unwrap_or, subst}
+use Rattle.std.proofs.Common.{arith}
 use Rattle.std.proofs.Props.{props}
 use mathlib.Core.Logic.{∥∥₁_elim}
 use Rattle.std.proofs.lemmas.Bool.{eq-eqb}
 use Rattle.std.specs.FinMap.{get}
 use Rattle.std.specs.List.{Contains, list_any}
-use Rattle.busdma_rules.specs.Iommu.Space.{AreRuns, DeviceRun, Space, begins_at, is_live, run_unmapped as left}
+use Rattle.busdma_rules.specs.Iommu.Space.{AreSpaceRuns, DeviceRun, Space}
+use Rattle.busdma_rules.specs.Iommu.Space.{begins_at, is_live, run_unmapped}
 use Rattle.busdma_rules.proofs.Iommu.Members.{place-in}
 use Rattle.phys_memory.specs.Memory.{wire}
 use Rattle.ideal_lane.specs.Outcomes.{is_loaded}
@@ -14,7 +16,7 @@ use Rattle.ideal_lane.specs.State.{LaneMap, no_space}
 use Rattle.ideal_lane.specs.Unloads.{first_of, segments_in}
 use Rattle.ideal_wire.specs.Mapped.{AreMapped, HasRun}
 use Rattle.ideal_wire.specs.Spaced.{AreSpaced}
-use Rattle.ideal_wire.proofs.KeptMapped.{left-none}
+use Rattle.ideal_wire.proofs.Devices.KeptMapped.{left-none}
 use Rattle.lane_state.specs.declared.holdings.Holdings.{Holdings}
 use Rattle.dma_map.specs.MapView as held
 use Rattle.lane_state.specs.declared.kept.KeptLoad.{KeptLoad}
@@ -23,7 +25,7 @@ use Rattle.lane_state.specs.Changes.{KeepsButTags, KeepsBytesHeld, KeepsPromises
 use Rattle.lane_state.specs.Covered.{pages_due}
 use Rattle.lane_state.specs.Held.{devices_of}
 use Rattle.lane_state.specs.Ideal.{ideal_of}
-use Rattle.lane_state.specs.Kept.{space_of, stage_of, tag_of}
+use Rattle.lane_state.specs.Kept.{space_of, kept_stage, tag_of}
 use Rattle.lane_state.proofs.MapValues.{image-some}
 use Rattle.lane_state.proofs.Spaces.{device-of}
 
@@ -72,18 +74,18 @@ module _ (h : Holdings) (m : ℕ) (o : LaneMap) (there : get (ideal_of h).maps m
 
 -- no run begins at page 0
 pub none-ends : (h : Holdings) (k : ℕ) → AreSpaced (ideal_of h) →
-    left 0 ((ideal_of h).spaces k) ≡ (ideal_of h).spaces k
+    run_unmapped 0 ((ideal_of h).spaces k) ≡ (ideal_of h).spaces k
 none-ends h k spaced = by (get h.tags.map k) refl
   where
     spaced-at : (t : KeptTag) (x : Option Space) → get h.tags.map k ≡ Some t → t.space ≡ x →
-        left 0 (unwrap_or x no_space) ≡ unwrap_or x no_space
+        run_unmapped 0 (unwrap_or x no_space) ≡ unwrap_or x no_space
     spaced-at t None found e = refl
     spaced-at t (Some s) found e =
         let here : (ideal_of h).spaces k ≡ s = ap space_of found ∙ ap (λ x. unwrap_or x no_space) e in
-        left-none s (subst (λ x. AreRuns 1 x.pages x.runs) here
+        left-none s (subst (λ x. AreSpaceRuns 1 x.pages x.runs) here
         (spaced.each k (tag_of t) (image-some tag_of h.tags.map k t found) (ap is_some e)).runs)
 
-    by : (t : Option KeptTag) → get h.tags.map k ≡ t → left 0 (space_of t) ≡ space_of t
+    by : (t : Option KeptTag) → get h.tags.map k ≡ t → run_unmapped 0 (space_of t) ≡ space_of t
     by None found = refl
     by (Some t) found = spaced-at t t.space found refl
 
@@ -103,7 +105,7 @@ module _ (h k n : Holdings) (rest : KeepsButTags h k) where
       omega (arith, kept, due, promised)
 
 -- the segments of a map in this state
-pub segments-are : (s : held.Stage KeptLoad) → segments_in (stage_of s) ≡ held.segments_of s
+pub segments-are : (s : held.HeldStage KeptLoad) → segments_in (kept_stage s) ≡ held.segments_of s
 segments-are held.idle = refl
 segments-are (held.waiting load_at callback room) = refl
 segments-are (held.loaded bounced segments pages) = refl

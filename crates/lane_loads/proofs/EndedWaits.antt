@@ -24,7 +24,7 @@ use Rattle.lane_state.specs.SmallLoads.{HasSmallLoads, bytes_ahead}
 use Rattle.lane_state.specs.Changes.{KeepsButMaps, KeepsBytesBut}
 use Rattle.lane_state.specs.Covered.{is_idle_map, pages_due}
 use Rattle.lane_state.specs.Ideal.{given, ideal_of}
-use Rattle.lane_state.specs.Kept.{map_of, stage_of, waits_of}
+use Rattle.lane_state.specs.Kept.{map_of, kept_stage, waits_of}
 use Rattle.lane_state.specs.Loading.{AreItsFirst, HasRoomForAny, IsLoadable, bio_chunks, bio_of, bio_reached}
 use Rattle.lane_state.specs.Loading.{load_loan, map_chunks}
 use Rattle.lane_loads.proofs.Asked.{plain-chunks}
@@ -65,7 +65,7 @@ module _ (h k : Holdings) (m at : ℕ) (callback : KeptLoad) (room : LoadRoom)
   w = waits_of at callback
 
   waits : (map_of o).stage ≡ Waiting w
-  waits = ap stage_of kept.2
+  waits = ap kept_stage kept.2
 
   pub ends-stands : Stands l → Stands (ideal_of k)
   ends-stands = taken-stands h k m o kept.1 load (maps o kept.1) rest

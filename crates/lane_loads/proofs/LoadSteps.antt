@@ -14,7 +14,7 @@ use Rattle.busdma_machine.specs.declared.machine.address.Segment.{Segment}
 use Rattle.busdma_machine.specs.declared.machine.chunk.Chunk.{Chunk}
 use Rattle.busdma_machine.specs.declared.tags.tag.TagLimits.{TagLimits}
 use Rattle.busdma_machine.specs.Bounce.AccountStep.{as_pages}
-use Rattle.busdma_rules.specs.Lending.Syncing.{lost_by_forgetting}
+use Rattle.busdma_rules.specs.Lending.SyncEffects.{lost_by_forgetting}
 use Rattle.busdma_rules.specs.Lending.Loans.{Loan, addresses_of, loan_of, new_loan, no_loan, to_write}
 use Rattle.busdma_rules.specs.Lending.Loans.{unlent_positions}
 use Rattle.ideal_lane.proofs.Lookups.{get_put, get_cut, put_same}
@@ -23,7 +23,7 @@ use Rattle.busdma_rules.specs.Segments.Segmentation.{segmentation}
 use Rattle.ideal_lane.specs.IdealMemory.{forgotten}
 use Rattle.ideal_lane.specs.Loads.{Asked, emptied, finished, limits_of, loaded, staged, unpaged}
 use Rattle.ideal_lane.specs.State.{LaneMap, LaneState, Loaded}
-use Rattle.ideal_lane.specs.Unloads.{loan_forgotten as unlent}
+use Rattle.ideal_lane.specs.Unloads.{loan_forgotten}
 
 module _ (m : ℕ) (o : LaneMap) (load_at : ℕ) (x : Asked) (chunks : List Chunk) (pages : List ℕ) (l : LaneState) where
   abbrev t : TagLimits
@@ -82,7 +82,7 @@ nothing-lost (a ∷ bytes) = nothing-lost bytes
 pub stored-ended : (m : ℕ) (o : LaneMap) (bounced : List Chunk) (segments : List Segment) (pages : List ℕ)
     (coherent : Bool) (bytes : List ℕ) (l : LaneState) → get l.loans m ≡ None →
     (let stage = Loaded bounced segments pages in
-    unpaged m (record o { tried = true; stage = stage }) pages (unlent m (record (staged m o stage l) {
+    unpaged m (record o { tried = true; stage = stage }) pages (loan_forgotten m (record (staged m o stage l) {
       loans = insert l.loans m (new_loan coherent bytes);
     })) ≡ unpaged m o pages l)
 stored-ended m o bounced segments pages coherent bytes l none =

@@ -9,12 +9,12 @@ use Rattle.std.specs.FinMap.{FinMap, get, insert, contains_key, entries, get-ent
 use Rattle.busdma_machine.specs.declared.machine.chunk.Chunk.{Chunk}
 use Rattle.lane_tables.specs.declared.queued.QueuedPage.{QueuedPage}
 use Rattle.busdma_rules.specs.Lending.Loans.{Loan, Loans, new_loan, unlent_positions as unlent}
-use Rattle.phys_memory.specs.Memory.{Memory}
+use Rattle.phys_memory.specs.Memory.{FrameMemory}
 use Rattle.ideal_lane.proofs.Lookups.{get_put, mapped}
 use Rattle.ideal_lane.proofs.Weights.{weigh-put}
 use Rattle.ideal_wire.specs.Traces.{bus_at}
 use Rattle.lane_state.specs.declared.kept.KeptMap.{KeptMap}
-use Rattle.lane_state.specs.Covered.{has_load, is_returning, is_tried, lends_pages, pages_due}
+use Rattle.lane_state.specs.Covered.{has_load, is_covered_returning, is_tried, lends_pages, pages_due}
 use Rattle.lane_state.specs.Held.{byte_among, content_of, held, lent_bus}
 use Rattle.lane_state.specs.Kept.{Device, due_of}
 use Rattle.lane_state.proofs.Bytes.{byte-apart, byte-put}
@@ -27,7 +27,7 @@ module _ (maps : FinMap nat_cmp KeptMap) (loans : Loans) (returns : List QueuedP
   -- an idle map has another stage
   pub maps-staged : (others : Loans) →
       ((q : ℕ) → contains_key others q ≡ cond (q == k) (has_load (Some v)) (contains_key loans q)) →
-      lends_pages (Some v) ≡ false → is_returning (Some v) ≡ false → is_tried (Some v) ≡ true →
+      lends_pages (Some v) ≡ false → is_covered_returning (Some v) ≡ false → is_tried (Some v) ≡ true →
       pages_due maps + due_of v ≤ owed → AreMaps (insert maps k v) others returns owed
   maps-staged others has kept still tried fits =
       let weight : pages_due (insert maps k v) + due_of o ≡ pages_due maps + due_of v = weigh-put due_of maps k o v
@@ -38,7 +38,8 @@ module _ (maps : FinMap nat_cmp KeptMap) (loans : Loans) (returns : List QueuedP
         unlent = λ q. told-put lends_pages maps k v (kept ∙ sym (are.unlent k)) q ∙ are.unlent q;
         promised = omega (arith, weight, idle.undue, fits);
         returning = returns-alike maps (insert maps k v) returns
-            (told-put is_returning maps k v (still ∙ sym (ap is_returning there ∙ idle.still))) are.returning;
+            (told-put is_covered_returning maps k v (still ∙ sym (ap is_covered_returning there ∙ idle.still)))
+            are.returning;
         tried = λ q. told-put is_tried maps k v (tried ∙ sym (are.tried k)) q ∙ are.tried q;
       }
     where
@@ -80,7 +81,7 @@ unlent-all cs i (b ∷ bytes) a = by (b == a) (unlent-all cs (i + 1) bytes a)
     by false h = h
 
 -- a map comes with a loan that lends nothing: no byte of the ideal memory changes
-pub held-loaded : (bytes : FinMap nat_cmp Bool) (loans : Loans) (m : Memory) (d e : ℕ → Device) (k : ℕ)
+pub held-loaded : (bytes : FinMap nat_cmp Bool) (loans : Loans) (m : FrameMemory) (d e : ℕ → Device) (k : ℕ)
     (coherent : Bool) (pas : List ℕ) → get loans k ≡ None → ((q : ℕ) → (k == q) ≡ false → e q ≡ d q) →
     held bytes (insert loans k (new_loan coherent pas)) e m ≡ held bytes loans d m
 held-loaded bytes loans m d e k coherent pas none same =

@@ -18,7 +18,7 @@ use Rattle.busdma_machine.specs.Runs.{run_of}
 use Rattle.busdma_machine.specs.Tags.TagFlags.{keep_pg_offset}
 use Rattle.dma_map.specs.declared.room.LoadRoom.{LoadRoom}
 use Rattle.loan_table.proofs.Judgement.{length-run_of}
-use Rattle.memory_load.specs.MemoryLoad.{run_chunks, run_entries, run_pieces, run_segments}
+use Rattle.memory_load.specs.MemoryLoad.{run_chunks, run_entries, memory_pieces, run_segments}
 use Rattle.memory_load.proofs.Unbounced.{none_bounced, stay_placed, unbounced}
 use Rattle.busdma_rules.specs.Memory.Vectors.{with_entry}
 use Rattle.busdma_rules.specs.Segments.Building.{placed_pieces, tag_placed}
@@ -31,9 +31,10 @@ use Rattle.ideal_lane.specs.Standing.{Stands}
 use Rattle.ideal_lane.specs.State.{LaneMap, LaneMemory, LaneState}
 use Rattle.ideal_wire.specs.Laid.{AreLaid}
 use Rattle.ideal_wire.specs.Machine.{IsInMachine}
-use Rattle.ideal_wire.proofs.MemoryLoads.{memory-bytes}
-use Rattle.ideal_wire.proofs.Reaching.{each-byte}
-use Rattle.lane_state.specs.Loading.{AreFirst, AreItsFirst, HasRoomFor, HasRoomForAny, IsFilled, IsOverfull, IsWanted}
+use Rattle.ideal_wire.proofs.Loads.MemoryLoads.{memory-bytes}
+use Rattle.ideal_wire.proofs.Loads.Reaching.{each-byte}
+use Rattle.lane_state.specs.Loading.{AreFirstEntries, AreItsFirst, HasRoomFor}
+use Rattle.lane_state.specs.Loading.{HasRoomForAny, IsFilled, IsOverfull, IsWanted}
 use Rattle.lane_state.specs.Loading.{bio_bytes, map_chunks}
 
 -- ---- its bytes
@@ -108,7 +109,7 @@ module _ (t : TagLimits) (first len : ℕ) where
   run-need : need_of cs ≡ 0
   run-need = ap length (none_bounced cs (unbounced t 0 (run_entries first len)))
 
-  run-pieces : (pages : List Pa) → placed_pieces t cs pages ≡ run_pieces t first len
+  run-pieces : (pages : List Pa) → placed_pieces t cs pages ≡ memory_pieces t first len
   run-pieces pages = ap (chunk_pieces t) (stay pages ∙ sym (stay []))
 
   run-bounced : (pages : List Pa) → bounced_of (tag_placed t cs pages) ≡ []
@@ -130,7 +131,7 @@ module _ (t : TagLimits) (first len : ℕ) where
   }
 
 module _ (l : LaneState) (m : ℕ) (o : LaneMap) (b : Bio) (x : LaneMemory) (found : get l.mems m ≡ Some x)
-    (first : AreFirst l x b) (t : TagLimits) (limits : limits_of l o ≡ t) where
+    (first : AreFirstEntries l x b) (t : TagLimits) (limits : limits_of l o ≡ t) where
   -- the chunks of the load are the chunks of the memory's run
   pub own-chunks : map_chunks l m o b ≡ run_chunks t x.first (bio_bytes b)
   own-chunks =
@@ -140,7 +141,7 @@ module _ (l : LaneState) (m : ℕ) (o : LaneMap) (b : Bio) (x : LaneMemory) (fou
 
   -- the load needs no page, and room for as many segments as the run has pieces
   pub own-wanted : bio_bytes b ≤ t.maxsize → (room : ℕ) →
-      min (length (run_pieces t x.first (bio_bytes b))) t.nsegments ≤ room →
+      min (length (memory_pieces t x.first (bio_bytes b))) t.nsegments ≤ room →
       IsWanted (limits_of l o) (map_chunks l m o b) (bio_bytes b) 0 room
   own-wanted short room enough =
       subst (λ (p : TagLimits × List Chunk). IsWanted p.0 p.1 (bio_bytes b) 0 room)

@@ -18,8 +18,8 @@ use Rattle.lane_tables.specs.Queues.{queued_pages}
 use Rattle.ideal_lane.specs.Loads.{emptied, unpaged}
 use Rattle.ideal_lane.specs.Outcomes.{gives, is_idle, is_loaded}
 use Rattle.ideal_lane.specs.State.{LaneState, LaneMap, Stage, Idle, Waiting, Loaded, Returning}
-use Rattle.ideal_lane.specs.Unloads.{unload, loan_forgotten as unlent, unmapped, pages_of}
-use Rattle.lane_state.specs.Kept.{stage_of, return_of}
+use Rattle.ideal_lane.specs.Unloads.{unload, loan_forgotten, unmapped, pages_of}
+use Rattle.lane_state.specs.Kept.{kept_stage, return_of}
 
 module _ (l : LaneState) (m : ℕ) where
   -- the map is not there, or is not loaded, or is
@@ -32,12 +32,12 @@ module _ (l : LaneState) (m : ℕ) where
   unload-unloaded o there off = rw (there, off) refl
 
   pub unload-done : (o : LaneMap) → get l.maps m ≡ Some o → is_loaded o.stage ≡ true →
-      unload m l ≡ gives (unpaged m o (pages_of o.stage) (unlent m (unmapped o l))) answer.Done
+      unload m l ≡ gives (unpaged m o (pages_of o.stage) (loan_forgotten m (unmapped o l))) answer.Done
   unload-done o there on = rw (there, on) refl
 
 -- the pages of a loaded map
-pub pages-are : (s : held.Stage KeptLoad) (p : RoomyPages) → held.pages_of s ≡ Some p →
-    pages_of (stage_of s) ≡ page_addresses p.items
+pub pages-are : (s : held.HeldStage KeptLoad) (p : RoomyPages) → held.held_pages_of s ≡ Some p →
+    pages_of (kept_stage s) ≡ page_addresses p.items
 pages-are held.idle p h = absurd (cc)
 pages-are (held.waiting load_at callback room) p h = absurd (cc)
 pages-are (held.loaded bounced segments pages) p h =
@@ -47,7 +47,7 @@ pages-are held.returning p h = absurd (cc)
 
 -- the stage of a map that gave its pages away
 pub left-is : (pages : List FrameBytes) →
-    stage_of (held.left_by pages) ≡ emptied (page_addresses pages)
+    kept_stage (held.left_by pages) ≡ emptied (page_addresses pages)
 left-is [] = refl
 left-is (p ∷ pages) = refl
 

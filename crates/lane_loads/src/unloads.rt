@@ -13,7 +13,7 @@ ghost use Rattle.ideal_wire.specs.Mapped.{AreMapped};
 ghost use Rattle.ideal_wire.specs.Spaced.{AreSpaced};
 ghost use Rattle.lane_state.specs.declared.kept.KeptTag.{KeptTag};
 ghost use Rattle.lane_state.specs.Covered.{has_load};
-ghost use Rattle.lane_state.specs.Kept.{device_of, pages_in};
+ghost use Rattle.lane_state.specs.Kept.{device_of, kept_pages_in};
 ghost use Rattle.lane_state.specs.Changes.{KeepsButTags, KeepsBytesBut, KeepsBytesHeld, KeepsPromises};
 ghost use Rattle.lane_state.specs.Ideal.{given, ideal_of};
 
@@ -110,8 +110,8 @@ pub(crate) fn end_load(holdings: &mut Holdings<'_>, map: u32)
     ensures place { holdings.new.agenda.place ≡ holdings.old.agenda.place }
     ensures length { holdings.new.agenda.length ≡ holdings.old.agenda.length }
     ensures room { holdings.new.agenda.room ≡ holdings.old.agenda.room }
-    ensures returned { pages_in holdings.new.agenda.returns
-        ≡ pages_in holdings.old.agenda.returns ++ (device_of (get holdings.old.maps.map map)).pages }
+    ensures returned { kept_pages_in holdings.new.agenda.returns
+        ≡ kept_pages_in holdings.old.agenda.returns ++ (device_of (get holdings.old.maps.map map)).pages }
     ensures spare { holdings.old.loans.spare ≤ holdings.new.loans.spare }
 {
     let id = holdings.map_id(map);

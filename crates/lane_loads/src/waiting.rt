@@ -14,7 +14,7 @@ ghost use Rattle.lane_state.specs.Kept.{waits_of};
 ghost use Rattle.lane_state.specs.Covered.{is_idle_map, pages_due};
 ghost use Rattle.lane_state.specs.Loading.{AreOfMap, HasNeed, HasRoomForAny, IsLoadable, bio_chunks, bio_of, bio_reached};
 ghost use Rattle.lane_state.specs.Loading.{load_loan};
-ghost use Rattle.lane_state.specs.Awaiting.{IsAwaiting, limits_at};
+ghost use Rattle.lane_state.specs.Awaiting.{IsAwaitingNow as IsAwaiting, limits_at};
 ghost use Rattle.lane_state.specs.Changes.{KeepsAgenda, KeepsBytes, KeepsBytesBut, KeepsState};
 ghost use Rattle.lane_state.specs.Ideal.{given, ideal_of};
 

@@ -1,7 +1,7 @@
 //! The logs of drivers, and the one journal to which they and the history are merged.
 
 ghost use Rattle.std.specs.Prelude.{◌≡◌, ◌++◌, ◌<◌, All, IfOk, OnOk, length, map};
-ghost use Rattle.ideal_runs.specs.Merged.{all_entries, entries_of, logged_entry, merged, past_hold, through_hold};
+ghost use Rattle.ideal_runs.specs.Merged.{all_entries, log_entries, logged_entry, merged, past_hold, through_hold};
 
 use busdma_base::{HoldEntry, JournalEntry};
 use ideal_runs::LoggedStep;
@@ -82,7 +82,7 @@ fn take_all(logs: Vec<LaneLog>, entries: &mut Vec<JournalEntry>) -> Result<(), A
 
 /// Appends the steps of a log to a journal.
 fn take_log(log: LaneLog, entries: &mut Vec<JournalEntry>) -> Result<(), AllocError>
-    ensures { OnOk result (entries.new.items ≡ entries.old.items ++ entries_of log.items) }
+    ensures { OnOk result (entries.new.items ≡ entries.old.items ++ log_entries log.items) }
 {
     for step in log {
         entries.push(entry_of(step))?;

@@ -16,14 +16,15 @@ use Rattle.loan_table.specs.Table.{AreNew, set_all}
 use Rattle.memory_pages.specs.Placed.{AreAtTheirFrames, Comes, IsWithout, is_byte, is_frame, is_page, row_of}
 use Rattle.memory_pages.proofs.Coming.{no_row, still_placed}
 use Rattle.memory_pages.proofs.Runs.{in_run_page}
-use Rattle.phys_memory.specs.Memory.{Memory, has_frame, physical, wire}
+use Rattle.phys_memory.specs.Memory.{FrameMemory, memory_has_frame}
+use Rattle.phys_memory.specs.Memory.{memory_physical, wire}
 use Rattle.ideal_lane.specs.IdealMemory.{Content, Known, Unknown, joined}
 use Rattle.ideal_lane.specs.Places.{is_in_memory, physical_of}
 use Rattle.ideal_lane.specs.State.{LaneState}
 use Rattle.ideal_lane.proofs.Lookups.{get_put}
 use Rattle.ideal_wire.specs.NewRuns.{IsNewRun}
-use Rattle.ideal_wire.proofs.MemoryLoads.{no-page}
-use Rattle.ideal_wire.proofs.Positions.{found_one}
+use Rattle.ideal_wire.proofs.Loads.MemoryLoads.{no-page}
+use Rattle.ideal_wire.proofs.Laid.Positions.{found_one}
 use Rattle.lane_state.specs.declared.holdings.Holdings.{Holdings}
 use Rattle.lane_state.specs.declared.kept.KeptMemory.{KeptMemory}
 use Rattle.lane_state.specs.Covered.{AreStanding, HasFramesOf, IsCovered, Reaches, reached_in}
@@ -46,7 +47,7 @@ module _ (h : Holdings) (wired : IsWired h) (first n : ℕ) (new : IsNewRun (ide
   pub frames-new : IsWithout h.memory.memory first n
   frames-new f inside =
       let number : 4096 * f / 4096 ≡ f = omega arith in
-      ap (has_frame h.memory.memory) (sym number) ∙ own-frame h wired (4096 * f) ∙ new.fresh (4096 * f) inside
+      ap (memory_has_frame h.memory.memory) (sym number) ∙ own-frame h wired (4096 * f) ∙ new.fresh (4096 * f) inside
 
   -- none of the bytes of the frames is there
   pub marks-new : AreNew h.loans.bytes (run_of first (4096 * n))
@@ -61,7 +62,7 @@ module _ (h : Holdings) (wired : IsWired h) (first n : ℕ) (new : IsNewRun (ide
   pub run-low : first + 4096 * n ≤ 2 ^ 42
   run-low = let low = wired.machine.numbered in let below = new.below in omega arith
 
-  module _ (len : ℕ) (m : Memory) (comes : Comes h.memory.memory m first n len) where
+  module _ (len : ℕ) (m : FrameMemory) (comes : Comes h.memory.memory m first n len) where
     -- ---- what holds of the driver's parts
 
     pub joined-framed : HasFramesOf h.pages.now m
@@ -86,7 +87,7 @@ module _ (h : Holdings) (wired : IsWired h) (first n : ℕ) (new : IsNewRun (ide
       joined-covered a =
           ap is_some (marks a) ∙ some-or (in_run first n a) zero (get h.loans.bytes a)
           ∙ ap (λ b. in_run first n a || b) (h.covered a)
-          ∙ ap (λ b. b || has_frame h.memory.memory (a / 4096)) (sym (in_run_page first n a (λ some. new.whole)))
+          ∙ ap (λ b. b || memory_has_frame h.memory.memory (a / 4096)) (sym (in_run_page first n a (λ some. new.whole)))
           ∙ sym (comes.frames (a / 4096))
 
       module _ (others : (a : ℕ) → in_run first n a ≡ false → wire m a ≡ wire h.memory.memory a)
@@ -180,8 +181,8 @@ module _ (h : Holdings) (wired : IsWired h) (first n : ℕ) (new : IsNewRun (ide
                   absurd (cc)
               out row false e = refl
 
-      module _ (reached : (va : ℕ) → physical m va
-          ≡ (if is_byte first len va then Some (va - pages_end) else physical h.memory.memory va)) where
+      module _ (reached : (va : ℕ) → memory_physical m va
+          ≡ (if is_byte first len va then Some (va - pages_end) else memory_physical h.memory.memory va)) where
         pub joined-reaches : Reaches h.pages.now (insert h.memories.map place kept) m
         joined-reaches va = reached va ∙ by (is_byte first len va) refl
           where
@@ -196,7 +197,7 @@ module _ (h : Holdings) (wired : IsWired h) (first n : ℕ) (new : IsNewRun (ide
                 ∙ ap (λ b. b || list_any (λ e. is_in_memory va (memory_of e.1)) (entries h.memories.map)) same-byte
 
             by : (b : Bool) → is_byte first len va ≡ b →
-                (if b then Some (va - pages_end) else physical h.memory.memory va)
+                (if b then Some (va - pages_end) else memory_physical h.memory.memory va)
                 ≡ reached_in (physical_in h.pages.now va) (insert h.memories.map place kept) va
             by true e =
                 sym (ap (λ o. reached_in o (insert h.memories.map place kept) va)

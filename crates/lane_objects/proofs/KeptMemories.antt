@@ -10,9 +10,9 @@ use Rattle.busdma_machine.specs.Machine.VirtualPages.{pages_end}
 use Rattle.memory_pages.specs.Placed.{is_byte}
 use Rattle.memory_pages.proofs.Runs.{same_tests}
 use Rattle.ideal_lane.proofs.Lookups.{get_cut, get_put}
-use Rattle.ideal_wire.proofs.Lent.{any_entry}
-use Rattle.ideal_wire.proofs.SyncedPositions.{decided}
-use Rattle.lane_state.proofs.Changing.{none-pass}
+use Rattle.ideal_wire.proofs.Faithful.Lent.{any_entry}
+use Rattle.ideal_wire.proofs.Faithful.SyncedPositions.{decided}
+use Rattle.lane_state.proofs.ChangeLaws.{none-pass}
 
 -- a byte of a memory is at the end of the pages or above
 pub byte-high : (first len va : ℕ) → is_byte first len va ≡ true → pages_end ≤ va

@@ -6,7 +6,7 @@ use Rattle.busdma_base.specs.declared.journals.answer.Answer.TheVariants as answ
 use Rattle.busdma_machine.specs.declared.report.Errno.TheVariants.{EBUSY}
 use Rattle.busdma_machine.specs.declared.report.ReportName.TheVariants.{Absent, NotDeferred}
 use Rattle.ideal_lane.specs.Asking.{Asks}
-use Rattle.ideal_lane.specs.Maps.{bounces, map, map_destroy, await, with_map, without_map, map_by_reply as created}
+use Rattle.ideal_lane.specs.Maps.{bounces, map, map_destroy, await, with_map, without_map, map_by_reply}
 use Rattle.ideal_lane.specs.Outcomes.{gives, is_idle}
 use Rattle.ideal_lane.specs.State.{LaneState, LaneTag, LaneMap, named}
 
@@ -21,7 +21,7 @@ module _ (l : LaneState) (t : ℕ) where
   map-plain o there off = rw (there, off) refl
 
   pub map-created : (o : LaneTag) → get l.tags t ≡ Some o → bounces l.maxmem o ≡ true →
-      map t l ≡ Asks (CreateMap (named l l.place) o.limits o.first_done) (created t o l)
+      map t l ≡ Asks (CreateMap (named l l.place) o.limits o.first_done) (map_by_reply t o l)
   map-created o there on = rw (there, on) refl
 
 module _ (l : LaneState) (m : ℕ) where

@@ -13,8 +13,8 @@ use Rattle.busdma_machine.specs.declared.report.ReportName.TheVariants.{Absent}
 use Rattle.busdma_machine.specs.declared.name.MapId.{MapId}
 use Rattle.busdma_machine.specs.declared.tags.tag.TagLimits.{TagLimits}
 use Rattle.busdma_machine.specs.Bounce.Account.{Account}
-use Rattle.busdma_machine.specs.Bounce.AccountStep.{memory_placed as placed}
-use Rattle.busdma_machine.specs.Bounce.Door.{ArePagesOf, Holds, Seen, account}
+use Rattle.busdma_machine.specs.Bounce.AccountStep.{memory_placed}
+use Rattle.busdma_machine.specs.Bounce.Door.{ArePagesOf, HoldsAtDoor, Seen, account}
 use Rattle.busdma_machine.specs.Bounce.EachFrame.{LiesBelowMaxmem}
 use Rattle.busdma_machine.specs.Bounce.MemoryRuns.{frames_for, frames_from, in_run, lowest_run}
 use Rattle.busdma_machine.proofs.Accounts.EachFrame.{below-history, whole-history}
@@ -30,7 +30,7 @@ use Rattle.ideal_lane.specs.State.{LaneMap, LaneMemory, LaneState, LaneTag, name
 use Rattle.ideal_lane.specs.View.{view_of}
 use Rattle.ideal_wire.specs.Laid.{AreLaid}
 use Rattle.ideal_wire.specs.NewRuns.{BringsNew}
-use Rattle.ideal_wire.proofs.NewFrames.{given-new}
+use Rattle.ideal_wire.proofs.Apart.NewFrames.{given-new}
 use Rattle.lane_objects.specs.Making.{ideal_memory}
 use Rattle.lane_state.specs.Served.{IsServed}
 
@@ -80,7 +80,7 @@ module _ (l : LaneState) (m : ℕ) where
 
 -- frames are new to a driver that the account served
 pub holds-new : (l : LaneState) (d e : Seen) (c : HubCall) (r : HubReply) → IsServed l d → AreLaid l →
-    Holds d l.id c r e → BringsNew l r
+    HoldsAtDoor d l.id c r e → BringsNew l r
 holds-new l d e c r served laid holds =
     let p = holds.passes in
     let b : Seen = holds.between in
@@ -92,12 +92,12 @@ holds-new l d e c r served laid holds =
 
 -- the frames are as many as the memory has
 placed-count : (m : MapId) (n first count : ℕ) (o : Option ℕ) (a : Account) →
-    Run (record { 0 = first }) count ≡ (placed m n o a).reply → count ≡ n
+    Run (record { 0 = first }) count ≡ (memory_placed m n o a).reply → count ≡ n
 placed-count m n first count None a e = absurd (cc)
 placed-count m n first count (Some f) a e = cc
 
 pub alloc-count : (d e : Seen) (lane : ℕ) (m : MapId) (t : TagLimits) (first count : ℕ) →
-    Holds d lane (MemAlloc m t) (Run (record { 0 = first }) count) e → count ≡ frames_for t.maxsize
+    HoldsAtDoor d lane (MemAlloc m t) (Run (record { 0 = first }) count) e → count ≡ frames_for t.maxsize
 alloc-count d e lane m t first count holds =
     placed-count m (frames_for t.maxsize) first count
     (lowest_run t.maxsize t.boundary t.lowaddr.0 (account holds.between).bank) (account holds.between) holds.reply

@@ -22,7 +22,8 @@ use Rattle.memory_pages.specs.Placed.{AreAtTheirFrames, Goes, HasFrames, is_page
 use Rattle.memory_pages.proofs.Going.{left_placed}
 use Rattle.memory_pages.proofs.Runs.{in_run_hi, in_run_is, in_run_lo, in_run_page, same_tests}
 use Rattle.phys_memory.specs.declared.reach.Reach.{Reach}
-use Rattle.phys_memory.specs.Memory.{Memory, has_frame, physical, wire}
+use Rattle.phys_memory.specs.Memory.{FrameMemory, memory_has_frame}
+use Rattle.phys_memory.specs.Memory.{memory_physical, wire}
 use Rattle.ideal_lane.specs.IdealMemory.{Known, parted}
 use Rattle.ideal_lane.specs.Places.{is_in_memory, physical_of}
 use Rattle.ideal_lane.specs.State.{LaneMemory, LaneState}
@@ -30,13 +31,13 @@ use Rattle.ideal_lane.proofs.Lookups.{get_cut}
 use Rattle.ideal_wire.specs.Centre.{IsAt}
 use Rattle.ideal_wire.specs.Laid.{HasWholeFrames, LiesIn, OfMemory, is_loadable}
 use Rattle.ideal_wire.specs.Traces.{stage_in}
-use Rattle.ideal_wire.proofs.Lent.{any_entry}
-use Rattle.ideal_wire.proofs.MemoryLoads.{no-page}
-use Rattle.ideal_wire.proofs.Placing.{load-of}
-use Rattle.ideal_wire.proofs.SyncedPositions.{decided}
+use Rattle.ideal_wire.proofs.Faithful.Lent.{any_entry}
+use Rattle.ideal_wire.proofs.Loads.MemoryLoads.{no-page}
+use Rattle.ideal_wire.proofs.Faithful.PlacedLoads.{load-of}
+use Rattle.ideal_wire.proofs.Faithful.SyncedPositions.{decided}
 use Rattle.lane_state.specs.declared.holdings.Holdings.{Holdings}
 use Rattle.lane_state.specs.declared.kept.KeptMemory.{KeptMemory}
-use Rattle.lane_state.specs.Awaiting.{is_of_map}
+use Rattle.lane_state.specs.Awaiting.{awaits_map}
 use Rattle.lane_state.specs.Covered.{AreStanding, HasFramesOf, IsCovered, Reaches, is_idle_map, reached_in}
 use Rattle.lane_state.specs.Held.{byte_among, content_of, devices_of, held}
 use Rattle.lane_state.specs.Ideal.{ideal_of}
@@ -179,7 +180,7 @@ module _ (h : Holdings) (wired : IsWired h) (mem : ℕ) (x : KeptMemory) (there 
       Free : Option Loan → Type 0
       Free o = All (λ p. is_among p.pa bytes ≡ false) (unwrap_or o no_loan).positions
 
-      out : (a : ℕ) → k ≢ mem → (o : Option KeptMemory) → get h.memories.map k ≡ o → is_of_map h.pages.now o a ≡ true →
+      out : (a : ℕ) → k ≢ mem → (o : Option KeptMemory) → get h.memories.map k ≡ o → awaits_map h.pages.now o a ≡ true →
           in_run first n a ≡ false
       out a ne None e of = page-out a of
       out a ne (Some y) e of = either (is_own h.pages.now a) refl of
@@ -198,7 +199,7 @@ module _ (h : Holdings) (wired : IsWired h) (mem : ℕ) (x : KeptMemory) (there 
 
   -- ---- what is left
 
-  module _ (m : Memory) (goes : Goes h.memory.memory m first n) where
+  module _ (m : FrameMemory) (goes : Goes h.memory.memory m first n) where
     pub parted-framed : HasFramesOf h.pages.now m
     parted-framed f own =
         ap is_some (goes.frames f ∙ ap (λ b. cond b None (get h.memory.memory.frames f))
@@ -237,8 +238,8 @@ module _ (h : Holdings) (wired : IsWired h) (mem : ℕ) (x : KeptMemory) (there 
                 absurd (false≢true (sym off ∙ in_run_is first n (4096 * v - pages_end) (omega arith) (omega arith)))
             out lo off false e = refl
 
-    module _ (reached : (va : ℕ) → physical m va
-        ≡ (if in_run (virtual_of first) n va then None else physical h.memory.memory va)) where
+    module _ (reached : (va : ℕ) → memory_physical m va
+        ≡ (if in_run (virtual_of first) n va then None else memory_physical h.memory.memory va)) where
       -- a byte of another memory is none of this one's
       other-byte : (va k : ℕ) (y : KeptMemory) → k ≢ mem → get h.memories.map k ≡ Some y →
           is_in_memory va (memory_of y) ≡ true → in_run (virtual_of first) n va ≡ false
@@ -304,7 +305,7 @@ module _ (h : Holdings) (wired : IsWired h) (mem : ℕ) (x : KeptMemory) (there 
           alike None e = ap (λ b. if b then Some (physical_of va) else None) (same-in e)
 
           by : (b : Bool) → in_run (virtual_of first) n va ≡ b →
-              (if b then None else physical h.memory.memory va)
+              (if b then None else memory_physical h.memory.memory va)
               ≡ reached_in (physical_in h.pages.now va) (remove h.memories.map mem) va
           by true e =
               let lo = in_run_lo (virtual_of first) n va e in
@@ -327,7 +328,7 @@ module _ (h : Holdings) (wired : IsWired h) (mem : ℕ) (x : KeptMemory) (there 
           (sym (in_run_page first n a (λ some. part-whole)))
           ∙ sym (ap is_some (goes.frames (a / 4096)))
         where
-          by : (b : Bool) → contains_key h.loans.bytes a ≡ has_frame h.memory.memory (a / 4096) →
+          by : (b : Bool) → contains_key h.loans.bytes a ≡ memory_has_frame h.memory.memory (a / 4096) →
               is_some (cond b None (get h.loans.bytes a))
               ≡ is_some (cond b None (get h.memory.memory.frames (a / 4096)))
           by true e = refl

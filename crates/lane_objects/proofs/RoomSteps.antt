@@ -5,7 +5,8 @@ use Rattle.lane_state.specs.declared.holdings.Holdings.{Holdings}
 use Rattle.lane_state.specs.Changes.{KeepsBesideMemory, KeepsBytes, KeepsState}
 use Rattle.lane_state.specs.Held.{devices_of, held}
 use Rattle.lane_state.specs.Ideal.{ideal_of}
-use Rattle.lane_state.specs.Kept.{map_of, memory_of, return_of, ring_of, share_of, spaces_of, tag_of}
+use Rattle.lane_state.specs.Kept.{map_of, memory_of, return_of}
+use Rattle.lane_state.specs.Kept.{kept_ring, kept_share, spaces_of, tag_of}
 use Rattle.lane_state.specs.MapValues.{map_values}
 use Rattle.lane_objects.specs.Making.{KeepsButRoom}
 
@@ -21,12 +22,12 @@ module _ (h k : Holdings) (s : KeepsButRoom h k) where
     tags = map_values tag_of (s.tags i).map;
     maps = map_values map_of (s.maps i);
     mems = map_values memory_of (s.memories i);
-    rings = map_values ring_of (s.rings i).map;
+    rings = map_values kept_ring (s.rings i).map;
     memory = held (s.loans.bytes i) (s.loans.loans i) (devices_of (s.maps i)) (s.memory i);
     loans = s.loans.loans i;
     queue = (s.agenda i).queue;
     returns = Rattle.std.proofs.Common.map return_of (s.agenda i).returns;
-    shares = share_of (s.shares i).items;
+    shares = kept_share (s.shares i).items;
     spaces = spaces_of (s.tags i).map;
   }
 

@@ -8,21 +8,21 @@ use Rattle.busdma_machine.specs.Machine.PageList.{page_address}
 use Rattle.busdma_machine.specs.Machine.Wire.{Placed, with_bytes_of}
 use Rattle.busdma_rules.specs.declared.position.Position.{Position}
 use Rattle.busdma_rules.specs.Lending.Loans.{Loan, addresses_of, lent, loan_of, no_loan, to_write}
-use Rattle.phys_memory.specs.Memory.{Memory, wire}
+use Rattle.phys_memory.specs.Memory.{FrameMemory, wire}
 use Rattle.ideal_lane.specs.State.{LaneState}
 use Rattle.ideal_lane.specs.Syncs.{bounced_in}
 use Rattle.ideal_lane.specs.Unloads.{pages_of}
 use Rattle.ideal_wire.specs.Apart.{HoldsPage}
 use Rattle.ideal_wire.specs.Centre.{IsAt, IsPlacedAt}
 use Rattle.ideal_wire.specs.Traces.{bus_at, stage_at, traces_of}
-use Rattle.ideal_wire.proofs.Buses.{placed-buffers}
-use Rattle.ideal_wire.proofs.Placing.{Lies, ItsOwn, InPage, lies-of, load-of, own-place, place-of}
-use Rattle.ideal_wire.proofs.Positions.{twin_of}
+use Rattle.ideal_wire.proofs.Faithful.Buses.{placed-buffers}
+use Rattle.ideal_wire.proofs.Faithful.PlacedLoads.{Lies, ItsOwn, InPage, lies-of, load-of, own-place, place-of}
+use Rattle.ideal_wire.proofs.Laid.Positions.{twin_of}
 use Rattle.lane_state.specs.declared.holdings.Holdings.{Holdings}
 use Rattle.lane_state.specs.Held.{byte_among, device_view, devices_of}
 use Rattle.lane_state.specs.Ideal.{ideal_of}
 use Rattle.lane_state.specs.Wire.{IsWired}
-use Rattle.lane_state.proofs.Changing.{covered-alike}
+use Rattle.lane_state.proofs.ChangeLaws.{covered-alike}
 use Rattle.lane_state.proofs.Keeping.{told-some}
 use Rattle.lane_state.proofs.Lenders.{IsLent, lent-among}
 use Rattle.lane_state.proofs.Lying.{chunks-same, pages-same}
@@ -74,7 +74,7 @@ module _ (h : Holdings) (wired : IsWired h) where
           let there = wired.laid.owned p.placed.pa (own-place l wired.laid r.key r.place p.placed p.found) in
           sym (sym none ∙ ap (λ q. is_some (l.memory q)) (sym r.same ∙ p.same) ∙ there)
 
-  module _ (m : Memory) (a : ℕ) (alike : wire m a ≡ wire h.memory.memory a) where
+  module _ (m : FrameMemory) (a : ℕ) (alike : wire m a ≡ wire h.memory.memory a) where
     -- the byte at the bus address of a position of that byte stays too
     view-steady : (k i : ℕ) (t : Placed) → IsPlacedAt (traces_of l) k i t → t.pa ≡ a →
         device_view (devices_of h.maps.map k) m t.bus ≡ device_view (devices_of h.maps.map k) h.memory.memory t.bus

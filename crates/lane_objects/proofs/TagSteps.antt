@@ -11,7 +11,7 @@ use Rattle.busdma_machine.specs.Tags.TagFlags.{allocnow}
 use Rattle.ideal_lane.specs.Asking.{Asks}
 use Rattle.ideal_lane.specs.Outcomes.{gives}
 use Rattle.ideal_lane.specs.State.{LaneState, LaneTag, no_space}
-use Rattle.ideal_lane.specs.Tags.{tag, tag_or_invalid, tag_by_reply as attached}
+use Rattle.ideal_lane.specs.Tags.{tag, tag_or_invalid, tag_by_reply}
 use Rattle.ideal_lane.specs.Tags.{with_space, with_tag, tag_destroy, has_maps}
 
 module _ (l : LaneState) where
@@ -32,7 +32,7 @@ module _ (l : LaneState) where
   -- the tag makes a first allocation, or it does not
   pub tag-grown : (o : Option TagLimits) (t : TagLimits) → o ≡ Some t →
       (could_bounce t l.maxmem && allocnow t.flags) ≡ true →
-      tag_or_invalid o l ≡ Asks (AttachTag t) (attached t l)
+      tag_or_invalid o l ≡ Asks (AttachTag t) (tag_by_reply t l)
   tag-grown o t made asks = rw (made, asks) refl
 
   pub tag-made : (o : Option TagLimits) (t : TagLimits) → o ≡ Some t →

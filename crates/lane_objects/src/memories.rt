@@ -15,7 +15,7 @@ ghost use Rattle.ideal_lane.specs.Memories as memories;
 ghost use Rattle.ideal_lane.specs.Memories.{with_memory};
 ghost use Rattle.ideal_lane.specs.Standing.{Stands};
 ghost use Rattle.ideal_wire.specs.NewRuns.{IsNewRun};
-ghost use Rattle.memory_pages.specs.Bytes.{pages_of};
+ghost use Rattle.memory_pages.specs.Bytes.{memory_pages_of};
 ghost use Rattle.lane_state.specs.declared.kept.KeptTag.{KeptTag};
 ghost use Rattle.lane_state.specs.Covered.{is_idle_map};
 ghost use Rattle.lane_state.specs.Doing.{IsAllowedBy, IsDone, IsUndone, asks};
@@ -290,7 +290,7 @@ fn part_memory(holdings: &mut Holdings<'_>, mem: u32, kept: KeptMemory, pages: &
       memory = parted (in_run kept.first.0 kept.count) (ideal_of holdings.old).memory;
     } }
     ensures pages { page_addresses pages.new.items ≡ frames_from kept.count kept.first.0 }
-    ensures filled { pages.new.items ≡ pages_of holdings.old.memory.memory (frames_from kept.count kept.first.0) }
+    ensures filled { pages.new.items ≡ memory_pages_of holdings.old.memory.memory (frames_from kept.count kept.first.0) }
     ensures bytes { KeepsBesideMemory holdings.old holdings.new }
     ensures script { holdings.new.script ≡ holdings.old.script }
     ensures agenda { holdings.new.agenda ≡ holdings.old.agenda }

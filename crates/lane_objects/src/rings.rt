@@ -7,7 +7,7 @@ ghost use Rattle.ideal_lane.specs.Rings as rings;
 ghost use Rattle.ideal_lane.specs.Rings.{fits_in, with_ring};
 ghost use Rattle.lane_state.specs.Changes.{KeepsBytes, KeepsState};
 ghost use Rattle.lane_state.specs.Ideal.{given, ideal_of};
-ghost use Rattle.lane_state.specs.Kept.{memory_of, ring_of};
+ghost use Rattle.lane_state.specs.Kept.{memory_of, kept_ring};
 
 use busdma_base::{Answer, Errno, ReportName};
 use lane_state::{Holdings, KeptMemory, KeptRing, report};
@@ -68,7 +68,7 @@ fn put_ring(holdings: &mut Holdings<'_>, ring: KeptRing)
     requires going { holdings.old.agenda.place < holdings.old.agenda.length }
     requires vacant { get holdings.old.rings.map holdings.old.agenda.place ≡ None }
     ensures done { ideal_of holdings.new
-        ≡ with_ring holdings.old.agenda.place (ring_of ring) (ideal_of holdings.old) }
+        ≡ with_ring holdings.old.agenda.place (kept_ring ring) (ideal_of holdings.old) }
     ensures bytes { KeepsBytes holdings.old holdings.new }
     ensures script { holdings.new.script ≡ holdings.old.script }
     ensures memories { holdings.new.memories ≡ holdings.old.memories }

@@ -9,7 +9,7 @@ use Rattle.busdma_machine.specs.declared.machine.address.Segment.{Segment}
 use Rattle.dma_map.specs.MapView as held
 use Rattle.loan_table.specs.Table.{buffer_of}
 use Rattle.busdma_rules.specs.declared.descriptor.Descriptor.{Descriptor}
-use Rattle.busdma_rules.specs.Rings.Ranges.{byte_count, holds, place_of}
+use Rattle.busdma_rules.specs.Rings.Ranges.{segments_byte_count, segment_holds, place_of}
 use Rattle.ideal_lane.specs.Loads.{is_device}
 use Rattle.ideal_lane.specs.Outcomes.{is_loaded}
 use Rattle.ideal_lane.specs.Rings.{is_left_out}
@@ -21,7 +21,7 @@ use Rattle.lane_state.specs.declared.kept.KeptLoad.{KeptLoad}
 use Rattle.lane_state.specs.declared.kept.KeptMap.{KeptMap}
 use Rattle.lane_state.specs.Covered.{has_load}
 use Rattle.lane_state.specs.Ideal.{ideal_of}
-use Rattle.lane_state.specs.Kept.{map_of, stage_of}
+use Rattle.lane_state.specs.Kept.{map_of, kept_stage}
 use Rattle.lane_state.specs.Wire.{IsWired}
 use Rattle.lane_state.proofs.Devices.{bytes-long}
 use Rattle.lane_state.proofs.MapValues.{image-some}
@@ -49,28 +49,29 @@ none-behind h own k o there kept =
     ∙ (or_parts (k == own) (is_device (ideal_of h) (map_of o)) kept).1
 
 -- what is found lies within the segments
-within-segments : (addr len : ℕ) (ss : List Segment) (at : ℕ) → place_of addr len ss ≡ Some at → at + len ≤ byte_count ss
+within-segments : (addr len : ℕ) (ss : List Segment) (at : ℕ) → place_of addr len ss ≡ Some at → at + len
+    ≤ segments_byte_count ss
 within-segments addr len [] at e = absurd (cc)
 within-segments addr len (s ∷ ss) at e =
-    by (λ p place. within-segments addr len ss p place) (holds addr len s) refl e
+    by (λ p place. within-segments addr len ss p place) (segment_holds addr len s) refl e
   where
     Later : Type 0
-    Later = (p : ℕ) → place_of addr len ss ≡ Some p → p + len ≤ byte_count ss
+    Later = (p : ℕ) → place_of addr len ss ≡ Some p → p + len ≤ segments_byte_count ss
 
-    all : byte_count (s ∷ ss) ≡ s.len + byte_count ss
+    all : segments_byte_count (s ∷ ss) ≡ s.len + segments_byte_count ss
     all = sum_by-cons (λ (x : Segment). x.len) s ss
 
     later : Later → (o : Option ℕ) → place_of addr len ss ≡ o → option_map (λ p. s.len + p) o ≡ Some at →
-        at + len ≤ byte_count (s ∷ ss)
+        at + len ≤ segments_byte_count (s ∷ ss)
     later f None place e = absurd (cc)
     later f (Some p) place e =
         let is : s.len + p ≡ at = cc in
-        let rest : p + len ≤ byte_count ss = f p place in
+        let rest : p + len ≤ segments_byte_count ss = f p place in
         omega (arith, all, is, rest)
 
-    by : Later → (b : Bool) → holds addr len s ≡ b →
+    by : Later → (b : Bool) → segment_holds addr len s ≡ b →
         (if b then Some (addr - s.addr.0) else option_map (λ p. s.len + p) (place_of addr len ss)) ≡ Some at →
-        at + len ≤ byte_count (s ∷ ss)
+        at + len ≤ segments_byte_count (s ∷ ss)
     by f true h e =
         let is : addr - s.addr.0 ≡ at = cc in
         let two = and_parts (nat_le s.addr.0 addr) (nat_le (addr + len) (s.addr.0 + s.len)) h in
@@ -80,7 +81,7 @@ within-segments addr len (s ∷ ss) at e =
     by f false h e = later f (place_of addr len ss) refl e
 
 -- a map without a load has no segment
-none-loaded : (s : held.Stage KeptLoad) → is_loaded (stage_of s) ≡ false → held.segments_of s ≡ []
+none-loaded : (s : held.HeldStage KeptLoad) → is_loaded (kept_stage s) ≡ false → held.segments_of s ≡ []
 none-loaded held.idle off = refl
 none-loaded (held.waiting load_at callback room) off = refl
 none-loaded (held.loaded bounced segments pages) off = absurd (cc)
@@ -89,13 +90,15 @@ none-loaded held.returning off = refl
 
 module _ (h : Holdings) (wired : IsWired h) (k : ℕ) (o : KeptMap) (there : get h.maps.map k ≡ Some o)
     (plain : is_behind (ideal_of h) k ≡ false) where
-  pub short-segments : length (buffer_of h.loans k) < 2 ^ 64 → byte_count (held.segments_of o.map.stage) < 2 ^ 64
+  pub short-segments : length (buffer_of h.loans k) < 2 ^ 64 → segments_byte_count (held.segments_of o.map.stage)
+      < 2 ^ 64
   short-segments short = by (has_load (Some o)) refl
     where
-      by : (b : Bool) → has_load (Some o) ≡ b → byte_count (held.segments_of o.map.stage) < 2 ^ 64
+      by : (b : Bool) → has_load (Some o) ≡ b → segments_byte_count (held.segments_of o.map.stage) < 2 ^ 64
       by true on = let long = bytes-long h wired k o there on plain in omega (arith, short, long)
       by false off =
-          let none : byte_count (held.segments_of o.map.stage) ≡ 0 = ap byte_count (none-loaded o.map.stage off) in
+          let none : segments_byte_count (held.segments_of o.map.stage) ≡ 0 =
+          ap segments_byte_count (none-loaded o.map.stage off) in
           omega (arith, none)
 
   module _ (d : Descriptor) (off : ℕ) (place : place_of d.addr d.len (held.segments_of o.map.stage) ≡ Some off) where

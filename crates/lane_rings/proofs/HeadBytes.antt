@@ -1,6 +1,7 @@
 -- The load of a memory's map: its bytes follow one another from the memory's first on, and none is bounced.
 use Rattle.std.proofs.Common.{◌≡◌, ℕ, zero, suc, ◌+◌, ◌/◌, ◌%◌, ◌≤◌, ◌^◌, true, false, Bool, List, [], ◌∷◌}
-use Rattle.std.proofs.Common.{◌||◌, cond, map, length, Option, Some, None, is_some, slice_get, unwrap_or, refl, sym, ap, ◌∙◌, subst}
+use Rattle.std.proofs.Common.{◌||◌, cond, map, length, Option, Some, None, is_some, slice_get, unwrap_or, refl, sym, ap}
+use Rattle.std.proofs.Common.{◌∙◌, subst}
 use Rattle.std.proofs.Common.{arith}
 use Rattle.std.proofs.lemmas.List.{append-nil, length-map}
 use Rattle.std.proofs.lemmas.Option.{slice_get-map}
@@ -19,7 +20,8 @@ use Rattle.busdma_rules.specs.Lending.Access.{dev_read_answer, dev_read_refusal,
 use Rattle.busdma_rules.specs.Lending.Loans.{addresses_of, load_bytes, loan_of}
 use Rattle.loan_table.specs.Table.{AreIn, is_marked, set_all}
 use Rattle.loan_table.proofs.Stretches.{part_of_run}
-use Rattle.phys_memory.specs.Memory.{Memory, has_frame, wire, written}
+use Rattle.phys_memory.specs.Memory.{FrameMemory, memory_has_frame}
+use Rattle.phys_memory.specs.Memory.{wire, memory_written}
 use Rattle.ideal_lane.specs.Accesses.{values}
 use Rattle.ideal_lane.specs.IdealMemory.{is_known}
 use Rattle.ideal_lane.specs.Loads.{is_coherent}
@@ -29,11 +31,11 @@ use Rattle.ideal_lane.specs.Syncs.{bounced_in}
 use Rattle.ideal_wire.specs.Laid.{OfMemory, is_loadable}
 use Rattle.ideal_wire.specs.Traces.{stage_at, stage_in, traces_of}
 use Rattle.ideal_wire.specs.WireStep.{load_buses}
-use Rattle.ideal_wire.proofs.Copies.{map_own, same_range}
-use Rattle.ideal_wire.proofs.FaithfulAccess.{dev_read_of}
-use Rattle.ideal_wire.proofs.Placing.{own}
-use Rattle.ideal_wire.proofs.Positions.{of_range}
-use Rattle.ideal_wire.proofs.Wiring.{faithful}
+use Rattle.ideal_wire.proofs.Faithful.BytesPut.{map_own, same_range}
+use Rattle.ideal_wire.proofs.Faithful.FaithfulAccess.{dev_read_of}
+use Rattle.ideal_wire.proofs.Faithful.PlacedLoads.{own}
+use Rattle.ideal_wire.proofs.Laid.Positions.{of_range}
+use Rattle.ideal_wire.proofs.Faithful.Wiring.{faithful}
 use Rattle.lane_state.specs.declared.holdings.Holdings.{Holdings}
 use Rattle.lane_state.specs.declared.kept.KeptMap.{KeptMap}
 use Rattle.lane_state.specs.declared.kept.KeptMemory.{KeptMemory}
@@ -41,14 +43,14 @@ use Rattle.lane_state.specs.Changes.{with_written}
 use Rattle.lane_state.specs.Covered.{has_load}
 use Rattle.lane_state.specs.Held.{devices_of, held}
 use Rattle.lane_state.specs.Ideal.{ideal_of}
-use Rattle.lane_state.specs.Kept.{map_of, memory_of, stage_of}
+use Rattle.lane_state.specs.Kept.{map_of, memory_of, kept_stage}
 use Rattle.lane_state.specs.Wire.{IsWired, held_pages, wire_of}
 use Rattle.lane_state.proofs.Devices.{Loading, loading, own-frame}
 use Rattle.lane_state.proofs.Keeping.{told-some}
 use Rattle.lane_state.proofs.MapValues.{get-map_values, image-some}
 use Rattle.lane_state.proofs.Places.{put-back}
 use Rattle.lane_state.proofs.Reading.{known-held}
-use Rattle.lane_state.proofs.Wires.{written_run}
+use Rattle.lane_state.proofs.WireBytes.{written_run}
 use Rattle.lane_rings.specs.Ringing.{IsReadable}
 use Rattle.lane_access.proofs.OwnWrites.{own-written}
 use Rattle.lane_state.proofs.OwnBytes.{own-inside, own-put, own-reads}
@@ -128,7 +130,7 @@ module _ (h : Holdings) (wired : IsWired h) (m : ℕ) (x : KeptMemory) (memory :
   none : bounced_in (stage_at l m) ≡ []
   none =
       ap (λ q. bounced_in (stage_in q)) (image-some map_of h.maps.map m kept.0 kept.1)
-      ∙ ap (λ s. bounced_in (stage_of s)) load.stage ∙ load.load.direct (ap is_some is-there)
+      ∙ ap (λ s. bounced_in (kept_stage s)) load.stage ∙ load.load.direct (ap is_some is-there)
 
   run : addresses_of ps ≡ run_of x.first.0 (length ps)
   run = load.load.first (memory_of x) is-there ∙ ap (run_of x.first.0) (length-map ps (λ (p : Position). p.pa))
@@ -157,7 +159,7 @@ module _ (h : Holdings) (wired : IsWired h) (m : ℕ) (x : KeptMemory) (memory :
     inside = own-inside h (load_bytes l.loans m at n) own-byte
 
     -- the first of the bytes is in a frame of the driver's
-    pub framed : 1 ≤ n → has_frame h.memory.memory ((x.first.0 + at) / 4096) ≡ true
+    pub framed : 1 ≤ n → memory_has_frame h.memory.memory ((x.first.0 + at) / 4096) ≡ true
     framed some =
         own-frame h wired (x.first.0 + at)
         ∙ own-byte 0 (x.first.0 + at) (ap (λ bytes. slice_get bytes 0) part ∙ begins n some)
@@ -198,8 +200,8 @@ module _ (h : Holdings) (wired : IsWired h) (m : ℕ) (x : KeptMemory) (memory :
   -- ---- two bytes that are Known are written, in a coherent memory
   module _ (at : ℕ) (range : at + 2 ≤ length ps)
       (known : AllByRecursion (λ a. is_known l.memory a ≡ true) (run_of (x.first.0 + at) 2))
-      (coherent : (loan_of l.loans m).coherent ≡ true) (n : Memory)
-      (now : wire n ≡ written (x.first.0 + at) (0 ∷ 1 ∷ []) (wire h.memory.memory)) where
+      (coherent : (loan_of l.loans m).coherent ≡ true) (n : FrameMemory)
+      (now : wire n ≡ memory_written (x.first.0 + at) (0 ∷ 1 ∷ []) (wire h.memory.memory)) where
     abbrev two : List ℕ
     two = load_bytes l.loans m at 2
 
@@ -225,7 +227,8 @@ module _ (h : Holdings) (wired : IsWired h) (m : ℕ) (x : KeptMemory) (memory :
         (subst (λ f. AllByRecursion (λ a. f a ≡ true) (run_of (x.first.0 + at) 2))
         (known-held h.loans.bytes h.loans.loans (devices_of h.maps.map) h.memory.memory) known)))
 
-    pub two-done : record l { memory = held h.loans.bytes h.loans.loans (devices_of h.maps.map) n } ≡ with_written two told l
+    pub two-done : record l { memory = held h.loans.bytes h.loans.loans (devices_of h.maps.map) n }
+        ≡ with_written two told l
     two-done =
         own-written h wired two told (inside at 2 range) n written-two
         (direct-faithful h wired m kept.0 kept.1 kept-on none at told range fine)
@@ -233,8 +236,8 @@ module _ (h : Holdings) (wired : IsWired h) (m : ℕ) (x : KeptMemory) (memory :
 
 -- the last two of sixteen bytes that the device may read are in a frame of the driver's
 pub told-there : (h : Holdings) → IsWired h → (m : ℕ) (x : KeptMemory) → get h.memories.map m ≡ Some x → (at a : ℕ) →
-    IsReadable (ideal_of h) m at 16 → a ≡ x.first.0 + at → has_frame h.memory.memory ((a + 14) / 4096) ≡ true
+    IsReadable (ideal_of h) m at 16 → a ≡ x.first.0 + at → memory_has_frame h.memory.memory ((a + 14) / 4096) ≡ true
 told-there h wired m x memory at a r is =
     let place : x.first.0 + (at + 14) ≡ a + 14 = omega (arith, is) in
-    subst (λ b. has_frame h.memory.memory (b / 4096) ≡ true) place
+    subst (λ b. memory_has_frame h.memory.memory (b / 4096) ≡ true) place
     (framed h wired m x memory r.map r.there r.loaded (at + 14) 2 (omega (arith, r.range)) (omega arith))

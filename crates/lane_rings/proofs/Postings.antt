@@ -1,6 +1,8 @@
 -- What is posted to a ring.
-use Rattle.std.proofs.Common.{◌≡◌, ℕ, ◌+◌, ◌==◌, ◌<◌, ◌≤◌, ◌^◌, ◌&&◌, ◌⊎◌, inl, inr, not, Bool, true, false, nat_lt, is_some}
-use Rattle.std.proofs.Common.{if◌then◌else◌, List, [], ◌∷◌, ◌++◌, length, take, Option, Some, None, unwrap_or, zero, suc}
+use Rattle.std.proofs.Common.{◌≡◌, ℕ, ◌+◌, ◌==◌, ◌<◌, ◌≤◌, ◌^◌, ◌&&◌, ◌⊎◌, inl, inr, not, Bool, true, false, nat_lt}
+use Rattle.std.proofs.Common.{is_some}
+use Rattle.std.proofs.Common.{if◌then◌else◌, List, [], ◌∷◌, ◌++◌, length, take, Option, Some, None, unwrap_or, zero}
+use Rattle.std.proofs.Common.{suc}
 use Rattle.std.proofs.Common.{IfNone, refl, sym, ap, ◌∙◌, subst, arith}
 use Rattle.std.proofs.lemmas.List.Concat.{flat_map-cons}
 use Rattle.std.specs.FinMap.{get}
@@ -19,7 +21,8 @@ use Rattle.busdma_rules.specs.Rings.Ranges.{address_of}
 use Rattle.ideal_lane.specs.Accesses.{cpu_write}
 use Rattle.ideal_lane.specs.Asking.{Asking}
 use Rattle.ideal_lane.specs.Loads.{is_device}
-use Rattle.ideal_lane.specs.Outcomes.{Outcome, gives, is_loaded, load_length, unless_absent, unless_past, unless_unloaded}
+use Rattle.ideal_lane.specs.Outcomes.{Outcome, gives, is_loaded, load_length, unless_absent, unless_past}
+use Rattle.ideal_lane.specs.Outcomes.{unless_unloaded}
 use Rattle.ideal_lane.specs.Rings.{is_work, may_post, no_ring, posted, ring_post, slot_place}
 use Rattle.ideal_lane.specs.Rings as rings
 use Rattle.ideal_lane.specs.State.{LaneMap, LaneMemory, LaneRing, LaneState}
@@ -27,13 +30,13 @@ use Rattle.ideal_lane.specs.Unloads.{segments_in}
 use Rattle.ideal_wire.specs.Traces.{stage_at, stage_in}
 use Rattle.ideal_wire.specs.WireStep as wires
 use Rattle.ideal_wire.specs.WireStep.{if_done, place_bytes}
-use Rattle.busdma_machine.specs.Machine.PageList.{frames_of}
+use Rattle.busdma_machine.specs.Machine.PageList.{page_frames}
 use Rattle.busdma_machine.specs.Runs.{run_of}
 use Rattle.device_model.specs.Access.{IsThere, bus_range}
 use Rattle.device_model.proofs.Walk.{bytes_length}
 use Rattle.dma_map.specs.MapView.{segments_of}
 use Rattle.loan_table.specs.Table.{buffer_of}
-use Rattle.phys_memory.specs.Memory.{Memory}
+use Rattle.phys_memory.specs.Memory.{FrameMemory}
 use Rattle.busdma_rules.specs.Segments.Segmentation.{segment_bytes}
 use Rattle.ideal_wire.specs.Laid.{is_behind}
 use Rattle.lane_state.specs.declared.holdings.Holdings.{Holdings}
@@ -124,8 +127,8 @@ module _ (l : LaneState) (k : ℕ) (p : Posting) where
                 ∙ ap (λ e. cpu_write (slot_place r p.slot) (descriptor_bytes e) l) (sym is.is)
 
             pub post-wire : (w : Wire) → length (descriptor_bytes d) ≡ 16 →
-                wires.cpu_write (slot_place r p.slot) (descriptor_bytes d) l w
-                ≡ wires.ring_post k p.slot p.map p.off p.len p.kind p.fill l w
+                wires.wire_cpu_write (slot_place r p.slot) (descriptor_bytes d) l w
+                ≡ wires.wire_ring_post k p.slot p.map p.off p.len p.kind p.fill l w
             post-wire w size =
                 ap (λ s. if_done s (put (place_bytes l (slot_place r p.slot) (length (descriptor_bytes d)))
                 (descriptor_bytes d) w) w) (sym post-write)
@@ -144,7 +147,7 @@ module _ (l : LaneState) (k : ℕ) (p : Posting) where
 pub unposted-wire : (l : LaneState) (k : ℕ) (p : Posting) (a : Answer) (w : Wire) →
     ((after : Wire) → wires.if_answered a after w ≡ w) →
     gives l a ≡ ring_post k p.slot p.map p.off p.len p.kind p.fill l →
-    w ≡ wires.ring_post k p.slot p.map p.off p.len p.kind p.fill l w
+    w ≡ wires.wire_ring_post k p.slot p.map p.off p.len p.kind p.fill l w
 unposted-wire l k p a w idle is =
     sym (idle (put (place_bytes l (slot_place (rings.ring_of l k) p.slot) 16)
     (descriptor_bytes (posted (segments_in (stage_at l p.map)) p.off p.len p.kind p.fill)) w))
@@ -214,7 +217,7 @@ ends-of (s ∷ ss) h =
     by zero all some = absurd (omega arith)
     by (suc n) all some = omega (arith, last-low n s.addr.0 (2 ^ 42) all)
 
-numbered : (m : Memory) (frames given : List ℕ) → AllByRecursion (IsThere m frames) given →
+numbered : (m : FrameMemory) (frames given : List ℕ) → AllByRecursion (IsThere m frames) given →
     AllByRecursion (λ b. b < 2 ^ 42) given
 numbered m frames [] h = tt
 numbered m frames (a ∷ rest) h = (h.0.numbered, numbered m frames rest h.1)
@@ -234,5 +237,5 @@ ends-low h wired k o there on plain =
     bytes_length (segments_of o.map.stage) ∙ bytes-long h wired k o there on plain in
     ends-of (segments_of o.map.stage)
     (subst (AllByRecursion (λ b. b < 2 ^ 42)) (whole-range n (segment_bytes (segments_of o.map.stage)) long)
-    (numbered h.memory.memory (frames_of (device_in o.map.stage).pages)
+    (numbered h.memory.memory (page_frames (device_in o.map.stage).pages)
     (bus_range 0 n (segments_of o.map.stage)) reached.there))

@@ -9,7 +9,7 @@ use Rattle.busdma_machine.specs.declared.report.ReportName.TheVariants.{Absent}
 use Rattle.busdma_machine.specs.Machine.Wire.{Wire, put}
 use Rattle.busdma_machine.specs.Runs.{run_of}
 use Rattle.busdma_rules.specs.Lending.Loans.{load_bytes, loan_of}
-use Rattle.phys_memory.specs.Memory.{has_frame, wire}
+use Rattle.phys_memory.specs.Memory.{memory_has_frame, wire}
 use Rattle.busdma_rules.specs.declared.descriptor.Descriptor.{Descriptor}
 use Rattle.busdma_rules.specs.Rings.Descriptors.{descriptor_of}
 use Rattle.ideal_lane.specs.Accesses.{values}
@@ -17,7 +17,8 @@ use Rattle.ideal_lane.specs.Asking.{Gives, by_reply}
 use Rattle.ideal_lane.specs.Outcomes.{Outcome, gives, unless_absent}
 use Rattle.ideal_lane.specs.Accesses.{unless_unread}
 use Rattle.ideal_lane.specs.Rings as rings
-use Rattle.ideal_lane.specs.Rings.{candidates, candidates_in, fetch, fetched, head_at, head_of, is_work, moved_on, no_ring}
+use Rattle.ideal_lane.specs.Rings.{candidates, candidates_in, fetch, fetched, head_at, head_of, is_work, moved_on}
+use Rattle.ideal_lane.specs.Rings.{no_ring}
 use Rattle.ideal_lane.specs.Rings.{retired, ring_step, told, used}
 use Rattle.ideal_lane.specs.Standing.{IsRing, Stands}
 use Rattle.ideal_lane.specs.State.{LaneMap, LaneRing, LaneState}
@@ -27,7 +28,7 @@ use Rattle.lane_state.specs.declared.holdings.Holdings.{Holdings}
 use Rattle.lane_state.specs.declared.kept.KeptMemory.{KeptMemory}
 use Rattle.lane_state.specs.declared.kept.KeptRing.{KeptRing}
 use Rattle.lane_state.specs.Ideal.{given, ideal_of}
-use Rattle.lane_state.specs.Kept.{memory_of, ring_of}
+use Rattle.lane_state.specs.Kept.{memory_of, kept_ring}
 use Rattle.lane_state.specs.Wire.{IsWired, wire_of}
 use Rattle.lane_state.proofs.Keeping.{told-some}
 use Rattle.lane_state.proofs.MapValues.{get-map_values, image-none, image-some}
@@ -47,7 +48,7 @@ no-ring l k none = sym (ap (λ o. unless_absent o l (λ (q : LaneRing).
 
 -- a step that did nothing changes no byte
 pub idle-wire : (l : LaneState) (k : ℕ) (a : Answer) (w : Wire) → ((after : Wire) → if_fetched a after w ≡ w) →
-    gives l a ≡ ring_step k l → w ≡ wires.ring_step k l w
+    gives l a ≡ ring_step k l → w ≡ wires.wire_ring_step k l w
 idle-wire l k a w idle is =
     sym (idle (fetched_wire (rings.ring_of l k) l w))
     ∙ ap (λ s. if_step_done s (fetched_wire (rings.ring_of l k) l w) w) is
@@ -69,10 +70,10 @@ module _ (h : Holdings) (wired : IsWired h) (stands : Stands (ideal_of h)) (k : 
   l = ideal_of h
 
   abbrev r : LaneRing
-  r = ring_of q
+  r = kept_ring q
 
   abbrev pub ideal-ring : get l.rings k ≡ Some r
-  ideal-ring = image-some ring_of h.rings.map k q ring
+  ideal-ring = image-some kept_ring h.rings.map k q ring
 
   abbrev pub is-ring : IsRing l.place l.maps l.mems r
   is-ring = stands.ring k r ideal-ring
@@ -92,8 +93,9 @@ module _ (h : Holdings) (wired : IsWired h) (stands : Stands (ideal_of h)) (k : 
           let there : is_some (get l.mems q.mem) ≡ true = is-ring.there o e in
           let no : false ≡ true = sym (ap is_some gone) ∙ there in absurd (cc)
 
-  module _ (x : KeptMemory) (memory : get h.memories.map q.mem ≡ Some x) (read : IsReadable l q.mem (head_at r) 16) where
-    pub head-there : has_frame h.memory.memory ((x.first.0 + head_at r) / 4096) ≡ true
+  module _ (x : KeptMemory) (memory : get h.memories.map q.mem ≡ Some x)
+      (read : IsReadable l q.mem (head_at r) 16) where
+    pub head-there : memory_has_frame h.memory.memory ((x.first.0 + head_at r) / 4096) ≡ true
     head-there =
         framed h wired q.mem x memory read.map read.there read.loaded (head_at r) 16 read.range (omega arith)
 
@@ -134,10 +136,12 @@ module _ (h : Holdings) (wired : IsWired h) (stands : Stands (ideal_of h)) (k : 
     module _ (h1 : Holdings) (a : Answer)
         (first : Gives (given h1 a) ≡ gives (used d at l) (told d at l)) where
       used-lane : ideal_of h1 ≡ used (head_of r l) at l
-      used-lane = ap (λ s. (by_reply {X = Outcome} s Nothing).lane) (first ∙ ap (λ e. gives (used e at l) (told e at l)) same)
+      used-lane = ap (λ s. (by_reply {X = Outcome} s Nothing).lane)
+          (first ∙ ap (λ e. gives (used e at l) (told e at l)) same)
 
       used-answer : a ≡ told (head_of r l) at l
-      used-answer = ap (λ s. (by_reply {X = Outcome} s Nothing).answer) (first ∙ ap (λ e. gives (used e at l) (told e at l)) same)
+      used-answer = ap (λ s. (by_reply {X = Outcome} s Nothing).answer)
+          (first ∙ ap (λ e. gives (used e at l) (told e at l)) same)
 
       -- what holds of the driver before and after a write of the device holds after the access
       pub after-use : (P : LaneState → Type 0) → P (used (head_of r l) at l) → P (ideal_of h1)
@@ -150,7 +154,7 @@ module _ (h : Holdings) (wired : IsWired h) (stands : Stands (ideal_of h)) (k : 
           used-either (λ n. get n.rings k ≡ Some r) l (head_of r l) at ideal-ring ideal-ring in
           let there : get (ideal_of h2).rings k ≡ Some r =
           ap (λ (n : LaneState). get n.rings k) second ∙ ap (λ (n : LaneState). get n.rings k) used-lane ∙ before in
-          let x = told-some ring_of (get h2.rings.map k) r (sym (get-map_values ring_of h2.rings.map k) ∙ there) in
+          let x = told-some kept_ring (get h2.rings.map k) r (sym (get-map_values kept_ring h2.rings.map k) ∙ there) in
           x.1 ∙ (λ i. Some (record { mem = (x.2 i).mem; slots = (x.2 i).slots; head = (x.2 i).head }))
 
       module _ (h2 h3 : Holdings) (second : ideal_of h2 ≡ retired r (ideal_of h1))
@@ -162,7 +166,7 @@ module _ (h : Holdings) (wired : IsWired h) (stands : Stands (ideal_of h)) (k : 
 
         pub all-wire : (wire_of h1 ≡ used_wire d at l (wire_of h)) →
             wire_of h2 ≡ put (load_buses (ideal_of h1) q.mem (head_at r + 14) 2) (0 ∷ 1 ∷ []) (wire_of h1) →
-            wire_of h3 ≡ wire_of h2 → wire_of h3 ≡ wires.ring_step k l (wire_of h)
+            wire_of h3 ≡ wire_of h2 → wire_of h3 ≡ wires.wire_ring_step k l (wire_of h)
         all-wire wire1 wire2 wire3 =
             wire3 ∙ wire2
             ∙ (λ i. put (load_buses (used-lane i) q.mem (head_at r + 14) 2) (0 ∷ 1 ∷ [])

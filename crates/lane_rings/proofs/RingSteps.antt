@@ -14,10 +14,12 @@ use Rattle.busdma_rules.specs.Rings.Ranges.{place_of}
 use Rattle.ideal_lane.specs.Accesses.{unless_unread}
 use Rattle.ideal_lane.specs.Asking.{Asking}
 use Rattle.ideal_lane.specs.IdealMemory.{is_known}
-use Rattle.ideal_lane.specs.Outcomes.{Outcome, gives, is_loaded, unless_absent, unless_past, unless_refused, unless_unloaded}
+use Rattle.ideal_lane.specs.Outcomes.{Outcome, gives, is_loaded, unless_absent, unless_past, unless_refused}
+use Rattle.ideal_lane.specs.Outcomes.{unless_unloaded}
 use Rattle.ideal_lane.specs.Outcomes.{load_length}
 use Rattle.ideal_lane.specs.Rings as rings
-use Rattle.ideal_lane.specs.Rings.{allowed, at_first, before_others, blame, blame_of, candidates, candidates_in, fetch, fetched}
+use Rattle.ideal_lane.specs.Rings.{allowed, at_first, before_others, blame, blame_of, candidates, candidates_in, fetch}
+use Rattle.ideal_lane.specs.Rings.{fetched}
 use Rattle.ideal_lane.specs.Rings.{head_at, head_of, is_fine, is_left_out, is_work, judged_at, ring_step}
 use Rattle.ideal_lane.specs.State.{LaneMap, LaneRing, LaneState}
 use Rattle.ideal_lane.specs.Unloads.{segments_in}
@@ -39,7 +41,8 @@ module _ (l : LaneState) (m off len : ℕ) where
 
   -- the map is not loaded
   pub unread-unloaded : (r : Report) →
-      ((step : LaneMap → Asking Outcome) → unless_unloaded m l step ≡ gives l (answer.Report r)) → IsUnread l m off len r
+      ((step : LaneMap → Asking Outcome) → unless_unloaded m l step ≡ gives l (answer.Report r)) →
+      IsUnread l m off len r
   unread-unloaded r h step = h (λ o. unless_past m off len l
       (unless_refused (dev_read_answer (is_known l.memory) (loan_of l.loans m) off len) l step))
 
@@ -171,5 +174,6 @@ module _ (l : LaneState) (k : ℕ) (r : LaneRing) (ring : get l.rings k ≡ Some
                   let it : record { map = x.map; off = x.off } ≡ c = cc in
                   ap (λ (y : Candidate). Some (candidate_of y)) it
 
-          pub step-used : ring_step k l ≡ gives (fetched k r d (candidate_of c) l).lane (fetched k r d (candidate_of c) l).answer
+          pub step-used : ring_step k l ≡ gives (fetched k r d (candidate_of c) l).lane
+              (fetched k r d (candidate_of c) l).answer
           step-used = step-first ∙ ap (λ o. at_first k r d (candidates r l) o l) first-is

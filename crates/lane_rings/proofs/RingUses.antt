@@ -1,5 +1,6 @@
 -- What the device of a ring does at a candidate that allows it.
-use Rattle.std.proofs.Common.{◌≡◌, ◌≢◌, ℕ, ◌+◌, ◌==◌, ◌||◌, Bool, true, false, cond, if◌then◌else◌, List, [], ◌∷◌, length}
+use Rattle.std.proofs.Common.{◌≡◌, ◌≢◌, ℕ, ◌+◌, ◌==◌, ◌||◌, Bool, true, false, cond, if◌then◌else◌, List, [], ◌∷◌}
+use Rattle.std.proofs.Common.{length}
 use Rattle.std.proofs.Common.{Option, Some, None, Result, Ok, Err, IfOk, refl, sym, ap, ◌∙◌, subst, arith}
 use Rattle.std.specs.Prelude.{replicate}
 use Rattle.std.proofs.lemmas.Bool.{eqb-true}
@@ -37,12 +38,12 @@ use Rattle.ideal_wire.specs.Mapped.{AreMapped}
 use Rattle.ideal_wire.specs.Spaced.{AreSpaced}
 use Rattle.ideal_wire.specs.WireStep as wires
 use Rattle.ideal_wire.specs.WireStep.{if_done, load_buses, used_wire}
-use Rattle.ideal_wire.proofs.Calls.{dev_write-faithful}
-use Rattle.ideal_wire.proofs.KeptSpaces.{touches-spaced}
-use Rattle.ideal_wire.proofs.MappedTurns.{touches-mapped}
-use Rattle.ideal_wire.proofs.SameBytes.{judged-same}
-use Rattle.ideal_wire.proofs.StillLaid.{touches-laid}
-use Rattle.ideal_wire.proofs.Wiring.{own-written}
+use Rattle.ideal_wire.proofs.Faithful.Calls.{dev_write-faithful}
+use Rattle.ideal_wire.proofs.Devices.KeptSpaces.{touches-spaced}
+use Rattle.ideal_wire.proofs.Devices.MappedTurns.{touches-mapped}
+use Rattle.ideal_wire.proofs.Laid.SameBytes.{judged-same}
+use Rattle.ideal_wire.proofs.Laid.StillLaid.{touches-laid}
+use Rattle.ideal_wire.proofs.Faithful.Wiring.{own-written}
 use Rattle.lane_state.specs.declared.holdings.Holdings.{Holdings}
 use Rattle.lane_state.specs.Ideal.{given, ideal_of}
 use Rattle.lane_state.specs.Wire.{IsWired, wire_of}
@@ -117,7 +118,7 @@ module _ (l : LaneState) (d : Descriptor) (c : Candidate) (a : IsAllowedAt l d c
         ∙ sym (ap (λ b. gives (if b then l else stored c.map c.off d.len vs l)
         (if b then answer.Bytes (values l (load_bytes l.loans c.map c.off d.len)) else answer.Done)) fills)
 
-    pub write-wire : (w : Wire) → wires.dev_write c.map c.off vs l w ≡ used_wire d at l w
+    pub write-wire : (w : Wire) → wires.wire_dev_write c.map c.off vs l w ≡ used_wire d at l w
     write-wire w =
         ap (λ s. if_done s (put (load_buses l c.map c.off (length vs)) vs w) w) write-done
         ∙ ap (λ n. put (load_buses l c.map c.off n) vs w) size
@@ -147,7 +148,7 @@ module _ (h k : Holdings) (wired : IsWired h) (stands : Stands (ideal_of h)) (m 
     (pas : List ℕ) (done : dev_write m off vs (ideal_of h)
     ≡ gives (record (ideal_of h) { memory = written pas vs (ideal_of h).memory }) answer.Done)
     (now : ideal_of k ≡ record (ideal_of h) { memory = written pas vs (ideal_of h).memory })
-    (wire : wire_of k ≡ wires.dev_write m off vs (ideal_of h) (wire_of h)) where
+    (wire : wire_of k ≡ wires.wire_dev_write m off vs (ideal_of h) (wire_of h)) where
   abbrev before : LaneState
   before = ideal_of h
 

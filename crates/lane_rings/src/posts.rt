@@ -9,7 +9,7 @@ ghost use Rattle.ideal_wire.specs.WireStep as wires;
 ghost use Rattle.lane_state.specs.Changes.{KeepsAgenda, KeepsBytes, KeepsState};
 ghost use Rattle.lane_state.specs.Covered.{has_load};
 ghost use Rattle.lane_state.specs.Ideal.{given, ideal_of};
-ghost use Rattle.lane_state.specs.Kept.{ring_of};
+ghost use Rattle.lane_state.specs.Kept.{kept_ring};
 ghost use Rattle.lane_state.specs.Wire.{IsWired, wire_of};
 ghost use Rattle.lane_rings.specs.Ringing.{IsPosted, IsUnposted};
 
@@ -52,7 +52,7 @@ pub fn post(
         ≡ rings.ring_post ring posting.slot posting.map posting.off posting.len posting.kind posting.fill
         (ideal_of holdings.old)) }
     ensures wire { IfOk result (λ answer. wire_of holdings.new
-        ≡ wires.ring_post ring posting.slot posting.map posting.off posting.len posting.kind posting.fill
+        ≡ wires.wire_ring_post ring posting.slot posting.map posting.off posting.len posting.kind posting.fill
         (ideal_of holdings.old) (wire_of holdings.old)) }
     ensures script { holdings.new.script ≡ holdings.old.script }
     ensures memories { holdings.new.memories ≡ holdings.old.memories }
@@ -88,8 +88,8 @@ pub fn post(
 fn descriptor_of(holdings: &Holdings<'_>, ring: KeptRing, posting: Posting) -> Option<Descriptor>
     requires wired { IsWired holdings.now }
     requires loaded { has_load (get holdings.now.maps.map posting.map) ≡ true }
-    ensures posted { IfSome result (IsPosted (ideal_of holdings.now) (ring_of ring) posting) }
-    ensures unposted { IfNone result (IsUnposted (ideal_of holdings.now) (ring_of ring) posting) }
+    ensures posted { IfSome result (IsPosted (ideal_of holdings.now) (kept_ring ring) posting) }
+    ensures unposted { IfNone result (IsUnposted (ideal_of holdings.now) (kept_ring ring) posting) }
 {
     if posting.slot >= ring.slots || !is_work(posting.kind, posting.len) {
         return None;

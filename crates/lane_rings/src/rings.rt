@@ -5,7 +5,7 @@ ghost use Rattle.std.specs.Prelude.{IfNone, OnErr, Some, option_map, IsSome};
 ghost use Rattle.std.specs.FinMap.{entries, get};
 ghost use Rattle.busdma_rules.specs.Lending.Loans.{loan_of};
 ghost use Rattle.loan_table.specs.Table.{buffer_of};
-ghost use Rattle.phys_memory.specs.Memory.{has_frame, wire};
+ghost use Rattle.phys_memory.specs.Memory.{memory_has_frame, wire};
 ghost use Rattle.busdma_rules.specs.Rings.Descriptors.{descriptor_of};
 ghost use Rattle.ideal_lane.specs.Asking.{Gives};
 ghost use Rattle.ideal_lane.specs.Outcomes.{gives};
@@ -20,7 +20,7 @@ ghost use Rattle.busdma_machine.specs.Runs.{run_of};
 ghost use Rattle.lane_state.specs.Changes.{KeepsState};
 ghost use Rattle.lane_state.specs.Covered.{has_load};
 ghost use Rattle.lane_state.specs.Ideal.{given, ideal_of};
-ghost use Rattle.lane_state.specs.Kept.{map_of, ring_of};
+ghost use Rattle.lane_state.specs.Kept.{map_of, kept_ring};
 ghost use Rattle.lane_state.specs.Wire.{IsWired, wire_of};
 ghost use Rattle.lane_rings.specs.Ringing.{IfAt, IsAllowedAt, IsReadable, IsUnread, candidate_in, candidate_of};
 ghost use Rattle.lane_rings.specs.Ringing.{work_of};
@@ -67,7 +67,7 @@ pub fn ring_step(
     ensures done { IfOk result (λ answer.
         Gives (given holdings.new answer) ≡ rings.ring_step ring (ideal_of holdings.old)) }
     ensures wire { IfOk result (λ answer.
-        wire_of holdings.new ≡ wires.ring_step ring (ideal_of holdings.old) (wire_of holdings.old)) }
+        wire_of holdings.new ≡ wires.wire_ring_step ring (ideal_of holdings.old) (wire_of holdings.old)) }
     ensures script { holdings.new.script ≡ holdings.old.script }
     ensures memories { holdings.new.memories ≡ holdings.old.memories }
     ensures agenda { holdings.new.agenda ≡ holdings.old.agenda }
@@ -105,14 +105,14 @@ pub fn ring_step(
 /// Returns the physical address of the descriptor at the head of a ring, in the ring's memory.
 fn head_in(memory: &KeptMemory, ring: KeptRing) -> Pa
     requires { memory.now.first.0 ≤ 2 ^ 42 }
-    ensures { result.0 ≡ memory.now.first.0 + head_at (ring_of ring) }
+    ensures { result.0 ≡ memory.now.first.0 + head_at (kept_ring ring) }
 {
     Pa(memory.first.0 + 16 * ring.head as u64)
 }
 
 /// Reads the descriptor at an address. Its 16 bytes are in one frame.
 fn read_descriptor(memory: &LanePages, at: Pa) -> Descriptor
-    requires there { has_frame memory.now.memory (at.0 / 4096) ≡ true }
+    requires there { memory_has_frame memory.now.memory (at.0 / 4096) ≡ true }
     requires inside { at.0 % 4096 + 16 ≤ 4096 }
     ensures { result ≡ descriptor_of (mapped (wire memory.now.memory) (run_of at.0 16)) }
 {
@@ -248,11 +248,11 @@ fn access(
 fn retire(holdings: &mut Holdings<'_>, ring: KeptRing)
     requires wired { IsWired holdings.old }
     requires memory { IsSome (get holdings.old.memories.map ring.mem) }
-    requires readable { IsReadable (ideal_of holdings.old) ring.mem (head_at (ring_of ring)) 16 }
+    requires readable { IsReadable (ideal_of holdings.old) ring.mem (head_at (kept_ring ring)) 16 }
     requires coherent { (loan_of (ideal_of holdings.old).loans ring.mem).coherent ≡ true }
-    ensures done { ideal_of holdings.new ≡ retired (ring_of ring) (ideal_of holdings.old) }
+    ensures done { ideal_of holdings.new ≡ retired (kept_ring ring) (ideal_of holdings.old) }
     ensures wire { wire_of holdings.new
-        ≡ put (load_buses (ideal_of holdings.old) ring.mem (head_at (ring_of ring) + 14) 2) (0 ∷ 1 ∷ [])
+        ≡ put (load_buses (ideal_of holdings.old) ring.mem (head_at (kept_ring ring) + 14) 2) (0 ∷ 1 ∷ [])
         (wire_of holdings.old) }
     ensures script { holdings.new.script ≡ holdings.old.script }
     ensures memories { holdings.new.memories ≡ holdings.old.memories }
@@ -270,7 +270,7 @@ fn move_on(holdings: &mut Holdings<'_>, ring: u32, kept: KeptRing)
     requires there { get holdings.old.rings.map ring ≡ Some kept }
     requires head { kept.head < kept.slots }
     requires few { kept.slots ≤ 256 }
-    ensures done { ideal_of holdings.new ≡ moved_on ring (ring_of kept) (ideal_of holdings.old) }
+    ensures done { ideal_of holdings.new ≡ moved_on ring (kept_ring kept) (ideal_of holdings.old) }
     ensures wire { wire_of holdings.new ≡ wire_of holdings.old }
     ensures script { holdings.new.script ≡ holdings.old.script }
     ensures memories { holdings.new.memories ≡ holdings.old.memories }

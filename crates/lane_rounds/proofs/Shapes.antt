@@ -1,5 +1,6 @@
 -- What a turn is: it steps or leaves its driver as it was, and only the turn of the callbacks asks for a callback.
-use Rattle.std.proofs.Common.{◌≡◌, ℕ, ◌+◌, ◌-◌, ◌==◌, ◌&&◌, not, Bool, true, false, List, [], ◌∷◌, length, nat_le, nat_lt}
+use Rattle.std.proofs.Common.{◌≡◌, ℕ, ◌+◌, ◌-◌, ◌==◌, ◌&&◌, not, Bool, true, false, List, [], ◌∷◌, length, nat_le}
+use Rattle.std.proofs.Common.{nat_lt}
 use Rattle.std.proofs.Common.{Option, Some, None, if◌then◌else◌, inl, inr, ◌⊎◌, refl, slice_get}
 use Rattle.std.specs.FinMap.{get, contains_key}
 use Rattle.busdma_machine.specs.declared.bounce.hold.HubCall.{HubCall}
@@ -23,7 +24,7 @@ use Rattle.busdma_base.specs.declared.scenarios.script.Place.{Place}
 use Rattle.busdma_machine.specs.declared.tags.tag.TagLimits.{TagLimits}
 use Rattle.busdma_machine.specs.Bounce.Account.{Account}
 use Rattle.busdma_machine.specs.Bounce.AccountStep.{called_from}
-use Rattle.busdma_machine.specs.Bounce.History.{is_kept}
+use Rattle.busdma_machine.specs.Bounce.History.{is_entry}
 use Rattle.busdma_machine.specs.Judging as judging
 use Rattle.busdma_machine.specs.Runs.{run_of}
 use Rattle.busdma_base.specs.Scenarios.Operations.{bytes_of}
@@ -34,7 +35,7 @@ use Rattle.lane_agreement.specs.View.{Return}
 use Rattle.busdma_base.specs.declared.scenarios.queued.QueuedItem.{QueuedItem}
 use Rattle.busdma_rules.specs.Lending.Access.{cpu_read_answer, cpu_write_answer, dev_read_answer, dev_read_refusal}
 use Rattle.busdma_rules.specs.Lending.Access.{dev_write_answer, dev_write_refusal}
-use Rattle.busdma_rules.specs.Lending.Syncing.{lost, sync_answer, synced}
+use Rattle.busdma_rules.specs.Lending.SyncEffects.{lost, sync_answer, synced}
 use Rattle.busdma_rules.specs.Lending.Loans.{load_bytes, loan_of}
 use Rattle.busdma_rules.specs.Segments.Chunks.{need_of}
 use Rattle.busdma_rules.specs.declared.descriptor.Descriptor.{Descriptor}
@@ -50,7 +51,7 @@ use Rattle.ideal_lane.specs.Memories.{dmamem, dmamem_free}
 use Rattle.ideal_lane.specs.Outcomes.{Outcome, gives, refused, unless_absent, unless_refused, unless_busy}
 use Rattle.ideal_lane.specs.Outcomes.{unless_unloaded}
 use Rattle.ideal_lane.specs.Outcomes.{unless_past, is_idle, is_loaded, load_length}
-use Rattle.ideal_lane.specs.Places.{bytes_at, first_unreached as reached, virtual_at}
+use Rattle.ideal_lane.specs.Places.{bytes_at, first_unreached, virtual_at}
 use Rattle.ideal_lane.specs.Rings.{Candidate, allowed, at_first, candidates, fits_in, head_at, head_of, is_work, kick}
 use Rattle.ideal_lane.specs.Rings.{may_post, posted, ring, ring_post, ring_step, slot_place}
 use Rattle.ideal_lane.specs.Sends as sends
@@ -200,14 +201,14 @@ module _ (l : LaneState) where
   cpu_read-free : (place : Place) (len : ℕ) → IsFree (cpu_read place len l)
   cpu_read-free place len =
       absent (virtual_at l place) _ (λ va.
-      judged (reached l va len) _ (
+      judged (first_unreached l va len) _ (
       judged (cpu_read_answer (is_known l.memory) l.loans (bytes_at l (run_of va len)))
       (gives l (answer.Bytes (values l (bytes_at l (run_of va len))))) (record { is = refl })))
 
   cpu_write-free : (place : Place) (vs : List ℕ) → IsFree (cpu_write place vs l)
   cpu_write-free place vs =
       absent (virtual_at l place) _ (λ va.
-      judged (reached l va (length vs)) _ (
+      judged (first_unreached l va (length vs)) _ (
       judged (cpu_write_answer l.loans (bytes_at l (run_of va (length vs))))
       (gives (record l { memory = written (bytes_at l (run_of va (length vs))) vs l.memory }) answer.Done)
       (record { is = refl })))
@@ -355,13 +356,13 @@ module _ (l : LaneState) where
   turn-shape side.Callback = inl (refl, refl)
 
   -- a callback that was taken is a step
-  pub taken-steps : (ws : List Waiter) (a : Account) → is_kept call.TakeCallback (called_from ws l.id a).reply ≡ true →
+  pub taken-steps : (ws : List Waiter) (a : Account) → is_entry call.TakeCallback (called_from ws l.id a).reply ≡ true →
       is_step (called_back l (called_from ws l.id a).reply).turn ≡ true
   taken-steps [] a h = absurd (cc)
   taken-steps (x ∷ ws) a h = by (x.map.lane.0 == l.id) refl h
     where
       by : (b : Bool) → (x.map.lane.0 == l.id) ≡ b →
-          is_kept call.TakeCallback (called_from (x ∷ ws) l.id a).reply ≡ true →
+          is_entry call.TakeCallback (called_from (x ∷ ws) l.id a).reply ≡ true →
           is_step (called_back l (called_from (x ∷ ws) l.id a).reply).turn ≡ true
       by true e h = rw e refl
       by false e h = absurd (cc)

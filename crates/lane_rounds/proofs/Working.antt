@@ -11,8 +11,8 @@ use Rattle.busdma_base.specs.declared.journals.journal.JournalEntry.{JournalEntr
 use Rattle.busdma_base.specs.declared.journals.journal.Side.{Side}
 use Rattle.busdma_machine.specs.Bounce.Account.{Account}
 use Rattle.busdma_machine.specs.Bounce.AccountStep.{account_step}
-use Rattle.busdma_machine.specs.Bounce.Door.{Seen, Holds, account}
-use Rattle.busdma_machine.specs.Bounce.History.{IsSound, is_kept}
+use Rattle.busdma_machine.specs.Bounce.Door.{Seen, HoldsAtDoor, account}
+use Rattle.busdma_machine.specs.Bounce.History.{IsSound, is_entry}
 use Rattle.busdma_machine.specs.Bounce.LaneEntries.{of_lane}
 use Rattle.busdma_machine.proofs.Accounts.LaneEntries.{of_lane-append, own-passes, sound-rest}
 use Rattle.ideal_lane.specs.Asking.{Asking, Gives, Asks, by_reply, call_of}
@@ -21,7 +21,7 @@ use Rattle.ideal_lane.specs.Turns.{Turn, Turned, Stepped, Blocked, called_back, 
 use Rattle.ideal_lane.proofs.Own.{IsOwn, turn-own}
 use Rattle.lane_state.specs.Doing.{IsUndone}
 use Rattle.lane_state.specs.Served.{IsServed}
-use Rattle.lane_turns.specs.Turning.{IsTurned}
+use Rattle.lane_turns.specs.TakenTurns.{IsTurned}
 use Rattle.ideal_runs.specs.declared.logged_step.LoggedStep.{LoggedStep}
 use Rattle.ideal_runs.specs.declared.logged_step.LoggedStep.TheVariants.{Local, Held}
 use Rattle.ideal_runs.specs.Merged.{logged}
@@ -45,7 +45,7 @@ of_lane-own : (lane : ℕ) (c : HubCall) (r : HubReply) → of_lane lane (hold_o
 of_lane-own lane c r = rw (eq-eqb lane lane refl) refl
 
 -- a hold of the driver's own is one more entry of the lane
-own-holds : (lane : ℕ) (d e : Seen) (c : HubCall) (r : HubReply) → IsTrue (d.serves lane) → Holds d lane c r e →
+own-holds : (lane : ℕ) (d e : Seen) (c : HubCall) (r : HubReply) → IsTrue (d.serves lane) → HoldsAtDoor d lane c r e →
     of_lane lane e.history ≡ of_lane lane d.history ++ hold_of lane c r ∷ []
 own-holds lane d e c r served h =
     ap (of_lane lane) h.history
@@ -54,7 +54,7 @@ own-holds lane d e c r served h =
     ∙ ap (λ es. of_lane lane d.history ++ es) (of_lane-own lane c r)
 
 -- a hold is kept in the history
-holds-kept : (lane : ℕ) (d e : Seen) (c : HubCall) (r : HubReply) → Holds d lane c r e → is_kept c r ≡ true
+holds-kept : (lane : ℕ) (d e : Seen) (c : HubCall) (r : HubReply) → HoldsAtDoor d lane c r e → is_entry c r ≡ true
 holds-kept lane d e c r h =
     let b = h.between in
     let sound : IsSound b.opening (b.history ++ hold_of lane c r ∷ []) =
@@ -128,7 +128,8 @@ record IsStill (l m : LaneState) (d e : Seen) : Type 0 where
 module _ (l : LaneState) (t : Turned) (d e : Seen) (none : is_step t.turn ≡ false) (served : IsTrue (d.serves l.id))
   where
     -- a call is a step, but for a callback that is not there
-    call-steps : (c : HubCall) (k : HubReply → Turned) (r : HubReply) → Shape l (Asks c k) → Holds d l.id c r e → t ≡ k
+    call-steps : (c : HubCall) (k : HubReply → Turned) (r : HubReply) → Shape l (Asks c k) → HoldsAtDoor d l.id c r e →
+        t ≡ k
         r → ⊥
     call-steps c k r (inr (free, steps)) h same =
         let b : true ≡ false = sym (steps r) ∙ ap (λ (x : Turned). is_step x.turn) (sym same) ∙ none in absurd (cc)
@@ -136,8 +137,8 @@ module _ (l : LaneState) (t : Turned) (d e : Seen) (none : is_step t.turn ≡ fa
         let a : Account = account h.between in
         let reply : r ≡ (account_step l.id TakeCallback a).reply = h.reply ∙ ap (λ x. (account_step l.id x a).reply)
         take in
-        let kept : is_kept TakeCallback (account_step l.id TakeCallback a).reply ≡ true =
-        ap (λ q. is_kept TakeCallback q) (sym reply) ∙ ap (λ x. is_kept x r) (sym take) ∙ holds-kept l.id d e c r h in
+        let kept : is_entry TakeCallback (account_step l.id TakeCallback a).reply ≡ true =
+        ap (λ q. is_entry TakeCallback q) (sym reply) ∙ ap (λ x. is_entry x r) (sym take) ∙ holds-kept l.id d e c r h in
         let step : is_step (called_back l (account_step l.id TakeCallback a).reply).turn ≡ true =
         taken-steps l a.ready a kept in
         let now : t ≡ called_back l (account_step l.id TakeCallback a).reply =

@@ -28,13 +28,13 @@ pub record Place (F : Type 0) : Type 0 where
   pub fixed : F
 
 -- what no turn of this worker changes: its driver's first state, and what is fixed of its door
-abbrev pub place_of : {D F : Type 0} → (D → F) → Worker D F → Place F
-place_of fixed w = record { first = ideal w.first.value; fixed = fixed w.door }
+abbrev pub worker_place : {D F : Type 0} → (D → F) → Worker D F → Place F
+worker_place fixed w = record { first = ideal w.first.value; fixed = fixed w.door }
 
 -- a worker is still at work, and has the same first state and the same fixed part of its door
 pub record GoesOn {D F : Type 0} (seen : D → Seen) (fixed : D → F) (before after : Worker D F) : Type 0 where
   pub works : Works seen after
-  pub place : place_of fixed after ≡ place_of fixed before
+  pub place : worker_place fixed after ≡ worker_place fixed before
 
 -- how many loads of a driver wait after what was done with this answer: a callback ends the wait of one, and a load in
 -- progress begins to wait

@@ -5,9 +5,9 @@ ghost use Rattle.busdma_base.specs.declared.journals.journal.Side.TheVariants as
 ghost use Rattle.busdma_machine.specs.Bounce.LaneEntries.{of_lane};
 ghost use Rattle.lane_core.specs.LaneIdeal.{ideal};
 ghost use Rattle.lane_state.specs.Served.{IsServed};
-ghost use Rattle.lane_turns.specs.Turning.{has_step};
+ghost use Rattle.lane_turns.specs.TakenTurns.{has_step};
 ghost use Rattle.lane_rounds.specs.AtWork as work;
-ghost use Rattle.lane_rounds.specs.AtWork.{Grows, IsAtWork, Tells, Works, place_of, tells_failure, tells_step};
+ghost use Rattle.lane_rounds.specs.AtWork.{Grows, IsAtWork, Tells, Works, worker_place, tells_failure, tells_step};
 
 use crate::gate::Gate;
 use busdma_base::{Answer, Did, HubDoor, JournalEntry, LaneId, Side};
@@ -59,7 +59,7 @@ impl<'s, D: HubDoor + Drop> Worker<'s, D> {
         requires served { IsServed (ideal lane) (D.seen door) }
         requires none { of_lane (ideal lane).id (D.seen door).history ≡ [] }
         ensures works { Works D.seen result }
-        ensures place { place_of D.fixed result ≡ record { first = ideal lane.entry; fixed = D.fixed door } }
+        ensures place { worker_place D.fixed result ≡ record { first = ideal lane.entry; fixed = D.fixed door } }
     {
         Worker {
             first: Snapshot::of(&lane),
@@ -79,7 +79,7 @@ impl<'s, D: HubDoor + Drop> Worker<'s, D> {
     fn turn<G: Gate>(&mut self, alloc: Global, gate: &G, side: Side) -> Result<bool, AllocError>
         requires { Works D.seen self.old }
         ensures works { Works D.seen self.new }
-        ensures place { place_of D.fixed self.new ≡ place_of D.fixed self.old }
+        ensures place { worker_place D.fixed self.new ≡ worker_place D.fixed self.old }
         ensures grew { IfOk result (Grows self.old.log.items self.new.log.items) }
     {
         gate.at(self.id, self.turns);
@@ -120,7 +120,7 @@ impl<'s, D: HubDoor + Drop> Worker<'s, D> {
     ) -> Result<bool, AllocError>
         requires { Works D.seen self.old }
         ensures works { Works D.seen self.new }
-        ensures place { place_of D.fixed self.new ≡ place_of D.fixed self.old }
+        ensures place { worker_place D.fixed self.new ≡ worker_place D.fixed self.old }
         ensures grew { IfOk result (Grows self.old.log.items self.new.log.items) }
     {
         if !self.is_idle(side) {
@@ -135,7 +135,7 @@ impl<'s, D: HubDoor + Drop> Worker<'s, D> {
     fn cycle<G: Gate>(&mut self, alloc: Global, gate: &G) -> Result<bool, AllocError>
         requires { Works D.seen self.old }
         ensures works { Works D.seen self.new }
-        ensures place { place_of D.fixed self.new ≡ place_of D.fixed self.old }
+        ensures place { worker_place D.fixed self.new ≡ worker_place D.fixed self.old }
         ensures grew { IfOk result (Grows self.old.log.items self.new.log.items) }
     {
         let called = self.side_turn(alloc, gate, Side::Callback)?;
@@ -153,7 +153,7 @@ impl<'s, D: HubDoor + Drop> Worker<'s, D> {
     ) -> Result<bool, AllocError>
         requires { Works D.seen self.old }
         ensures works { Works D.seen self.new }
-        ensures place { place_of D.fixed self.new ≡ place_of D.fixed self.old }
+        ensures place { worker_place D.fixed self.new ≡ worker_place D.fixed self.old }
         ensures grew { IfOk result (Grows self.old.log.items self.new.log.items) }
     {
         let mut stepped = false;
@@ -171,7 +171,7 @@ impl<'s, D: HubDoor + Drop> Worker<'s, D> {
     pub fn round<R: Wait, G: Gate>(&mut self, rt: &R, alloc: Global, gate: &G)
         requires { Works D.seen self.old }
         ensures works { Works D.seen self.new }
-        ensures place { place_of D.fixed self.new ≡ place_of D.fixed self.old }
+        ensures place { worker_place D.fixed self.new ≡ worker_place D.fixed self.old }
         ensures told { Tells self.old self.new }
     {
         match self.cycles(rt, alloc, gate) {
@@ -198,8 +198,8 @@ impl<'s, D: HubDoor + Drop> Worker<'s, D> {
     /// Returns the driver, its door, its log and the number of its turns.
     pub fn finish(self) -> Finished<'s, D>
         requires { Works D.seen self }
-        ensures work { IsAtWork (place_of D.fixed self.entry).first (ideal result.lane) result.log.items (D.seen result.door) }
-        ensures fixed { D.fixed result.door ≡ (place_of D.fixed self.entry).fixed }
+        ensures work { IsAtWork (worker_place D.fixed self.entry).first (ideal result.lane) result.log.items (D.seen result.door) }
+        ensures fixed { D.fixed result.door ≡ (worker_place D.fixed self.entry).fixed }
     {
         Finished {
             lane: self.lane,

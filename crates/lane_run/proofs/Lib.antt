@@ -1,5 +1,5 @@
-pub mod Closings
+pub mod ClosingLaws
 pub mod Logging
 pub mod Passing
-pub mod Seats
+pub mod SeatedLaws
 pub mod Sending

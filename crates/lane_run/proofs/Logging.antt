@@ -12,7 +12,7 @@ use Rattle.busdma_machine.specs.declared.bounce.hold.HubReply.TheVariants as rep
 use Rattle.busdma_base.specs.declared.journals.journal.JournalEntry.{JournalEntry}
 use Rattle.busdma_base.specs.declared.journals.journal.Side.{Side}
 use Rattle.busdma_machine.specs.Bounce.AccountStep.{account_step}
-use Rattle.busdma_machine.specs.Bounce.History.{is_kept}
+use Rattle.busdma_machine.specs.Bounce.History.{is_entry}
 use Rattle.busdma_machine.specs.Bounce.LaneEntries.{of_lane}
 use Rattle.busdma_machine.proofs.Accounts.LaneEntries.{of_lane-append}
 use Rattle.ideal_lane.specs.Asking.{Asking, Gives, Asks}
@@ -92,7 +92,7 @@ held-if true e = refl
 held-if false e = absurd (let z : 1 ≡ 0 = e in omega arith)
 
 -- only the taking of a callback that is not there is no entry
-kept-unless : (c : HubCall) (r : HubReply) → takes c ≡ false → is_kept c r ≡ true
+kept-unless : (c : HubCall) (r : HubReply) → takes c ≡ false → is_entry c r ≡ true
 kept-unless call.TakeCallback r free = absurd (cc)
 kept-unless (call.AttachTag t) r free = refl
 kept-unless (call.CreateMap m t first_done) r free = refl
@@ -102,7 +102,7 @@ kept-unless (call.Release m z page) r free = refl
 kept-unless (call.MemAlloc m t) r free = refl
 kept-unless (call.MemFree m) r free = refl
 
-none-steps : (l : LaneState) (r : HubReply) → is_kept call.TakeCallback r ≡ false →
+none-steps : (l : LaneState) (r : HubReply) → is_entry call.TakeCallback r ≡ false →
     is_step (called_back l r).turn ≡ false
 none-steps l reply.Nothing none = refl
 none-steps l (reply.Grown g) none = absurd (cc)
@@ -130,7 +130,7 @@ module _ (w : WorldState) (i : ℕ) (l : LaneState) (s : Side) (e : JournalEntry
     same-turn : (k r).turn ≡ Stepped e → record { lane = (k r).lane; turn = Stepped e } ≡ k r
     same-turn turn = λ j. record { lane = (k r).lane; turn = sym turn j }
 
-    kept-joins : (held : Bool) → is_kept c r ≡ true → (k r).turn ≡ Stepped e →
+    kept-joins : (held : Bool) → is_entry c r ≡ true → (k r).turn ≡ Stepped e →
         length (holds_by l.id (Asks c k) w.account) ≡ (if held then 1 else 0) → Joins w i l (Asks c k) e held
     kept-joins held kept turn count =
         let one : holds_by l.id (Asks c k) w.account ≡ entry l.id c w.account ∷ [] = rw kept refl in
@@ -147,10 +147,10 @@ module _ (w : WorldState) (i : ℕ) (l : LaneState) (s : Side) (e : JournalEntry
               ((k r).lane, by-hold l (k r).lane s e c k r is (same-turn turn), refl);
         }
 
-    unkept-stays : is_kept c r ≡ false → Shape l (Asks c k) → (k r).turn ≡ Stepped e → ⊥
+    unkept-stays : is_entry c r ≡ false → Shape l (Asks c k) → (k r).turn ≡ Stepped e → ⊥
     unkept-stays unkept (inl (take, called)) turn =
         let none : is_step (called_back l r).turn ≡ false =
-        none-steps l r (ap (λ y. is_kept y r) (sym take) ∙ unkept) in
+        none-steps l r (ap (λ y. is_entry y r) (sym take) ∙ unkept) in
         let b : true ≡ false =
         ap is_step (sym turn) ∙ ap (λ f. is_step (f r).turn) called ∙ none in absurd (cc)
     unkept-stays unkept (inr (free, steps)) turn =
@@ -169,9 +169,9 @@ module _ (w : WorldState) (i : ℕ) (l : LaneState) (s : Side) (e : JournalEntry
         runs = subst (λ b. Runs l (logged e b ∷ []) [] t.lane) (sym local)
             (t.lane, alone l t.lane s e t is same, refl);
       }
-  joins (Asks c k) held is shape turn count = by (is_kept c (r c k is)) refl
+  joins (Asks c k) held is shape turn count = by (is_entry c (r c k is)) refl
     where
-      by : (b : Bool) → is_kept c (r c k is) ≡ b → Joins w i l (Asks c k) e held
+      by : (b : Bool) → is_entry c (r c k is) ≡ b → Joins w i l (Asks c k) e held
       by true kept = kept-joins c k is held kept turn count
       by false unkept = absurd (unkept-stays c k is unkept shape turn)
 

@@ -25,12 +25,12 @@ use Rattle.lane_threads.specs.PassDoor as pass
 use Rattle.lane_rounds.specs.AtWork.{IsAtWork}
 use Rattle.lane_run.specs.Parked.{ArePassed}
 use Rattle.lane_run.specs.Seated.{AreFresh, AreSeated, Seat, seat_of}
-use Rattle.lane_run.specs.Threads.{HasRun}
-use Rattle.lane_run.proofs.Seats.{Rounded, seated-stays, started}
+use Rattle.lane_run.specs.Threads.{HasRunThread}
+use Rattle.lane_run.proofs.SeatedLaws.{Rounded, seated-stays, started}
 
 pub passed-more : (ws : List Seat) (ls : List Lane) (logs : List Log) (qs : List LanePass) (w : Seat)
     (l : Lane) (log : Log) (q : LanePass) → ArePassed ws ls logs qs →
-    IsAtWork (seat_of w).first (ideal l) log (pass.seen q) → pass.place_of q ≡ (seat_of w).fixed →
+    IsAtWork (seat_of w).first (ideal l) log (pass.seen q) → pass.door_place q ≡ (seat_of w).fixed →
     ArePassed (ws ++ w ∷ []) (ls ++ l ∷ []) (logs ++ log ∷ []) (qs ++ q ∷ [])
 passed-more [] [] [] [] w l log q h is same = (is, same, tt)
 passed-more (v ∷ ws) (k ∷ ls) (g ∷ logs) (r ∷ qs) w l log q h is same =
@@ -117,7 +117,7 @@ module _ (first : LanePass) (hub : HubSeen) where
 -- after the turnstile of a scenario's opening hub is closed
 pub has-run : (s : Scenario) (names : ℕ) (first : LanePass) (ls ms : List Lane) (logs : List Log) (qs : List LanePass)
     (hub : HubSeen) → first.start ≡ started names s → names ≡ length ls + 1 → map ideal ls ≡ (opening_world s).lanes →
-    AreFresh first 0 ls → AreBack first ls ms logs qs → ClosesAfter first qs hub → HasRun s ms logs hub
+    AreFresh first 0 ls → AreBack first ls ms logs qs → ClosesAfter first qs hub → HasRunThread s ms logs hub
 has-run s names first ls ms logs qs hub start count opened f h c =
     let here : Start HoldEntry Account = start_of names [] (opening s) in
     let same : c.start ≡ here = ap (λ o. unwrap_or o here) (sym c.started ∙ start) in

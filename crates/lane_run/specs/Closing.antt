@@ -6,12 +6,12 @@ use Rattle.busdma_base.specs.Scenarios.Opening.{opening}
 use Rattle.ideal_world.specs.Left.{left_of}
 use Rattle.ideal_world.specs.World.{WorldState, step_entry}
 use Rattle.ideal_runs.specs.FromLogs.{RunsTo}
-use Rattle.world_core.specs.Ideal.{holds, ideal_world}
+use Rattle.world_core.specs.Ideal.{world_holds, ideal_world}
 use Rattle.lane_run.specs.declared.closing.Closing.{Closing}
 
 -- by a run's logs and the holds so far, the scenario's opening leads to the run's world
 abbrev pub HasCome : Scenario → Closing → Type 0
-HasCome s c = RunsTo s (map (λ l. l.items) c.logs.items) (holds c.world) (ideal_world c.world)
+HasCome s c = RunsTo s (map (λ l. l.items) c.logs.items) (world_holds c.world) (ideal_world c.world)
 
 -- the turns of actors lead from one world to another: if no turn was a step, the world is the same and no actor can
 -- step in it; otherwise there is less left to do

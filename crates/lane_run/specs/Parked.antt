@@ -12,6 +12,6 @@ use Rattle.lane_run.specs.Seated.{Seat, seat_of}
 abbrev pub ArePassed : List Seat → List Lane → List Log → List LanePass → Type 0
 ArePassed [] [] [] [] = Unit {0}
 ArePassed (w ∷ ws) (l ∷ ls) (log ∷ logs) (q ∷ qs) =
-    IsAtWork (seat_of w).first (ideal l) log (pass.seen q) × (pass.place_of q ≡ (seat_of w).fixed)
+    IsAtWork (seat_of w).first (ideal l) log (pass.seen q) × (pass.door_place q ≡ (seat_of w).fixed)
     × ArePassed ws ls logs qs
 ArePassed _ _ _ _ = ⊥

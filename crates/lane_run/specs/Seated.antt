@@ -9,11 +9,11 @@ use Rattle.lane_threads.specs.Closing.{LanePass}
 use Rattle.lane_threads.specs.PassDoor as pass
 use Rattle.lane_threads.specs.PassDoor.{seen_from}
 use Rattle.lane_rounds.specs.declared.worker.Worker.{Worker}
-use Rattle.lane_rounds.specs.AtWork.{Place, Works, place_of}
+use Rattle.lane_rounds.specs.AtWork.{Place, Works, worker_place}
 
 -- the driver has this number and has made no hold; the door of a pass with its name that knows what the first pass
 -- knows serves it
-pub record IsFresh (first : LanePass) (i : ℕ) (l : LaneState) : Type 0 where
+pub record IsFreshlySeated (first : LanePass) (i : ℕ) (l : LaneState) : Type 0 where
   pub number : l.id ≡ i
   pub served : IsServed l (seen_from first.start (i + 1) first.front)
   pub none : of_lane l.id (seen_from first.start (i + 1) first.front).history ≡ []
@@ -21,7 +21,7 @@ pub record IsFresh (first : LanePass) (i : ℕ) (l : LaneState) : Type 0 where
 -- each of these drivers is fresh, and they are numbered from this one on
 abbrev pub AreFresh : LanePass → ℕ → List Lane → Type 0
 AreFresh first i [] = Unit {0}
-AreFresh first i (l ∷ ls) = IsFresh first i (ideal l) × AreFresh first (i + 1) ls
+AreFresh first i (l ∷ ls) = IsFreshlySeated first i (ideal l) × AreFresh first (i + 1) ls
 
 -- a driver at work at the door of a pass
 abbrev pub Seat : Type 0
@@ -29,7 +29,7 @@ Seat = Worker LanePass pass.Place
 
 -- what no turn changes of a seat: its driver's first state, and which pass its door has
 abbrev pub seat_of : Seat → Place pass.Place
-seat_of w = place_of pass.place_of w
+seat_of w = worker_place pass.door_place w
 
 -- the seat is at work, began as this driver, and has a pass of this turnstile
 pub record IsSeated (first : LanePass) (l : Lane) (w : Seat) : Type 0 where

@@ -5,7 +5,7 @@ ghost use Rattle.busdma_base.specs.Scenarios.Valid.{IsValid};
 ghost use Rattle.ideal_world.specs.Legal.{IsLegal};
 ghost use Rattle.ideal_runs.specs.FromLogs.{IsFromLogs};
 ghost use Rattle.lane_run.specs.Closing.{HasCome};
-ghost use Rattle.lane_run.specs.Threads.{HasRun};
+ghost use Rattle.lane_run.specs.Threads.{HasRunThread};
 
 use crate::closing::{Closing, finish};
 use crate::parking::Parked;
@@ -23,7 +23,7 @@ use world_core::{World, opening_parts};
 /// Returns the run that these drivers have made at this hub. Takes no memory.
 fn closing_of<'s>(scenario: &'s Scenario, parked: Parked<'s>, hub: Hub) -> Closing<'s>
     requires valid { IsValid scenario.now }
-    requires ran { HasRun scenario.now parked.lanes.items (map (λ l. l.items) parked.logs.items) hub }
+    requires ran { HasRunThread scenario.now parked.lanes.items (map (λ l. l.items) parked.logs.items) hub }
     ensures { HasCome scenario.now result }
 {
     let Parked { lanes, logs, turns } = parked;
@@ -50,7 +50,7 @@ fn empty_logs(alloc: Global, count: usize) -> Result<Vec<LaneLog>, AllocError>
 fn opening_run(alloc: Global, scenario: &Scenario) -> Result<(Parked<'_>, Hub), AllocError>
     requires { IsValid scenario.now }
     ensures { IfOk result (λ ran.
-        HasRun scenario.now ran.0.lanes.items (map (λ l. l.items) ran.0.logs.items) ran.1) }
+        HasRunThread scenario.now ran.0.lanes.items (map (λ l. l.items) ran.0.logs.items) ran.1) }
 {
     let (lanes, hub) = opening_parts(alloc, scenario)?;
     let logs = empty_logs(alloc, lanes.len())?;

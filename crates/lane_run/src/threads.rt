@@ -2,9 +2,9 @@
 
 ghost use Rattle.std.specs.Prelude.{◌≡◌, ℕ, ◌<◌, All, IfOk, IfSome, OnOk, false, length, map, slice_index_or};
 ghost use Rattle.busdma_base.specs.Scenarios.Valid.{IsValid};
-ghost use Rattle.lane_threads.specs.PassDoor.{place_of, seen};
+ghost use Rattle.lane_threads.specs.PassDoor.{door_place as place_of, seen};
 ghost use Rattle.lane_rounds.specs.AtWork.{GoesOn, Works, tells_failure};
-ghost use Rattle.lane_run.specs.Threads.{HasRun};
+ghost use Rattle.lane_run.specs.Threads.{HasRunThread};
 
 use crate::parking::{Parked, park};
 use crate::seating::seat_lanes;
@@ -63,7 +63,7 @@ pub(crate) fn run_on_threads<'s, Rt: Threads + Wait + Sync, G: Gate + Sync>(
 ) -> Result<Option<(Parked<'s>, Hub)>, AllocError>
     requires { IsValid scenario.now }
     ensures { IfOk result (λ r. IfSome r (λ ran.
-        HasRun scenario.now ran.0.lanes.items (map (λ l. l.items) ran.0.logs.items) ran.1)) }
+        HasRunThread scenario.now ran.0.lanes.items (map (λ l. l.items) ran.0.logs.items) ran.1)) }
 {
     let (lanes, hub) = opening_parts(alloc, scenario)?;
     let names = lanes.len() as u32 + 1;

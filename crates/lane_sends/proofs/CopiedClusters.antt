@@ -20,7 +20,7 @@ use Rattle.busdma_machine.specs.Runs.{addresses, byte_count}
 use Rattle.busdma_base.specs.Scenarios.Buffers.{AreClustersFor}
 use Rattle.loan_table.specs.Table.{AreIn, set_all}
 use Rattle.mbuf_defrag.specs.Copying.{IsAway, ShareNone}
-use Rattle.phys_memory.specs.Memory.{Memory, wire}
+use Rattle.phys_memory.specs.Memory.{FrameMemory, wire}
 use Rattle.ideal_lane.specs.Accesses.{values}
 use Rattle.ideal_lane.specs.IdealMemory.{value}
 use Rattle.ideal_lane.specs.Loads.{load_addresses, load_entries, load_judged, load_translation}
@@ -32,12 +32,12 @@ use Rattle.ideal_lane.proofs.Sent.{due-clusters}
 use Rattle.ideal_wire.specs.Centre.{IsFaithful}
 use Rattle.ideal_wire.specs.Traces.{stage_in}
 use Rattle.ideal_wire.specs.WireStep as wires
-use Rattle.ideal_wire.proofs.Bios.{bio-paged}
-use Rattle.ideal_wire.proofs.Buffers.{all-at}
-use Rattle.ideal_wire.proofs.Clusters.{byte-at, same-count}
-use Rattle.ideal_wire.proofs.Copied.{copied-faithful, copied-own}
-use Rattle.ideal_wire.proofs.ReachedOnce.{reached-once}
-use Rattle.ideal_wire.proofs.Reaching.{all-from, each-byte, entries-bytes}
+use Rattle.ideal_wire.proofs.Loads.Bios.{bio-paged}
+use Rattle.ideal_wire.proofs.Loads.Buffers.{all-at}
+use Rattle.ideal_wire.proofs.Loads.Clusters.{byte-at, same-count}
+use Rattle.ideal_wire.proofs.Faithful.CopiedClusters.{copied-faithful, copied-own}
+use Rattle.ideal_wire.proofs.Apart.ReachedOnce.{reached-once}
+use Rattle.ideal_wire.proofs.Loads.Reaching.{all-from, each-byte, entries-bytes}
 use Rattle.lane_state.specs.declared.holdings.Holdings.{Holdings}
 use Rattle.lane_state.specs.declared.kept.KeptMap.{KeptMap}
 use Rattle.lane_state.specs.Changes.{KeepsWhatStays}
@@ -47,7 +47,7 @@ use Rattle.lane_state.specs.Ideal.{ideal_of}
 use Rattle.lane_state.specs.Kept.{device_of, map_of}
 use Rattle.lane_state.specs.Wire.{IsWired, held_pages, wire_of}
 use Rattle.lane_state.proofs.Bytes.{byte-apart}
-use Rattle.lane_state.proofs.Covering.{byte_count_is}
+use Rattle.lane_state.proofs.CoveredLaws.{byte_count_is}
 use Rattle.lane_state.proofs.HeldMemory.{held-is, mark_of}
 use Rattle.lane_state.proofs.Lying.{chunks-in, pages-in}
 use Rattle.lane_state.proofs.MapValues.{get-map_values}
@@ -92,7 +92,8 @@ module _ (h : Holdings) (wired : IsWired h) (s : Send) (due : due_send (ideal_of
   vector-bytes : (spans : List Span) → load_judged l s.map (Vector spans) ≡ Fine →
       entries_addresses (load_entries l (Vector spans)) ≡ load_addresses l (Vector spans)
   vector-bytes spans fine =
-      entries-bytes (load_translation l (Vector spans)) (bio-paged l wired.laid wired.machine (Vector spans) tt) true spans
+      entries-bytes (load_translation l (Vector spans)) (bio-paged l wired.laid wired.machine (Vector spans) tt) true
+      spans
       (all-from _ (span_addresses spans) (λ k va e.
       let r = each-byte l s.map (Vector spans) fine k va e in (r.0, r.1)))
 
@@ -131,9 +132,10 @@ module _ (h : Holdings) (wired : IsWired h) (s : Send) (due : due_send (ideal_of
 
     -- ---- what is held after the copy
 
-    module _ (there : AreIn h.loans.bytes (addresses from)) (inside : AreIn h.loans.bytes (addresses to)) (n : Memory)
+    module _ (there : AreIn h.loans.bytes (addresses from)) (inside : AreIn h.loans.bytes (addresses to))
+        (n : FrameMemory)
         (is : wire n ≡ put (addresses to) (map (wire h.memory.memory) (addresses from)) (wire h.memory.memory)) where
-      wire-copied : with_bytes_of (held_pages h.maps.map) (wire n) ≡ wires.copied s l (wire_of h)
+      wire-copied : with_bytes_of (held_pages h.maps.map) (wire n) ≡ wires.wire_copied s l (wire_of h)
       wire-copied =
           own-put h wired (addresses to) (map (wire h.memory.memory) (addresses from)) inside n is
           ∙ ap (λ vs. put (addresses to) vs (wire_of h)) (own-reads h wired (addresses from) there)
@@ -193,7 +195,7 @@ module _ (h k : Holdings) (m : ℕ) (after : IsAfterLoad m (ideal_of h) (ideal_o
       ∙ ap (λ w. mark_of (w a)) after.memory
       ∙ sym (marks-held h.loans.bytes h.loans.loans (devices_of h.maps.map) h.memory.memory a)
 
-  module _ (n : Memory) where
+  module _ (n : FrameMemory) where
     by-loans : (bytes : FinMap nat_cmp Bool) → AreLoansOf m h.loans.loans k.loans.loans →
         held bytes k.loans.loans (devices_of k.maps.map) n ≡ held bytes h.loans.loans (devices_of h.maps.map) n
     by-loans bytes (Same e) =

@@ -1,6 +1,7 @@
 -- What a load leaves of a driver, whatever the reply to its call: it changes only one map and no byte, and lends
 -- nothing.
-use Rattle.std.proofs.Common.{◌≡◌, ℕ, ◌==◌, Bool, true, false, cond, List, [], length, Option, Some, None, refl, ap, ◌∙◌}
+use Rattle.std.proofs.Common.{◌≡◌, ℕ, ◌==◌, Bool, true, false, cond, List, [], length, Option, Some, None, refl, ap}
+use Rattle.std.proofs.Common.{◌∙◌}
 use Rattle.std.proofs.Common.{nat_le, nat_lt, if◌then◌else◌, arith}
 use Rattle.std.proofs.lemmas.Bool.Decides.{nat_tests}
 use Rattle.std.specs.FinMap.{get, insert, contains_key}
@@ -20,7 +21,7 @@ use Rattle.busdma_machine.specs.Bounce.AccountStep.{as_pages}
 use Rattle.busdma_machine.specs.Machine.Entry.{entries_addresses}
 use Rattle.busdma_rules.specs.Iommu.Device.{device_chunks, load_frames}
 use Rattle.busdma_rules.specs.Iommu.Space.{Space, first_free}
-use Rattle.lane_agreement.specs.After.{addresses_of_pages as addresses}
+use Rattle.lane_agreement.specs.After.{addresses_of_pages}
 use Rattle.busdma_rules.specs.Lending.Loans.{Loans, new_loan}
 use Rattle.busdma_rules.specs.Segments.Building.{placed_pieces, tag_placed}
 use Rattle.busdma_rules.specs.Segments.Chunks.{bounced_of, need_of}
@@ -30,7 +31,7 @@ use Rattle.ideal_lane.specs.Loads.{Asked, are_few, chunks_for, device_load}
 use Rattle.ideal_lane.specs.Loads.{emptied, ended, finished, granted, is_coherent}
 use Rattle.ideal_lane.specs.Loads.{is_device, limits_of, load, load_chunks}
 use Rattle.ideal_lane.specs.Loads.{loaded, taken, unpaged, waiting_load, with_run}
-use Rattle.ideal_lane.specs.Loads.{with_spaces, zone_of_map as zone_of}
+use Rattle.ideal_lane.specs.Loads.{with_spaces, zone_of_map}
 use Rattle.ideal_lane.specs.Outcomes.{Outcome, is_idle, refused, unless_absent, unless_refused}
 use Rattle.ideal_lane.specs.State.{Idle, LaneMap, LaneState, Loaded, Stage, Waiting, named}
 use Rattle.ideal_lane.proofs.Lookups.{get_put}
@@ -86,7 +87,7 @@ module _ (m : ℕ) (x : Asked) (l : LaneState) where
 
   granted-leaves : (o : LaneMap) (chunks : List Chunk) (r : HubReply) →
       IsAfterLoad m l (granted m o x chunks l r).lane
-  granted-leaves o chunks (reply.Granted pages) = finished-leaves o l.place chunks (addresses pages)
+  granted-leaves o chunks (reply.Granted pages) = finished-leaves o l.place chunks (addresses_of_pages pages)
   granted-leaves o chunks (reply.Queued have) = ended-leaves o (Waiting (waiting_load l x chunks))
   granted-leaves o chunks _ = ended-leaves o Idle
 
@@ -119,7 +120,7 @@ module _ (m : ℕ) (x : Asked) (l : LaneState) where
 
     chunks-leave : (o : LaneMap) (chunks : List Chunk) → Leaves (load_chunks m o x chunks l)
     chunks-leave o chunks =
-        let call : HubCall = Grab (named l m) (record { 0 = zone_of o }) (need_of chunks) x.nowait in
+        let call : HubCall = Grab (named l m) (record { 0 = zone_of_map o }) (need_of chunks) x.nowait in
         either (need_of chunks == 0) (Gives (finished m o l.place x chunks [] l)) (Asks call (granted m o x chunks l))
         (finished-leaves o l.place chunks []) (granted-leaves o chunks r)
 

@@ -46,7 +46,7 @@ asks-on f (Asks c k) = refl
 -- a resend is refused with this report, and leaves the wire
 pub record IsStopped (l : LaneState) (s : Send) (r : Report) : Type 0 where
   pub step : sends.resend s l ≡ gives l (answer.Report r)
-  pub wire : (w : Wire) → wires.resend s l w ≡ w
+  pub wire : (w : Wire) → wires.wire_resend s l w ≡ w
 
 module _ (l : LaneState) (s : Send) where
   abbrev judged_read : Judged
@@ -69,7 +69,7 @@ module _ (l : LaneState) (s : Send) where
 
   module _ (w : Wire) where
     abbrev wire-writes : Wire
-    wire-writes = if_fine judged_write (wires.copied s l w) w
+    wire-writes = if_fine judged_write (wires.wire_copied s l w) w
 
     abbrev wire-reads : Wire
     wire-reads = if_fine judged_read wire-writes w
@@ -94,7 +94,8 @@ module _ (l : LaneState) (s : Send) where
   free-step None h = absurd (cc)
   free-step (Some o) h = ap (λ b. if b then loads else refused MapBusy 0 l) h
 
-  free-wire : (q : Option LaneMap) → is_free q ≡ true → (w : Wire) → (if is_free q then wire-loads w else w) ≡ wire-loads w
+  free-wire : (q : Option LaneMap) → is_free q ≡ true → (w : Wire) → (if is_free q then wire-loads w else w)
+      ≡ wire-loads w
   free-wire q h w = ap (λ b. if b then wire-loads w else w) h
 
   module _ (free : is_free (get l.maps s.map) ≡ true) where
@@ -108,7 +109,7 @@ module _ (l : LaneState) (s : Send) where
       to-read : sends.resend s l ≡ reads
       to-read = free-step (get l.maps s.map) free ∙ passes _ l reads fine
 
-      wire-to-read : (w : Wire) → wires.resend s l w ≡ wire-reads w
+      wire-to-read : (w : Wire) → wires.wire_resend s l w ≡ wire-reads w
       wire-to-read w =
           free-wire (get l.maps s.map) free w ∙ ap (λ j. if_fine j (wire-reads w) w) fine
 
@@ -122,13 +123,13 @@ module _ (l : LaneState) (s : Send) where
         to-write : sends.resend s l ≡ writes
         to-write = to-read ∙ passes _ l writes read
 
-        wire-to-write : (w : Wire) → wires.resend s l w ≡ wire-writes w
+        wire-to-write : (w : Wire) → wires.wire_resend s l w ≡ wire-writes w
         wire-to-write w = wire-to-read w ∙ ap (λ j. if_fine j (wire-writes w) w) read
 
         pub stopped-write : (r : Report) → judged_write ≡ Refused r → IsStopped l s r
         stopped-write r is = record {
           step = to-write ∙ steps.refused _ r l (load_again s (copied s l)) is;
-          wire = λ w. wire-to-write w ∙ ap (λ j. if_fine j (wires.copied s l w) w) is;
+          wire = λ w. wire-to-write w ∙ ap (λ j. if_fine j (wires.wire_copied s l w) w) is;
         }
 
   -- a resend that is not refused is the load of the clusters with the bytes of the chain in them
@@ -138,9 +139,9 @@ module _ (l : LaneState) (s : Send) where
         to-write u.free u.loads u.reads ∙ passes _ l (load_again s (copied s l)) u.writes
         ∙ bytes-unread s.map (Vector s.clusters) true s.items (copied s l).memory l
 
-    pub wire-is : (w : Wire) → wires.resend s l w ≡ put (cluster_bytes s l) (map w (chain_bytes s l)) w
+    pub wire-is : (w : Wire) → wires.wire_resend s l w ≡ put (cluster_bytes s l) (map w (chain_bytes s l)) w
     wire-is w =
-        wire-to-write u.free u.loads u.reads w ∙ ap (λ j. if_fine j (wires.copied s l w) w) u.writes
+        wire-to-write u.free u.loads u.reads w ∙ ap (λ j. if_fine j (wires.wire_copied s l w) w) u.writes
 
     pub resend-done : (d : Seen) (x y : Outcome) (e : Seen) → IsDone d l.id (load_again s l) y e →
         x ≡ outcome_with (copied s l).memory y → IsDone d l.id (sends.resend s l) x e

@@ -1,5 +1,6 @@
 -- What a resend leaves of a driver that made it, from its load to its copy.
-use Rattle.std.proofs.Common.{◌≡◌, ◌⊎◌, ℕ, ◌/◌, true, List, [], ◌∷◌, map, Option, Some, None, is_some, sym, ap, ◌∙◌, subst}
+use Rattle.std.proofs.Common.{◌≡◌, ◌⊎◌, ℕ, ◌/◌, true, List, [], ◌∷◌, map, Option, Some, None, is_some, sym, ap, ◌∙◌}
+use Rattle.std.proofs.Common.{subst}
 use Rattle.std.specs.FinMap.{get}
 use Rattle.std.specs.List.{AllByRecursion}
 use Rattle.std.specs.Option.{option_map}
@@ -13,14 +14,14 @@ use Rattle.busdma_machine.specs.Machine.Wire.{put}
 use Rattle.busdma_machine.specs.Runs.{addresses}
 use Rattle.loan_table.specs.Table.{AreIn}
 use Rattle.mbuf_defrag.specs.Copying as copying
-use Rattle.phys_memory.specs.Extents.{LiesIn}
+use Rattle.phys_memory.specs.Extents.{LiesInFrames}
 use Rattle.phys_memory.specs.Frames.{Lie}
-use Rattle.phys_memory.specs.Memory.{has_frame, wire}
+use Rattle.phys_memory.specs.Memory.{memory_has_frame, wire}
 use Rattle.ideal_lane.specs.Asking.{Asking, Gives, Asks, by_reply}
 use Rattle.ideal_lane.specs.Loads.{asked}
 use Rattle.ideal_lane.specs.Outcomes.{Outcome}
 use Rattle.ideal_lane.specs.Sends as sends
-use Rattle.ideal_lane.specs.Sends.{Send, copied, due_send, load_again, outcome_with, with_bytes as with_memory}
+use Rattle.ideal_lane.specs.Sends.{Send, copied, due_send, load_again, outcome_with, with_bytes}
 use Rattle.ideal_lane.specs.State.{LaneState}
 use Rattle.ideal_wire.specs.WireStep as wires
 use Rattle.ideal_wire.specs.WireStep.{is_free}
@@ -94,13 +95,14 @@ module _ (h k : Holdings) (s : Send) (u : IsUnrefused (ideal_of h) s) (d e : See
   pub inside-now : (pas : List ℕ) → AreIn h.loans.bytes pas → AreIn k.loans.bytes pas
   inside-now = same-in h k same-marks
 
-  same-frame : (pa : ℕ) → has_frame k.memory.memory (pa / 4096) ≡ has_frame h.memory.memory (pa / 4096)
+  same-frame : (pa : ℕ) → memory_has_frame k.memory.memory (pa / 4096) ≡ memory_has_frame h.memory.memory (pa / 4096)
   same-frame pa = sym (k.covered pa) ∙ ap is_some (same-marks pa) ∙ h.covered pa
 
   pub lies-now : (es : List Extent) → Lie h.memory.memory es → Lie k.memory.memory es
   lies-now es lie = record { extents = lie.extents; frames = each es lie.frames }
     where
-      each : (es : List Extent) → AllByRecursion (LiesIn h.memory.memory) es → AllByRecursion (LiesIn k.memory.memory) es
+      each : (es : List Extent) → AllByRecursion (LiesInFrames h.memory.memory) es →
+          AllByRecursion (LiesInFrames k.memory.memory) es
       each [] are = tt
       each (x ∷ xs) are = (same-frame x.pa.0 ∙ are.0, each xs are.1)
 
@@ -108,7 +110,7 @@ module _ (h k : Holdings) (s : Send) (u : IsUnrefused (ideal_of h) s) (d e : See
   module _ (wired : IsWired h) (due : due_send l ≡ Some s) (from to : List Extent) (are : AreItsBytes l s from to)
       (there : AreIn h.loans.bytes (addresses from)) (inside : AreIn h.loans.bytes (addresses to))
       (n : Holdings) (ideal : ideal_of n ≡ with_marked (addresses to) n.memory.memory k)
-      (is : wire n.memory.memory ≡ copying.copied from to (wire k.memory.memory)) where
+      (is : wire n.memory.memory ≡ copying.extents_copied from to (wire k.memory.memory)) where
     wire-now : wire n.memory.memory
         ≡ put (addresses to) (map (wire h.memory.memory) (addresses from)) (wire h.memory.memory)
     wire-now = is ∙ ap (λ w. put (addresses to) (map w (addresses from)) w) stays.own
@@ -116,14 +118,14 @@ module _ (h k : Holdings) (s : Send) (u : IsUnrefused (ideal_of h) s) (d e : See
     lane-is : given n a ≡ outcome_with (copied s l).memory (given k a)
     lane-is =
         ap (λ x. record { lane = x; answer = a }) ideal
-        ∙ ap (λ w. record { lane = with_memory w (ideal_of k); answer = a })
+        ∙ ap (λ w. record { lane = with_bytes w (ideal_of k); answer = a })
         (held-behind h k s.map after stays unloaned n.memory.memory (addresses to)
         ∙ held-copied h wired s due u from to are there inside n.memory.memory wire-now)
 
     pub resent-done : IsDone d h.id.0 (sends.resend s l) (given n a) e
     resent-done = resend-done l s u d (given n a) (given k a) e done lane-is
 
-    pub resent-wire : n.maps ≡ k.maps → n.memories ≡ h.memories → IsWireOf h n (wires.resend s l (wire_of h))
+    pub resent-wire : n.maps ≡ k.maps → n.memories ≡ h.memories → IsWireOf h n (wires.wire_resend s l (wire_of h))
     resent-wire maps memories =
         Copies (addresses from) (addresses to) memories
         (wire-is l s u (wire_of h)

@@ -6,7 +6,7 @@ ghost use Rattle.busdma_machine.specs.Machine.Spans.{span_bytes};
 ghost use Rattle.busdma_machine.specs.Machine.Wire.{Wire};
 ghost use Rattle.busdma_machine.specs.Runs.{addresses, byte_count};
 ghost use Rattle.loan_table.specs.Table.{AreIn};
-ghost use Rattle.mbuf_defrag.specs.Copying.{ShareNone, copied};
+ghost use Rattle.mbuf_defrag.specs.Copying.{ShareNone, extents_copied};
 ghost use Rattle.phys_memory.specs.Frames.{Lie};
 ghost use Rattle.phys_memory.specs.Memory.{wire};
 ghost use Rattle.ideal_lane.specs.Outcomes.{gives};
@@ -58,7 +58,7 @@ pub fn resend<'s, D: HubDoor>(
         (sends.resend (the_send resend.entry) (ideal_of holdings.old)) (given holdings.new r.answer) (D.seen door.new)) }
     ensures held { IfOk result (λ r. r.held ≡ asks (sends.resend (the_send resend.entry) (ideal_of holdings.old))) }
     ensures wire { OnOk result (IsWireOf holdings.old holdings.new
-        (wires.resend (the_send resend.entry) (ideal_of holdings.old) (wire_of holdings.old))) }
+        (wires.wire_resend (the_send resend.entry) (ideal_of holdings.old) (wire_of holdings.old))) }
     ensures err { OnErr result (KeepsState holdings.old holdings.new) }
     ensures unpromised { OnErr result (holdings.new.agenda ≡ holdings.old.agenda) }
     ensures undone { OnErr result (IsUndone (D.seen door.old) (D.seen door.new)) }
@@ -104,7 +104,7 @@ fn refusal_of(
     requires bytes { AreItsBytes (ideal_of holdings.now) (the_send resend) from.now to.now }
     ensures refused { IfSome result (λ r.
         sends.resend (the_send resend.entry) (ideal_of holdings.now) ≡ gives (ideal_of holdings.now) (answer.Report r)) }
-    ensures stays { IfSome result (λ r. (w : Wire) → wires.resend (the_send resend.entry) (ideal_of holdings.now) w ≡ w) }
+    ensures stays { IfSome result (λ r. (w : Wire) → wires.wire_resend (the_send resend.entry) (ideal_of holdings.now) w ≡ w) }
     ensures fine { IfNone result (IsUnrefused (ideal_of holdings.now) (the_send resend.entry)) }
 {
     let Some(kept) = holdings.maps.get(resend.map) else {
@@ -160,7 +160,7 @@ fn copy_bytes(holdings: &mut Holdings<'_>, from: &[Extent], to: &[Extent])
     requires apart { ShareNone from.now to.now }
     requires room { length to.now ≤ holdings.old.loans.spare }
     ensures ideal { ideal_of holdings.new ≡ with_marked (addresses to.now) holdings.new.memory.memory holdings.old }
-    ensures wire { wire holdings.new.memory.memory ≡ copied from.now to.now (wire holdings.old.memory.memory) }
+    ensures wire { wire holdings.new.memory.memory ≡ extents_copied from.now to.now (wire holdings.old.memory.memory) }
     ensures maps { holdings.new.maps ≡ holdings.old.maps }
     ensures memories { holdings.new.memories ≡ holdings.old.memories }
     ensures agenda { holdings.new.agenda ≡ holdings.old.agenda }

@@ -17,14 +17,15 @@ use Rattle.loan_table.specs.Table.{IsSame, Table}
 use Rattle.ideal_lane.specs.Outcomes.{is_idle, is_loaded}
 use Rattle.ideal_lane.specs.State.{LaneMap}
 use Rattle.ideal_lane.proofs.Lookups.{get_cut, get_put}
-use Rattle.ideal_wire.proofs.Lent.{find_any}
+use Rattle.ideal_wire.proofs.Faithful.Lent.{find_any}
 use Rattle.lane_state.specs.declared.kept.KeptLoad.{KeptLoad}
 use Rattle.lane_state.specs.declared.kept.KeptMap.{KeptMap}
 use Rattle.lane_state.specs.declared.kept.KeptTag.{KeptTag}
 use Rattle.lane_state.specs.declared.holdings.Holdings.{Holdings}
-use Rattle.lane_state.specs.Awaiting.{AreAwaiting, AreOfMaps, IsAwaiting, awaited, kept_load, limits_at}
-use Rattle.lane_state.specs.Covered.{has_load, is_idle_map, is_returning, returns_in}
-use Rattle.lane_state.specs.Kept.{map_of, stage_of}
+use Rattle.lane_state.specs.Awaiting.{AreAwaiting, AreOfMaps, IsAwaitingNow}
+use Rattle.lane_state.specs.Awaiting.{awaited_map, kept_load, limits_at}
+use Rattle.lane_state.specs.Covered.{has_load, is_idle_map, is_covered_returning, returns_in}
+use Rattle.lane_state.specs.Kept.{map_of, kept_stage}
 use Rattle.lane_state.specs.MapValues.{map_values}
 use Rattle.lane_state.proofs.MapValues.{image-some}
 use Rattle.lane_state.proofs.TakenLoads.{put-here, put-other}
@@ -32,21 +33,21 @@ use Rattle.lane_state.proofs.Unloaded.{left}
 
 -- ---- maps of which no load waits
 
-idle-in : (s : held.Stage KeptLoad) → is_idle (stage_of s) ≡ true → held.waiting_load s ≡ None
+idle-in : (s : held.HeldStage KeptLoad) → is_idle (kept_stage s) ≡ true → held.held_waiting_load s ≡ None
 idle-in held.idle h = refl
 idle-in (held.waiting load_at callback room) h = absurd (cc)
 idle-in (held.loaded bounced segments pages) h = refl
 idle-in (held.lent bounced segments frames) h = refl
 idle-in held.returning h = refl
 
-loaded-in : (s : held.Stage KeptLoad) → is_loaded (stage_of s) ≡ true → held.waiting_load s ≡ None
+loaded-in : (s : held.HeldStage KeptLoad) → is_loaded (kept_stage s) ≡ true → held.held_waiting_load s ≡ None
 loaded-in held.idle h = refl
 loaded-in (held.waiting load_at callback room) h = absurd (cc)
 loaded-in (held.loaded bounced segments pages) h = refl
 loaded-in (held.lent bounced segments frames) h = refl
 loaded-in held.returning h = refl
 
-returns-in : (s : held.Stage KeptLoad) → returns_in (stage_of s) ≡ true → held.waiting_load s ≡ None
+returns-in : (s : held.HeldStage KeptLoad) → returns_in (kept_stage s) ≡ true → held.held_waiting_load s ≡ None
 returns-in held.idle h = refl
 returns-in (held.waiting load_at callback room) h = absurd (cc)
 returns-in (held.loaded bounced segments pages) h = refl
@@ -61,7 +62,7 @@ pub loaded-unkept : (o : Option KeptMap) → has_load o ≡ true → kept_load o
 loaded-unkept None h = refl
 loaded-unkept (Some x) h = loaded-in x.map.stage h
 
-pub returning-unkept : (o : Option KeptMap) → is_returning o ≡ true → kept_load o ≡ None
+pub returning-unkept : (o : Option KeptMap) → is_covered_returning o ≡ true → kept_load o ≡ None
 returning-unkept None h = refl
 returning-unkept (Some x) h = returns-in x.map.stage h
 
@@ -69,7 +70,7 @@ pub left-unkept : (o : KeptMap) (pages : List FrameBytes) → kept_load (Some (l
 left-unkept o [] = refl
 left-unkept o (p ∷ pages) = refl
 
-unawaited : (tags : FinMap nat_cmp KeptTag) (o : Option KeptMap) → kept_load o ≡ None → awaited tags o ≡ None
+unawaited : (tags : FinMap nat_cmp KeptTag) (o : Option KeptMap) → kept_load o ≡ None → awaited_map tags o ≡ None
 unawaited tags None none = refl
 unawaited tags (Some x) none =
     ap (option_map (λ (w : ℕ × KeptLoad × LoadRoom). (w.1, w.2, limits_at tags x.tag))) none
@@ -93,7 +94,7 @@ none-tagged maps t none q o there = by (o.tag == t) refl
 
 module _ (pages : List PageRun) (maxmem : ℕ) where
   abbrev pub Waits : Option Loan → Option (KeptLoad × LoadRoom × Option TagLimits) → Type 0
-  Waits loan w = IfSome w (λ w. IsAwaiting pages maxmem w.2 loan w.0 w.1)
+  Waits loan w = IfSome w (λ w. IsAwaitingNow pages maxmem w.2 loan w.0 w.1)
 
   waits-none : (loan : Option Loan) (w : Option (KeptLoad × LoadRoom × Option TagLimits)) → w ≡ None → Waits loan w
   waits-none loan w none = subst (Waits loan) (sym none) tt
@@ -101,37 +102,37 @@ module _ (pages : List PageRun) (maxmem : ℕ) where
   -- no load waits where there is no map
   pub awaiting-empty : (tags : FinMap nat_cmp KeptTag) (prepared : Loans) → AreAwaiting pages maxmem tags empty prepared
   awaiting-empty tags prepared q =
-      waits-none (get prepared q) (awaited tags (get empty q)) (ap (awaited tags) (get-empty nat_cmp q))
+      waits-none (get prepared q) (awaited_map tags (get empty q)) (ap (awaited_map tags) (get-empty nat_cmp q))
 
   module _ (tags : FinMap nat_cmp KeptTag) (maps : FinMap nat_cmp KeptMap) (prepared : Loans)
       (are : AreAwaiting pages maxmem tags maps prepared) where
     -- all loads but that of one map wait as they did
     awaiting-but : (ms : FinMap nat_cmp KeptMap) (ls : Loans) (k : ℕ) →
-        ((q : ℕ) → (q == k) ≡ false → awaited tags (get ms q) ≡ awaited tags (get maps q)) →
-        ((q : ℕ) → (q == k) ≡ false → get ls q ≡ get prepared q) → Waits (get ls k) (awaited tags (get ms k)) →
+        ((q : ℕ) → (q == k) ≡ false → awaited_map tags (get ms q) ≡ awaited_map tags (get maps q)) →
+        ((q : ℕ) → (q == k) ≡ false → get ls q ≡ get prepared q) → Waits (get ls k) (awaited_map tags (get ms k)) →
         AreAwaiting pages maxmem tags ms ls
     awaiting-but ms ls k told ready here q = by (q == k) refl
       where
-        by : (b : Bool) → (q == k) ≡ b → Waits (get ls q) (awaited tags (get ms q))
+        by : (b : Bool) → (q == k) ≡ b → Waits (get ls q) (awaited_map tags (get ms q))
         by true e =
-            subst (λ j. Waits (get ls j) (awaited tags (get ms j))) (sym (exact_unsigned_eq q k e)) here
+            subst (λ j. Waits (get ls j) (awaited_map tags (get ms j))) (sym (exact_unsigned_eq q k e)) here
         by false e =
             subst (λ (x : Option Loan × Option (KeptLoad × LoadRoom × Option TagLimits)). Waits x.0 x.1)
             (λ i. (sym (ready q e) i, sym (told q e) i)) (are q)
 
     -- the stage of one map changes, and so does what is prepared for this map only
     pub awaiting-put : (k : ℕ) (v : KeptMap) (ls : Loans) → ((q : ℕ) → (q == k) ≡ false → get ls q ≡ get prepared q) →
-        Waits (get ls k) (awaited tags (Some v)) → AreAwaiting pages maxmem tags (insert maps k v) ls
+        Waits (get ls k) (awaited_map tags (Some v)) → AreAwaiting pages maxmem tags (insert maps k v) ls
     awaiting-put k v ls ready here =
-        awaiting-but (insert maps k v) ls k (λ q off. ap (awaited tags) (put-other maps k q v off)) ready
-        (subst (λ o. Waits (get ls k) (awaited tags o)) (sym (put-here maps k v)) here)
+        awaiting-but (insert maps k v) ls k (λ q off. ap (awaited_map tags) (put-other maps k q v off)) ready
+        (subst (λ o. Waits (get ls k) (awaited_map tags o)) (sym (put-here maps k v)) here)
 
     -- a map is put of which no load waits
     pub awaiting-rest : (k : ℕ) (v : KeptMap) → kept_load (Some v) ≡ None →
         AreAwaiting pages maxmem tags (insert maps k v) prepared
     awaiting-rest k v none =
         awaiting-put k v prepared (λ q off. refl)
-        (waits-none (get prepared k) (awaited tags (Some v)) (unawaited tags (Some v) none))
+        (waits-none (get prepared k) (awaited_map tags (Some v)) (unawaited tags (Some v) none))
 
     pub awaiting-rest-if : (b : Bool) (k : ℕ) (v : KeptMap) → kept_load (Some v) ≡ None →
         AreAwaiting pages maxmem tags (cond b (insert maps k v) maps) prepared
@@ -142,15 +143,15 @@ module _ (pages : List PageRun) (maxmem : ℕ) where
     pub awaiting-cut : (k : ℕ) → AreAwaiting pages maxmem tags (remove maps k) prepared
     awaiting-cut k =
         awaiting-but (remove maps k) prepared k
-        (λ q off. ap (awaited tags) (get_cut maps k q ∙ ap (λ b. cond b None (get maps q)) off)) (λ q off. refl)
-        (waits-none (get prepared k) (awaited tags (get (remove maps k) k)) (ap (awaited tags) (cut-at maps k)))
+        (λ q off. ap (awaited_map tags) (get_cut maps k q ∙ ap (λ b. cond b None (get maps q)) off)) (λ q off. refl)
+        (waits-none (get prepared k) (awaited_map tags (get (remove maps k) k)) (ap (awaited_map tags) (cut-at maps k)))
 
     -- what is prepared for a map is another, of which no load waits
     pub awaiting-ready : (k : ℕ) (ls : Loans) → kept_load (get maps k) ≡ None →
         ((q : ℕ) → (q == k) ≡ false → get ls q ≡ get prepared q) → AreAwaiting pages maxmem tags maps ls
     awaiting-ready k ls none ready =
         awaiting-but maps ls k (λ q off. refl) ready
-        (waits-none (get ls k) (awaited tags (get maps k)) (unawaited tags (get maps k) none))
+        (waits-none (get ls k) (awaited_map tags (get maps k)) (unawaited tags (get maps k) none))
 
     -- the tags of maps have the limits that they had
     awaiting-tags : (ts : FinMap nat_cmp KeptTag) →
@@ -163,12 +164,12 @@ module _ (pages : List PageRun) (maxmem : ℕ) where
             Waits (get prepared q) (option_map (λ (x : ℕ × KeptLoad × LoadRoom). (x.1, x.2, limits_at ts o.tag)) w)
         told o e None was = tt
         told o e (Some x) was =
-            subst (λ t. IsAwaiting pages maxmem t (get prepared q) x.1 x.2) (sym (same q o e was.tagged)) was
+            subst (λ t. IsAwaitingNow pages maxmem t (get prepared q) x.1 x.2) (sym (same q o e was.tagged)) was
 
-        by : (o : Option KeptMap) → get maps q ≡ o → Waits (get prepared q) (awaited tags o) →
-            Waits (get prepared q) (awaited ts o)
+        by : (o : Option KeptMap) → get maps q ≡ o → Waits (get prepared q) (awaited_map tags o) →
+            Waits (get prepared q) (awaited_map ts o)
         by None e was = tt
-        by (Some o) e was = told o e (held.waiting_load o.map.stage) was
+        by (Some o) e was = told o e (held.held_waiting_load o.map.stage) was
 
     -- a tag is put at a place that had none
     pub awaiting-tag : (p : ℕ) (t : KeptTag) → get tags p ≡ None →

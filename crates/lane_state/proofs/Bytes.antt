@@ -13,10 +13,10 @@ use Rattle.std.specs.Option.{option_map}
 use Rattle.std.specs.Ordering.{nat_cmp, eq_by_cmp, is_eq}
 use Rattle.busdma_machine.specs.declared.machine.chunk.Chunk.{Chunk}
 use Rattle.busdma_rules.specs.declared.position.Position.{Position}
-use Rattle.busdma_rules.specs.Lending.Syncing.{lost_by_forgetting}
+use Rattle.busdma_rules.specs.Lending.SyncEffects.{lost_by_forgetting}
 use Rattle.busdma_rules.specs.Lending.Loans.{Loan, Loans, addresses_of, to_write, loan_of}
 use Rattle.loan_table.specs.Table.{AreIn, set_all}
-use Rattle.phys_memory.specs.Memory.{Memory, wire}
+use Rattle.phys_memory.specs.Memory.{FrameMemory, wire}
 use Rattle.ideal_lane.specs.IdealMemory.{Unknown, forgotten}
 use Rattle.ideal_lane.proofs.Lookups.{get_put, get_cut, mapped, put_same}
 use Rattle.ideal_wire.specs.Traces.{bus_at}
@@ -41,7 +41,7 @@ devices-cut maps k same q =
     ∙ put_same (λ j. device_of (get maps j)) k q (device_of None) same
 
 -- the ideal memory of maps that have what they had
-pub held-alike : (bytes : FinMap nat_cmp Bool) (loans : Loans) (d e : ℕ → Device) (m : Memory) →
+pub held-alike : (bytes : FinMap nat_cmp Bool) (loans : Loans) (d e : ℕ → Device) (m : FrameMemory) →
     ((q : ℕ) → e q ≡ d q) → held bytes loans e m ≡ held bytes loans d m
 held-alike bytes loans d e m same = ap (λ x. held bytes loans x m) (λ i q. same q i)
 
@@ -52,7 +52,7 @@ devices-elsewhere maps k o q off =
     let away : (q == k) ≡ false = grind (arith, nat_tests) in
     ap device_of (get_put maps k o q) ∙ ap (λ b. device_of (cond b (Some o) (get maps q))) away
 
-module _ (m : Memory) where
+module _ (m : FrameMemory) where
   pub byte-apart : (d e : ℕ → Device) (k : ℕ) (es : List (ℕ × Loan)) (a : ℕ) → find nat_cmp k es ≡ None →
       ((q : ℕ) → (k == q) ≡ false → e q ≡ d q) → byte_among e m es a ≡ byte_among d m es a
   byte-apart d e k [] a none same = refl
@@ -117,7 +117,7 @@ some_in bytes (k ∷ keys) a are h = by (some_in bytes keys a are.1) (a == k) re
     by rest false t g = rest g
 
 -- a map's loan ends, and what it lent to write is Unknown
-module _ (bytes : FinMap nat_cmp Bool) (loans : Loans) (m : Memory) (d e : ℕ → Device) (k : ℕ) (loan : Loan)
+module _ (bytes : FinMap nat_cmp Bool) (loans : Loans) (m : FrameMemory) (d e : ℕ → Device) (k : ℕ) (loan : Loan)
     (lent : get loans k ≡ Some loan) (same : (q : ℕ) → (k == q) ≡ false → e q ≡ d q)
     (there : AreIn bytes (lost_by_forgetting loans k)) where
   abbrev keys : List ℕ

@@ -7,7 +7,7 @@ use Rattle.busdma_machine.specs.declared.bounce.hold.HubCall.TheVariants.{TakeCa
 use Rattle.busdma_machine.specs.declared.bounce.hold.HubReply.TheVariants as reply
 use Rattle.busdma_machine.specs.declared.name.MapId.{MapId}
 use Rattle.busdma_machine.specs.Bounce.AccountStep.{as_pages}
-use Rattle.busdma_machine.specs.Bounce.Door.{Seen, Holds, account}
+use Rattle.busdma_machine.specs.Bounce.Door.{Seen, HoldsAtDoor, account}
 use Rattle.busdma_machine.specs.Machine.Page.{FrameBytes}
 use Rattle.busdma_machine.specs.Machine.PageList.{page_address, page_addresses}
 use Rattle.lane_state.specs.declared.kept.KeptLoad.{KeptLoad}
@@ -18,24 +18,24 @@ use Rattle.lane_agreement.proofs.Whole.{called-length, fit-reached}
 use Rattle.ideal_lane.specs.State.{LaneMap, Stage, Idle, Waiting, Loaded, Returning, WaitingLoad}
 use Rattle.ideal_lane.specs.Turns.{is_waiting, waits_in}
 use Rattle.ideal_lane.specs.View.{view_of}
-use Rattle.ideal_lane.proofs.Turning.{waits-at}
+use Rattle.ideal_lane.proofs.TurnLaws.{waits-at}
 use Rattle.lane_state.specs.declared.holdings.Holdings.{Holdings}
 use Rattle.lane_state.specs.declared.kept.KeptMap.{KeptMap}
 use Rattle.lane_state.specs.Awaiting.{kept_load}
 use Rattle.lane_state.specs.Ideal.{ideal_of}
-use Rattle.lane_state.specs.Kept.{map_of, stage_of}
+use Rattle.lane_state.specs.Kept.{map_of, kept_stage}
 use Rattle.lane_state.specs.Served.{IsServed}
 use Rattle.lane_state.proofs.Keeping.{told-some}
 use Rattle.lane_state.proofs.MapValues.{get-map_values, image-some}
 
 -- a map in this state keeps a load that waits
-pub record KeepsLoad (s : held.Stage KeptLoad) : Type 0 where
+pub record KeepsLoad (s : held.HeldStage KeptLoad) : Type 0 where
   pub load_at : ℕ
   pub callback : KeptLoad
   pub room : LoadRoom
   pub is : s ≡ held.waiting load_at callback room
 
-pub keeps-load : (s : held.Stage KeptLoad) → waits_in (stage_of s) ≡ true → KeepsLoad s
+pub keeps-load : (s : held.HeldStage KeptLoad) → waits_in (kept_stage s) ≡ true → KeepsLoad s
 keeps-load held.idle h = absurd (cc)
 keeps-load (held.waiting load_at callback room) h =
     record { load_at = load_at; callback = callback; room = room; is = λ i. held.waiting load_at callback room }
@@ -50,7 +50,7 @@ pub load-kept : (o : Option KeptMap) (load_at : ℕ) (callback : KeptLoad) (room
 load-kept None load_at callback room h = absurd (cc)
 load-kept (Some x) load_at callback room h = (x, (λ i. Some x), by x.map.stage h)
   where
-    by : (s : held.Stage KeptLoad) → held.waiting_load s ≡ Some (load_at, callback, room) →
+    by : (s : held.HeldStage KeptLoad) → held.held_waiting_load s ≡ Some (load_at, callback, room) →
         s ≡ held.waiting load_at callback room
     by held.idle h = absurd (cc)
     by (held.waiting at other space) h =
@@ -70,8 +70,8 @@ waits-kept h m waits none =
     by None waits none = cc
     by (Some o) waits none =
         let load = keeps-load o.map.stage waits in
-        let kept : held.waiting_load o.map.stage ≡ Some (load.load_at, load.callback, load.room) =
-        ap held.waiting_load load.is in
+        let kept : held.held_waiting_load o.map.stage ≡ Some (load.load_at, load.callback, load.room) =
+        ap held.held_waiting_load load.is in
         cc
 
 -- the need of a load that a map keeps is the one for which the ideal driver sees it waiting
@@ -81,8 +81,8 @@ need_in (Waiting w) = w.need
 need_in (Loaded bounced segments pages) = 0
 need_in Returning = 0
 
-kept-need : (s : held.Stage KeptLoad) (v : WaitingLoad) (count : ℕ) → stage_of s ≡ Waiting v → v.need ≡ count →
-    IfSome (held.waiting_load s) (λ w. count ≡ w.1.need)
+kept-need : (s : held.HeldStage KeptLoad) (v : WaitingLoad) (count : ℕ) → kept_stage s ≡ Waiting v → v.need ≡ count →
+    IfSome (held.held_waiting_load s) (λ w. count ≡ w.1.need)
 kept-need held.idle v count e n = tt
 kept-need (held.waiting at callback room) v count e n = sym n ∙ sym (ap need_in e)
 kept-need (held.loaded bounced segments pages) v count e n = tt
@@ -103,7 +103,7 @@ pub record WaitsFor (h : Holdings) (m count : ℕ) : Type 0 where
   pub need : IfSome (kept_load (get h.maps.map m)) (λ w. count ≡ w.1.need)
 
 module _ (h : Holdings) (d : Seen) (served : IsServed (ideal_of h) d) (m : MapId) (pas : List ℕ) (e : Seen)
-    (holds : Holds d h.id.0 TakeCallback (reply.Called m (as_pages pas)) e) where
+    (holds : HoldsAtDoor d h.id.0 TakeCallback (reply.Called m (as_pages pas)) e) where
   pub called-waits : WaitsFor h m.made_at (length pas)
   called-waits =
       let l = ideal_of h in
@@ -128,7 +128,7 @@ module _ (h : Holdings) (d : Seen) (served : IsServed (ideal_of h) d) (m : MapId
 
 -- a map whose callback is due gets as many pages as its load needs
 pub called-need : (h : Holdings) (d : Seen) (served : IsServed (ideal_of h) d) (m : MapId) (pages : List FrameBytes)
-    (e : Seen) (holds : Holds d h.id.0 TakeCallback (reply.Called m (as_pages (page_addresses pages))) e) →
+    (e : Seen) (holds : HoldsAtDoor d h.id.0 TakeCallback (reply.Called m (as_pages (page_addresses pages))) e) →
     IfSome (kept_load (get h.maps.map m.made_at)) (λ w. length pages ≡ w.1.need)
 called-need h d served m pages e holds =
     subst (λ n. IfSome (kept_load (get h.maps.map m.made_at)) (λ w. n ≡ w.1.need)) (length-map pages page_address)

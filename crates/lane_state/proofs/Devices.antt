@@ -13,7 +13,7 @@ use Rattle.busdma_machine.specs.declared.machine.chunk.Chunk.{Chunk}
 use Rattle.busdma_machine.specs.declared.machine.address.Segment.{Segment}
 use Rattle.busdma_machine.specs.Bounce.MemoryRuns.{in_run}
 use Rattle.busdma_machine.specs.Machine.Page.{FrameBytes}
-use Rattle.busdma_machine.specs.Machine.PageList.{RoomyPages, frames_of, page_address, page_addresses}
+use Rattle.busdma_machine.specs.Machine.PageList.{RoomyPages, page_frames, page_address, page_addresses}
 use Rattle.busdma_machine.specs.Machine.Wire.{Placed, stretch}
 use Rattle.device_model.specs.Access.{IsThere, bus_range}
 use Rattle.device_model.proofs.Walk.{bytes_length}
@@ -22,7 +22,7 @@ use Rattle.dma_map.specs.MapView as held
 use Rattle.busdma_rules.specs.Lending.Loans.{addresses_of, loan_of}
 use Rattle.loan_table.specs.Table.{buffer_of}
 use Rattle.phys_memory.specs.Frames.{AreApart}
-use Rattle.phys_memory.specs.Memory.{Memory, has_frame}
+use Rattle.phys_memory.specs.Memory.{FrameMemory, memory_has_frame}
 use Rattle.busdma_rules.specs.Segments.Obeying.{segments_bytes}
 use Rattle.busdma_rules.specs.Segments.Segmentation.{segment_bytes}
 use Rattle.busdma_rules.specs.Segments.Trace.{bus_extent}
@@ -34,19 +34,19 @@ use Rattle.ideal_wire.specs.Centre.{IsPlacedAt}
 use Rattle.ideal_wire.specs.Laid.{IsInPage, IsLaid, LiesIn, is_behind}
 use Rattle.ideal_wire.specs.Traces.{stage_in, stage_at, traces_of}
 use Rattle.ideal_wire.specs.WireStep.{load_buses}
-use Rattle.ideal_wire.proofs.Buses.{placed-buffers}
-use Rattle.ideal_wire.proofs.Copies.{map_own, same_range}
-use Rattle.ideal_wire.proofs.Lent.{any_at}
-use Rattle.ideal_wire.proofs.Placing.{Lies, ItsOwn, InPage, lies-of, own-place}
-use Rattle.ideal_wire.proofs.Positions.{found_one, of_range}
-use Rattle.ideal_wire.proofs.Reaching.{all-from, byte-below}
+use Rattle.ideal_wire.proofs.Faithful.Buses.{placed-buffers}
+use Rattle.ideal_wire.proofs.Faithful.BytesPut.{map_own, same_range}
+use Rattle.ideal_wire.proofs.Faithful.Lent.{any_at}
+use Rattle.ideal_wire.proofs.Faithful.PlacedLoads.{Lies, ItsOwn, InPage, lies-of, own-place}
+use Rattle.ideal_wire.proofs.Laid.Positions.{found_one, of_range}
+use Rattle.ideal_wire.proofs.Loads.Reaching.{all-from, byte-below}
 use Rattle.lane_state.specs.declared.holdings.Holdings.{Holdings}
 use Rattle.lane_state.specs.declared.kept.KeptMap.{KeptMap}
 use Rattle.lane_state.specs.Covered.{has_load, is_lent, lends_pages}
 use Rattle.lane_state.specs.Held.{devices_of}
 use Rattle.lane_state.specs.Ideal.{ideal_of}
-use Rattle.lane_state.specs.Kept.{device_in, device_of, map_of, stage_of}
-use Rattle.lane_state.specs.PagesLent.{HasPages, IsReached}
+use Rattle.lane_state.specs.Kept.{device_in, device_of, map_of, kept_stage}
+use Rattle.lane_state.specs.PagesLent.{HasPages, IsRangeReached}
 use Rattle.lane_state.specs.Wire.{IsWired}
 use Rattle.lane_state.proofs.Keeping.{told-some}
 use Rattle.lane_state.proofs.Lying.{holds, pages-same}
@@ -67,11 +67,11 @@ module _ (h : Holdings) (wired : IsWired h) where
   abbrev l : LaneState
   l = ideal_of h
 
-  abbrev m : Memory
+  abbrev m : FrameMemory
   m = h.memory.memory
 
   -- a byte of the driver's own lies in one of its frames
-  pub own-frame : (a : ℕ) → has_frame m (a / 4096) ≡ is_some (l.memory a)
+  pub own-frame : (a : ℕ) → memory_has_frame m (a / 4096) ≡ is_some (l.memory a)
   own-frame a =
       sym (h.covered a)
       ∙ ap is_some (marks-held h.loans.bytes h.loans.loans (devices_of h.maps.map) h.memory.memory a)
@@ -86,7 +86,7 @@ module _ (h : Holdings) (wired : IsWired h) where
 
   module _ (k : ℕ) where
     abbrev frames : List ℕ
-    frames = frames_of (devices_of h.maps.map k).pages
+    frames = page_frames (devices_of h.maps.map k).pages
 
     -- a frame of its pages is one that the map holds
     holds-frame : (i f : ℕ) → slice_get frames i ≡ Some f → HoldsPage l k i (4096 * f)
@@ -110,7 +110,7 @@ module _ (h : Holdings) (wired : IsWired h) where
           rw (le-leb (4096 * f) (4096 * f) (omega arith), lt-ltb (4096 * f) (4096 * f + 4096 * 1) (omega arith)) refl
           in
           let number : 4096 * f / 4096 ≡ f = omega arith in
-          ap (has_frame m) (sym number) ∙ own-frame (4096 * f)
+          ap (memory_has_frame m) (sym number) ∙ own-frame (4096 * f)
           ∙ wired.apart.away k i (4096 * f) (4096 * f)
           (holds-frame i f (slice_get-get_or frames i d inside)) within;
     }
@@ -152,7 +152,7 @@ module _ (h : Holdings) (wired : IsWired h) where
             ap (λ s. slice_get (Rattle.ideal_lane.specs.Unloads.pages_of s) b.index) x.stage ∙ b.has_page in
             record {
               numbered = omega (arith, whole, low, high, first, frame);
-              found = or-true (has_frame m (t.bus / 4096)) (list_any (λ f. t.bus / 4096 == f) frames)
+              found = or-true (memory_has_frame m (t.bus / 4096)) (list_any (λ f. t.bus / 4096 == f) frames)
                   (any_at (λ f. t.bus / 4096 == f) frames b.index (b.page / 4096) (frame-at b.index b.page has)
                   (eq-eqb (t.bus / 4096) (b.page / 4096) (sym same)));
             }
@@ -170,8 +170,8 @@ module _ (h : Holdings) (wired : IsWired h) where
     loading = by o.map.stage refl on (sym (ap lends_pages there) ∙ h.unlent k)
         (subst (LiesIn l k) (ap stage_in (image-some map_of h.maps.map k o there)) (wired.laid.each k))
       where
-        by : (s : held.Stage KeptLoad) → o.map.stage ≡ s → is_loaded (stage_of s) ≡ true → is_lent s ≡ false →
-            LiesIn l k (stage_of s) → Loading
+        by : (s : held.HeldStage KeptLoad) → o.map.stage ≡ s → is_loaded (kept_stage s) ≡ true → is_lent s ≡ false →
+            LiesIn l k (kept_stage s) → Loading
         by held.idle e loaded unlent lies = absurd (cc)
         by (held.waiting load_at callback room) e loaded unlent lies = absurd (cc)
         by (held.loaded bounced segments pages) e loaded unlent lies = record {
@@ -191,7 +191,7 @@ module _ (h : Holdings) (wired : IsWired h) where
     has-pages = record {
       loaded = ap held.state_of loading.stage;
       unlent = ap held.lent_frames loading.stage;
-      apart = subst (λ d. AreApart m (frames_of d.pages)) device-is (frames-apart k);
+      apart = subst (λ d. AreApart m (page_frames d.pages)) device-is (frames-apart k);
     }
 
     -- a place of a range of its trace
@@ -210,7 +210,8 @@ module _ (h : Holdings) (wired : IsWired h) where
           ap (λ s. bus_range off len (held.segments_of s)) loading.stage
           ∙ sym (map_own (bus_range off len loading.segments))
           ∙ sym (same_range (λ (t : Placed). t.bus) (λ (a : ℕ). a) off len (traces_of l k)
-          (segment_bytes loading.segments) (sym (loading.load.trace plain) ∙ sym (map_own (segment_bytes loading.segments))))
+          (segment_bytes loading.segments) (sym (loading.load.trace plain)
+          ∙ sym (map_own (segment_bytes loading.segments))))
 
       pub bytes-long : segments_bytes (held.segments_of o.map.stage) ≡ length (buffer_of h.loans k)
       bytes-long =
@@ -220,13 +221,14 @@ module _ (h : Holdings) (wired : IsWired h) where
           ∙ ap length (placed-buffers (bounced_in (stage_at l k)) 0 (addresses_of (loan_of h.loans.loans k).positions))
           ∙ length-map (loan_of h.loans.loans k).positions (λ p. p.pa)
 
-      pub is-reached : (off len : ℕ) → off + len ≤ length (buffer_of h.loans k) → IsReached m o.map.stage off len
+      pub is-reached : (off len : ℕ) → off + len ≤ length (buffer_of h.loans k) → IsRangeReached m o.map.stage off len
       is-reached off len range = record {
         pages = has-pages;
         range = let size = bytes-long in omega (arith, range, size);
-        there = subst (AllByRecursion (IsThere m (frames_of (device_in o.map.stage).pages))) (sym (range-buses off len))
-            (all-from (IsThere m (frames_of (device_in o.map.stage).pages)) (load_buses l k off len) (λ i a at.
+        there = subst (AllByRecursion (IsThere m (page_frames (device_in o.map.stage).pages)))
+            (sym (range-buses off len))
+            (all-from (IsThere m (page_frames (device_in o.map.stage).pages)) (load_buses l k off len) (λ i a at.
             let t = range-place off len i a at in
-            subst (λ d. IsThere m (frames_of d.pages) a) device-is
+            subst (λ d. IsThere m (page_frames d.pages) a) device-is
             (subst (IsThere m (frames k)) t.2 (there-bus k (off + i) t.0 t.1))));
       }

@@ -1,6 +1,7 @@
 -- The wire after a step: pages and memories came with their bytes and left with theirs, and bytes of the driver were
 -- copied to others, or none changed.
-use Rattle.std.proofs.Common.{◌≡◌, ◌≢◌, ◌⊎◌, inl, inr, ℕ, zero, suc, ◌+◌, ◌*◌, ◌/◌, ◌<◌, ◌≤◌, Bool, true, false, List, []}
+use Rattle.std.proofs.Common.{◌≡◌, ◌≢◌, ◌⊎◌, inl, inr, ℕ, zero, suc, ◌+◌, ◌*◌, ◌/◌, ◌<◌, ◌≤◌, Bool, true, false, List}
+use Rattle.std.proofs.Common.{[]}
 use Rattle.std.proofs.Common.{◌∷◌, map, Option, Some, None, subst}
 use Rattle.std.proofs.Common.{is_some, slice_get, nat_le, nat_lt, refl, sym, ap, ◌∙◌, arith}
 use mathlib.Core.Logic.{∥∥₁_elim}
@@ -25,14 +26,14 @@ use Rattle.ideal_wire.specs.Apart.{HoldsPage, IsApart}
 use Rattle.ideal_wire.specs.Laid.{AreLaid, IsOwnByte, OfMemory, OfPages}
 use Rattle.ideal_wire.specs.Traces.{is_in_pages, stage_at}
 use Rattle.ideal_wire.specs.WireStep.{BringsKnown, Follows}
-use Rattle.ideal_wire.proofs.Lent.{any_found}
+use Rattle.ideal_wire.proofs.Faithful.Lent.{any_found}
 use Rattle.lane_state.specs.declared.holdings.Holdings.{Holdings}
 use Rattle.lane_state.specs.Changes.{KeepsBesideMemory, KeepsBytes, KeepsBytesHeld, KeepsCopied, KeepsState}
 use Rattle.lane_state.specs.Changes.{KeepsWhatStays}
 use Rattle.lane_state.specs.Held.{content_of, devices_of}
 use Rattle.lane_state.specs.Ideal.{ideal_of}
 use Rattle.lane_state.specs.Wire.{wire_of}
-use Rattle.lane_state.proofs.Changing.{covered-alike, put-alike, put-apart}
+use Rattle.lane_state.proofs.ChangeLaws.{covered-alike, put-alike, put-apart}
 use Rattle.lane_state.proofs.Keeping.{told-some}
 use Rattle.lane_state.proofs.Lying.{own-view, page-mine, pages-same}
 use Rattle.lane_state.proofs.Views.{view-alike}
@@ -205,7 +206,8 @@ module _ (h k : Holdings) (laid : AreLaid (ideal_of h)) (apart : IsApart (ideal_
     pub follows-copied : Follows (ideal_of h) (ideal_of k) (put to (map (wire_of h) from) (wire_of h)) (wire_of k)
     follows-copied = record {
       own = λ a before after. own-stands a after ∙ ap (λ w. w a) keeps.own
-          ∙ put-alike to (map (wire h.memory.memory) from) (wire h.memory.memory) (wire_of h) a (sym (own-stood a before))
+          ∙ put-alike to (map (wire h.memory.memory) from) (wire h.memory.memory) (wire_of h) a
+          (sym (own-stood a before))
           ∙ ap (λ vs. put to vs (wire_of h) a) (same-bytes from keeps.own_from);
       pages = λ m a before after. page m a (keeps.pages m) before after
           ∙ sym (put-apart to (map (wire_of h) from) (wire_of h) a (apart-from to keeps.own_to m a before));
@@ -220,7 +222,8 @@ module _ (h k : Holdings) (laid : AreLaid (ideal_of h)) (apart : IsApart (ideal_
             is_in_pages (pages_of (stage_at (ideal_of h) m)) a ≡ true → (i b : ℕ) → slice_get pas i ≡ Some b → a ≢ b
         apart-from pas there m a inside i b at same =
             let own : is_some ((ideal_of h).memory a) ≡ true =
-            subst (λ c. is_some ((ideal_of h).memory c) ≡ true) (sym same) (is-own h b (in-at h.loans.bytes pas i b there at)) in
+            subst (λ c. is_some ((ideal_of h).memory c) ≡ true) (sym same)
+            (is-own h b (in-at h.loans.bytes pas i b there at)) in
             false≢true (sym (page-unowned h laid apart m a inside) ∙ own)
 
   -- if a memory came or went

@@ -6,7 +6,7 @@ use Rattle.std.specs.Ordering.{nat_cmp}
 use Rattle.std.specs.FinMap.{FinMap, get, entries, entries_sorted, get-entries}
 use Rattle.busdma_machine.specs.Machine.Wire.{Wire, Placed, with_bytes_of}
 use Rattle.busdma_rules.specs.Lending.Loans.{Loans, Loan, loan_of, no_loan, to_write, lent, addresses_of}
-use Rattle.phys_memory.specs.Memory.{Memory, wire}
+use Rattle.phys_memory.specs.Memory.{FrameMemory, wire}
 use Rattle.ideal_lane.specs.IdealMemory.{IdealMemory, Content, Known, Unknown, known}
 use Rattle.ideal_lane.specs.State.{LaneState}
 use Rattle.ideal_lane.specs.Syncs.{bounced_in}
@@ -14,9 +14,9 @@ use Rattle.ideal_wire.specs.Apart.{IsApart}
 use Rattle.ideal_wire.specs.Centre.{IsAt, IsFaithfulTo}
 use Rattle.ideal_wire.specs.Laid.{AreLaid}
 use Rattle.ideal_wire.specs.Traces.{stage_at, bus_at, traces_of}
-use Rattle.ideal_wire.proofs.Buses.{placed-buffers}
-use Rattle.ideal_wire.proofs.Placing.{load-of, place-of}
-use Rattle.ideal_wire.proofs.Positions.{twin_of}
+use Rattle.ideal_wire.proofs.Faithful.Buses.{placed-buffers}
+use Rattle.ideal_wire.proofs.Faithful.PlacedLoads.{load-of, place-of}
+use Rattle.ideal_wire.proofs.Laid.Positions.{twin_of}
 use Rattle.busdma_rules.specs.declared.position.Position.{Position}
 use Rattle.lane_state.specs.declared.kept.KeptMap.{KeptMap}
 use Rattle.lane_state.specs.Covered.{lends_pages}
@@ -37,7 +37,8 @@ abbrev pub AreMarks : FinMap nat_cmp Bool → IdealMemory → Type 0
 AreMarks bytes memory = (a : ℕ) → get bytes a ≡ mark_of (memory a)
 
 module _ (l : LaneState) (laid : AreLaid l) (apart : IsApart l) (maps : FinMap nat_cmp KeptMap)
-    (same : map_values map_of maps ≡ l.maps) (unlent : (k : ℕ) → lends_pages (get maps k) ≡ false) (m : Memory) where
+    (same : map_values map_of maps ≡ l.maps) (unlent : (k : ℕ) → lends_pages (get maps k) ≡ false)
+    (m : FrameMemory) where
   -- what is held, of a lane with these maps and frames
   abbrev pub now : Wire
   now = with_bytes_of (held_pages maps) (wire m)

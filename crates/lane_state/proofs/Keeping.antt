@@ -9,8 +9,8 @@ use Rattle.phys_memory.specs.Memory.{wire}
 use Rattle.ideal_lane.specs.Outcomes.{is_idle, is_loaded}
 use Rattle.ideal_lane.specs.State.{Stage, Idle, Waiting, Loaded, Returning}
 use Rattle.lane_state.specs.declared.kept.KeptMap.{KeptMap}
-use Rattle.lane_state.specs.Covered.{has_load, is_idle_map, is_returning, is_tried, lends_pages}
-use Rattle.lane_state.specs.Kept.{device_of, no_device, due_of, map_of, stage_of}
+use Rattle.lane_state.specs.Covered.{has_load, is_idle_map, is_covered_returning, is_tried, lends_pages}
+use Rattle.lane_state.specs.Kept.{device_of, no_device, due_of, map_of, kept_stage}
 use Rattle.lane_state.specs.Changes.{KeepsButTags, KeepsBytes}
 use Rattle.lane_state.specs.Held.{devices_of}
 
@@ -34,12 +34,12 @@ pub record IsIdleMap (o : KeptMap) : Type 0 where
   pub unheld : device_of (Some o) ≡ no_device
   pub unloaded : has_load (Some o) ≡ false
   pub unlent : lends_pages (Some o) ≡ false
-  pub still : is_returning (Some o) ≡ false
+  pub still : is_covered_returning (Some o) ≡ false
   pub tried : is_tried (Some o) ≡ true
   pub undue : due_of o ≡ 0
 
-idle-stage : (tag : ℕ) (map : held.MapView KeptLoad) (s : held.Stage KeptLoad) → map.stage ≡ s →
-    is_idle (stage_of s) ≡ true → IsIdleMap (record { tag = tag; map = map })
+idle-stage : (tag : ℕ) (map : held.MapView KeptLoad) (s : held.HeldStage KeptLoad) → map.stage ≡ s →
+    is_idle (kept_stage s) ≡ true → IsIdleMap (record { tag = tag; map = map })
 idle-stage tag map held.idle e h = rw e (record {
   unheld = refl;
   unloaded = refl;
@@ -77,32 +77,32 @@ told-some f None y h = absurd (cc)
 told-some f (Some x) y h = (x, refl, (let same : f x ≡ y = cc in same))
 
 -- the stage of a map in the state Idle
-pub state-idle : (s : held.Stage KeptLoad) → held.state_of s ≡ state.Idle →
-    is_idle (stage_of s) ≡ true
+pub state-idle : (s : held.HeldStage KeptLoad) → held.state_of s ≡ state.Idle →
+    is_idle (kept_stage s) ≡ true
 state-idle held.idle h = refl
 state-idle (held.waiting load_at callback room) h = absurd (cc)
 state-idle (held.loaded bounced segments pages) h = absurd (cc)
 state-idle (held.lent bounced segments frames) h = absurd (cc)
 state-idle held.returning h = absurd (cc)
 
-pub state-busy : (s : held.Stage KeptLoad) → ¬ (held.state_of s ≡ state.Idle) →
-    is_idle (stage_of s) ≡ false
+pub state-busy : (s : held.HeldStage KeptLoad) → ¬ (held.state_of s ≡ state.Idle) →
+    is_idle (kept_stage s) ≡ false
 state-busy held.idle h = absurd (h refl)
 state-busy (held.waiting load_at callback room) h = refl
 state-busy (held.loaded bounced segments pages) h = refl
 state-busy (held.lent bounced segments frames) h = refl
 state-busy held.returning h = refl
 
-pub state-loaded : (s : held.Stage KeptLoad) → held.state_of s ≡ state.Loaded →
-    is_loaded (stage_of s) ≡ true
+pub state-loaded : (s : held.HeldStage KeptLoad) → held.state_of s ≡ state.Loaded →
+    is_loaded (kept_stage s) ≡ true
 state-loaded held.idle h = absurd (cc)
 state-loaded (held.waiting load_at callback room) h = absurd (cc)
 state-loaded (held.loaded bounced segments pages) h = refl
 state-loaded (held.lent bounced segments frames) h = refl
 state-loaded held.returning h = absurd (cc)
 
-pub state-unloaded : (s : held.Stage KeptLoad) → ¬ (held.state_of s ≡ state.Loaded) →
-    is_loaded (stage_of s) ≡ false
+pub state-unloaded : (s : held.HeldStage KeptLoad) → ¬ (held.state_of s ≡ state.Loaded) →
+    is_loaded (kept_stage s) ≡ false
 state-unloaded held.idle h = refl
 state-unloaded (held.waiting load_at callback room) h = refl
 state-unloaded (held.loaded bounced segments pages) h = absurd (h refl)
@@ -114,7 +114,7 @@ some-there None h = absurd (cc)
 some-there (Some x) h = (x, refl)
 
 -- a map whose stage is idle is in the state Idle
-pub idle-state : (s : held.Stage KeptLoad) → is_idle (stage_of s) ≡ true →
+pub idle-state : (s : held.HeldStage KeptLoad) → is_idle (kept_stage s) ≡ true →
     held.state_of s ≡ state.Idle
 idle-state held.idle h = refl
 idle-state (held.waiting load_at callback room) h = absurd (cc)

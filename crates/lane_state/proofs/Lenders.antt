@@ -9,7 +9,7 @@ use Rattle.std.proofs.lemmas.Map.Views.{exact_unsigned_eq}
 use Rattle.busdma_machine.specs.declared.machine.chunk.Chunk.{Chunk}
 use Rattle.busdma_rules.specs.declared.position.Position.{Position}
 use Rattle.busdma_rules.specs.Lending.Loans.{Loan, lends, to_write}
-use Rattle.phys_memory.specs.Memory.{Memory}
+use Rattle.phys_memory.specs.Memory.{FrameMemory}
 use Rattle.ideal_wire.specs.Traces.{bus_at}
 use Rattle.lane_state.specs.Held.{lent_bus, lent_byte, device_view, byte_among}
 use Rattle.lane_state.specs.Kept.{Device}
@@ -71,7 +71,7 @@ pub record IsLent (devices : ℕ → Device) (es : List (ℕ × Loan)) (a : ℕ)
   pub at : slice_get loan.positions place ≡ Some position
   pub same : position.pa ≡ a
   pub lends : position.to_write ≡ true
-  pub is : (m : Memory) → byte_among devices m es a
+  pub is : (m : FrameMemory) → byte_among devices m es a
       ≡ device_view (devices key) m (bus_at (devices key).chunks (0 + place) position.pa)
 
 none-some : {X : Type 0} (x : X) → None ≡ Some x → ⊥

@@ -1,8 +1,8 @@
 pub mod Awaiting
 pub mod Bytes
 pub mod Called
-pub mod Changing
-pub mod Covering
+pub mod ChangeLaws
+pub mod CoveredLaws
 pub mod Devices
 pub mod Doors
 mod Earlier
@@ -36,4 +36,4 @@ pub mod Spaces
 pub mod TakenLoads
 pub mod Unloaded
 pub mod Views
-pub mod Wires
+pub mod WireBytes

@@ -28,12 +28,12 @@ use Rattle.busdma_rules.specs.Memory.Bios.{is_rounded}
 use Rattle.busdma_rules.specs.Memory.BioFrames.{AreFrames, in_frames}
 use Rattle.busdma_rules.proofs.Memory.InFrames.{IsInOneOf, frames_paged}
 use Rattle.loan_table.specs.Table.{AreIn}
-use Rattle.phys_memory.specs.Extents.{LiesIn}
+use Rattle.phys_memory.specs.Extents.{LiesInFrames}
 use Rattle.phys_memory.specs.Frames.{Lie}
-use Rattle.phys_memory.specs.Memory.{IsMemory, Memory, has_frame}
+use Rattle.phys_memory.specs.Memory.{IsMemory, FrameMemory, memory_has_frame}
 use Rattle.phys_memory.specs.Memory as memory
 use Rattle.busdma_rules.specs.Memory.Translation.{Translation, missing, unreached}
-use Rattle.phys_memory.specs.Vector.{ending, spans_stream}
+use Rattle.phys_memory.specs.VectorStreams.{ending, spans_stream}
 use Rattle.busdma_rules.specs.Memory.Vectors.{entries_of, judged_spans}
 use Rattle.busdma_rules.proofs.Memory.Paged.{IsPaged}
 use Rattle.phys_memory.proofs.Reached.{IsHeld, memory_paged}
@@ -44,7 +44,7 @@ use Rattle.ideal_lane.proofs.Needs.{bytes-few}
 use Rattle.lane_state.specs.Covered.{HasFramesOf, IsCovered}
 use Rattle.lane_state.specs.Judging.{unmapped_judged}
 use Rattle.lane_state.specs.Loading.{bio_bytes, bio_reached, load_stream, stream_extents}
-use Rattle.lane_state.proofs.Covering.{byte_count_is, lie_in}
+use Rattle.lane_state.proofs.CoveredLaws.{byte_count_is, lie_in}
 
 -- ---- the byte that stops a stream
 
@@ -162,10 +162,10 @@ entries-extent [] h = tt
 entries-extent (e ∷ es) h = (h.0.extents, entries-extent es h.1)
 
 -- the extents of spans lie in the frames of a memory, if all that is reached does
-module _ (Has : ℕ → Type 0) (rounded : Bool) (t : Translation) (is : IsPaged Has t) (m : Memory)
+module _ (Has : ℕ → Type 0) (rounded : Bool) (t : Translation) (is : IsPaged Has t) (m : FrameMemory)
     (bytes : FinMap nat_cmp Bool) (covered : IsCovered m bytes)
     (held : (pa : ℕ) → Has pa → IsHeld m pa) (spans : List Span) where
-  lies-each : (es : List Extent) → AllByRecursion (λ e. Has e.pa.0) es → AllByRecursion (LiesIn m) es
+  lies-each : (es : List Extent) → AllByRecursion (λ e. Has e.pa.0) es → AllByRecursion (LiesInFrames m) es
   lies-each [] h = tt
   lies-each (e ∷ es) h = (held e.pa.0 h.0, lies-each es h.1)
 
@@ -179,36 +179,38 @@ module _ (Has : ℕ → Type 0) (rounded : Bool) (t : Translation) (is : IsPaged
       (all-extents (λ e. Has e.pa.0) es j (entries_have Has rounded t is spans)))
 
 -- the extents of mapped bytes are in the driver's table
-pub mapped-inside : (m : Memory) (bytes : FinMap nat_cmp Bool) (spans : List Span) → IsMemory m → IsCovered m bytes →
-    AreIn bytes (addresses (stream_extents (spans_stream true (memory.physical m) spans)))
+pub mapped-inside : (m : FrameMemory) (bytes : FinMap nat_cmp Bool) (spans : List Span) → IsMemory m →
+    IsCovered m bytes →
+    AreIn bytes (addresses (stream_extents (spans_stream true (memory.memory_physical m) spans)))
 mapped-inside m bytes spans sound covered =
-    spans-inside (IsHeld m) true (memory.physical m) (memory_paged m sound) m bytes covered (λ pa h. h) spans
+    spans-inside (IsHeld m) true (memory.memory_physical m) (memory_paged m sound) m bytes covered (λ pa h. h) spans
 
-pub mapped-lie : (m : Memory) (spans : List Span) → IsMemory m →
-    Lie m (stream_extents (spans_stream true (memory.physical m) spans))
+pub mapped-lie : (m : FrameMemory) (spans : List Span) → IsMemory m →
+    Lie m (stream_extents (spans_stream true (memory.memory_physical m) spans))
 mapped-lie m spans sound =
-    let t = memory.physical m in
+    let t = memory.memory_physical m in
     let es = entries_of true t spans in
     let j = judged_spans t 0 spans in
     let paged = memory_paged m sound in
     record {
       extents = all-extents IsExtent es j (entries-extent es (entries_are (IsHeld m) true t paged spans));
-      frames = all-extents (LiesIn m) es j (entries_have (IsHeld m) true t paged spans);
+      frames = all-extents (LiesInFrames m) es j (entries_have (IsHeld m) true t paged spans);
     }
 
 -- a frame of the driver's pages is one of its memory's
-frame-held : (pages : List PageRun) (m : Memory) (fs : List ℕ) (f : ℕ) → HasFramesOf pages m →
-    AllByRecursion (λ frame. runs.has_frame pages frame ≡ true) fs → Contains fs f → has_frame m f ≡ true
+frame-held : (pages : List PageRun) (m : FrameMemory) (fs : List ℕ) (f : ℕ) → HasFramesOf pages m →
+    AllByRecursion (λ frame. runs.has_frame pages frame ≡ true) fs → Contains fs f → memory_has_frame m f ≡ true
 frame-held pages m fs f framed own h =
-    subst (λ frame. has_frame m frame ≡ true) h.2 (each-held fs h.0 f h.1 own)
+    subst (λ frame. memory_has_frame m frame ≡ true) h.2 (each-held fs h.0 f h.1 own)
   where
     each-held : (gs : List ℕ) (k d : ℕ) → k < length gs →
-        AllByRecursion (λ frame. runs.has_frame pages frame ≡ true) gs → has_frame m (slice_index_or gs k d) ≡ true
+        AllByRecursion (λ frame. runs.has_frame pages frame ≡ true) gs → memory_has_frame m (slice_index_or gs k d)
+        ≡ true
     each-held [] k d lt all = absurd (omega arith)
     each-held (g ∷ gs) zero d lt all = framed g all.0
     each-held (g ∷ gs) (suc k) d lt all = each-held gs k d (omega arith) all.1
 
-pub frames-inside : (pages : List PageRun) (m : Memory) (bytes : FinMap nat_cmp Bool) (fs : List ℕ)
+pub frames-inside : (pages : List PageRun) (m : FrameMemory) (bytes : FinMap nat_cmp Bool) (fs : List ℕ)
     (spans : List Span) →
     AreFrames fs → AllByRecursion (λ frame. runs.has_frame pages frame ≡ true) fs → HasFramesOf pages m →
     IsCovered m bytes → AreIn bytes (addresses (stream_extents (spans_stream false (in_frames fs) spans)))

@@ -21,27 +21,27 @@ use Rattle.ideal_wire.specs.Apart.{HoldsPage, IsApart}
 use Rattle.ideal_wire.specs.Centre.{IsPlacedAt}
 use Rattle.ideal_wire.specs.Laid.{AreLaid}
 use Rattle.ideal_wire.specs.Traces.{stage_in, stage_at, traces_of}
-use Rattle.ideal_wire.proofs.Placing.{Lies, ItsOwn, InPage, lies-of, own-place}
-use Rattle.ideal_wire.proofs.Reaching.{all-from}
+use Rattle.ideal_wire.proofs.Faithful.PlacedLoads.{Lies, ItsOwn, InPage, lies-of, own-place}
+use Rattle.ideal_wire.proofs.Loads.Reaching.{all-from}
 use Rattle.lane_state.specs.declared.kept.KeptMap.{KeptMap}
 use Rattle.lane_state.specs.Covered.{is_lent, lends_pages}
 use Rattle.lane_state.specs.Held.{devices_of}
-use Rattle.lane_state.specs.Kept.{device_in, device_of, map_of, stage_of}
+use Rattle.lane_state.specs.Kept.{device_in, device_of, map_of, kept_stage}
 use Rattle.lane_state.specs.MapValues.{map_values}
 use Rattle.lane_state.specs.Wire.{held_pages}
 use Rattle.lane_state.proofs.MapValues.{get-map_values}
 use Rattle.lane_state.proofs.Views.{IsMine, view-alike}
 
 -- ---- what a map has, by its stage
-chunks-stage : (s : held.Stage KeptLoad) → (device_in s).chunks ≡ bounced_in (stage_of s)
+chunks-stage : (s : held.HeldStage KeptLoad) → (device_in s).chunks ≡ bounced_in (kept_stage s)
 chunks-stage held.idle = refl
 chunks-stage (held.waiting load_at callback room) = refl
 chunks-stage (held.loaded bounced segments pages) = refl
 chunks-stage (held.lent bounced segments frames) = refl
 chunks-stage held.returning = refl
 
-pages-stage : (s : held.Stage KeptLoad) → is_lent s ≡ false →
-    page_addresses (device_in s).pages ≡ pages_of (stage_of s)
+pages-stage : (s : held.HeldStage KeptLoad) → is_lent s ≡ false →
+    page_addresses (device_in s).pages ≡ pages_of (kept_stage s)
 pages-stage held.idle h = refl
 pages-stage (held.waiting load_at callback room) h = refl
 pages-stage (held.loaded bounced segments pages) h = refl

@@ -10,13 +10,13 @@ use Rattle.ideal_lane.proofs.Lookups.{get_put, get_cut, mapped, put_same}
 use Rattle.ideal_lane.proofs.Weights.{weigh-new, weigh-cut}
 use Rattle.lane_state.specs.declared.holdings.Holdings.{Holdings}
 use Rattle.lane_state.specs.declared.kept.KeptMap.{KeptMap}
-use Rattle.lane_state.specs.Covered.{AreLoaded, AreReturning, has_load, lends_pages, pages_due}
-use Rattle.lane_state.specs.Covered.{is_returning, is_tried}
+use Rattle.lane_state.specs.Covered.{AreCoveredLoads, AreReturning, has_load, lends_pages, pages_due}
+use Rattle.lane_state.specs.Covered.{is_covered_returning, is_tried}
 use Rattle.lane_state.specs.Kept.{due_of}
 
 pub record AreMaps (maps : FinMap nat_cmp KeptMap) (loans : Loans) (returns : List QueuedPage) (owed : ℕ)
     : Type 0 where
-  pub loaded : AreLoaded maps loans
+  pub loaded : AreCoveredLoads maps loans
   pub unlent : (k : ℕ) → lends_pages (get maps k) ≡ false
   pub promised : pages_due maps ≤ owed
   pub returning : AreReturning maps returns
@@ -37,7 +37,7 @@ module _ {X : Type 0} (f : Option KeptMap → X) (maps : FinMap nat_cmp KeptMap)
 
 -- pages of the queue are of maps on their way back, if this was so of the same maps before
 pub returns-alike : (maps others : FinMap nat_cmp KeptMap) (returns : List QueuedPage) →
-    ((q : ℕ) → is_returning (get others q) ≡ is_returning (get maps q)) → AreReturning maps returns →
+    ((q : ℕ) → is_covered_returning (get others q) ≡ is_covered_returning (get maps q)) → AreReturning maps returns →
     AreReturning others returns
 returns-alike maps others returns same are =
     ap (λ (f : ℕ → Bool). list_any (λ q. not (f q.map.made_at)) returns) (λ i q. same q i) ∙ are
@@ -46,7 +46,7 @@ module _ (maps : FinMap nat_cmp KeptMap) (loans : Loans) (returns : List QueuedP
     (are : AreMaps maps loans returns owed) where
   -- an idle map is put at a place that had none
   pub maps-new : (k : ℕ) (o : KeptMap) → get maps k ≡ None → has_load (Some o) ≡ false →
-      lends_pages (Some o) ≡ false → due_of o ≡ 0 → is_returning (Some o) ≡ false → is_tried (Some o) ≡ true →
+      lends_pages (Some o) ≡ false → due_of o ≡ 0 → is_covered_returning (Some o) ≡ false → is_tried (Some o) ≡ true →
       AreMaps (insert maps k o) loans returns owed
   maps-new k o none unloaded unlent undue still tried =
       let due : pages_due (insert maps k o) ≡ pages_due maps + due_of o = weigh-new due_of maps k o none in
@@ -56,13 +56,13 @@ module _ (maps : FinMap nat_cmp KeptMap) (loans : Loans) (returns : List QueuedP
         unlent = λ q. told-put lends_pages maps k o (unlent ∙ ap lends_pages (sym none)) q ∙ are.unlent q;
         promised = let few : pages_due maps ≤ owed = are.promised in omega (arith, due, undue, few);
         returning = returns-alike maps (insert maps k o) returns
-            (told-put is_returning maps k o (still ∙ ap is_returning (sym none))) are.returning;
+            (told-put is_covered_returning maps k o (still ∙ ap is_covered_returning (sym none))) are.returning;
         tried = λ q. told-put is_tried maps k o (tried ∙ ap is_tried (sym none)) q ∙ are.tried q;
       }
 
   -- an idle map is dropped
   pub maps-gone : (k : ℕ) (o : KeptMap) → get maps k ≡ Some o → has_load (Some o) ≡ false →
-      lends_pages (Some o) ≡ false → is_returning (Some o) ≡ false → is_tried (Some o) ≡ true →
+      lends_pages (Some o) ≡ false → is_covered_returning (Some o) ≡ false → is_tried (Some o) ≡ true →
       AreMaps (remove maps k) loans returns owed
   maps-gone k o there unloaded unlent still tried = record {
     loaded = λ q. are.loaded q ∙ sym (told-cut has_load maps k (sym (ap has_load there ∙ unloaded)) q);
@@ -70,7 +70,7 @@ module _ (maps : FinMap nat_cmp KeptMap) (loans : Loans) (returns : List QueuedP
     promised = let few : pages_due maps ≤ owed = are.promised in
         let less : pages_due (remove maps k) ≤ pages_due maps = weigh-cut due_of maps k o there in omega arith;
     returning = returns-alike maps (remove maps k) returns
-        (told-cut is_returning maps k (sym (ap is_returning there ∙ still))) are.returning;
+        (told-cut is_covered_returning maps k (sym (ap is_covered_returning there ∙ still))) are.returning;
     tried = λ q. told-cut is_tried maps k (sym (ap is_tried there ∙ tried)) q ∙ are.tried q;
   }
 

@@ -8,7 +8,7 @@ use Rattle.std.specs.FinMap.{FinMap, contains_key, get, insert, entries}
 use Rattle.std.proofs.lemmas.Map.Views.{exact_unsigned_eq}
 use Rattle.busdma_rules.specs.Lending.Loans.{Loans}
 use Rattle.loan_table.specs.Table.{AreIn, set_all}
-use Rattle.phys_memory.specs.Memory.{Memory}
+use Rattle.phys_memory.specs.Memory.{FrameMemory}
 use Rattle.ideal_lane.specs.IdealMemory.{IdealMemory, Content, Known, Unknown, forgotten, has_address, written}
 use Rattle.ideal_lane.specs.IdealMemory.{written_at}
 use Rattle.lane_state.specs.Held.{byte_among, content_of, held}
@@ -22,7 +22,7 @@ mark-content (Some true) v = refl
 mark-content (Some false) v = refl
 
 -- the marks that are held are those of what is held
-pub marks-held : (bytes : FinMap nat_cmp Bool) (loans : Loans) (d : ℕ → Device) (m : Memory) →
+pub marks-held : (bytes : FinMap nat_cmp Bool) (loans : Loans) (d : ℕ → Device) (m : FrameMemory) →
     AreMarks bytes (held bytes loans d m)
 marks-held bytes loans d m a = mark-content (get bytes a) (byte_among d m (entries loans) a)
 

@@ -1,6 +1,8 @@
 -- What is prepared for maps has bytes that may be loaded into them.
-use Rattle.std.proofs.Common.{◌≡◌, ℕ, zero, suc, ◌<◌, ◌==◌, ◌||◌, Bool, true, false, cond, List, [], ◌∷◌, length, get_or}
-use Rattle.std.proofs.Common.{Result, Ok, Err, OnOk, OnErr, Option, Some, None, unwrap_or, refl, sym, ap, ◌∙◌, subst, arith}
+use Rattle.std.proofs.Common.{◌≡◌, ℕ, zero, suc, ◌<◌, ◌==◌, ◌||◌, Bool, true, false, cond, List, [], ◌∷◌, length}
+use Rattle.std.proofs.Common.{get_or}
+use Rattle.std.proofs.Common.{Result, Ok, Err, OnOk, OnErr, Option, Some, None, unwrap_or, refl, sym, ap, ◌∙◌, subst}
+use Rattle.std.proofs.Common.{arith}
 use Rattle.std.proofs.lemmas.Map.Views.{exact_unsigned_eq}
 use Rattle.std.specs.List.{All, AllByRecursion}
 use Rattle.std.specs.Ordering.{nat_cmp}
@@ -9,28 +11,29 @@ use Rattle.busdma_machine.specs.Bounce.MemoryRuns.{in_run}
 use Rattle.busdma_base.specs.declared.scenarios.scenario.PageRun.{PageRun}
 use Rattle.busdma_base.specs.Scenarios.PageRuns.{is_own}
 use Rattle.busdma_rules.specs.declared.position.Position.{Position}
-use Rattle.busdma_rules.specs.Lending.Loans.{Loan, Loans, new_loan, no_loan, unlent_positions as unlent}
+use Rattle.busdma_rules.specs.Lending.Loans.{Loan, Loans, new_loan, no_loan, unlent_positions}
 use Rattle.loan_table.specs.Table.{IsSame, Table}
 use Rattle.ideal_lane.proofs.Lookups.{get_cut, get_put}
 use Rattle.ideal_wire.specs.Laid.{is_loadable}
 use Rattle.lane_state.specs.declared.holdings.Holdings.{Holdings}
 use Rattle.lane_state.specs.declared.kept.KeptMemory.{KeptMemory}
-use Rattle.lane_state.specs.Awaiting.{AreOfMaps, is_of_map}
+use Rattle.lane_state.specs.Awaiting.{AreOfMaps, awaits_map}
 use Rattle.lane_state.specs.Ideal.{ideal_of}
 use Rattle.lane_state.specs.Kept.{memory_of}
 use Rattle.lane_state.proofs.MapValues.{get-map_values}
 use Rattle.std.specs.Option.{option_map}
 
 -- what is true of each byte is true of each position that lends none
-of-unlent : (P : ℕ → Type 0) (bs : List ℕ) → AllByRecursion P bs → (i : ℕ) (d : Position) → i < length (unlent bs) →
-    P (get_or (unlent bs) i d).pa
+of-unlent : (P : ℕ → Type 0) (bs : List ℕ) → AllByRecursion P bs → (i : ℕ) (d : Position) → i
+    < length (unlent_positions bs) →
+    P (get_or (unlent_positions bs) i d).pa
 of-unlent P [] h i d inside = absurd (omega arith)
 of-unlent P (a ∷ bs) h zero d inside = h.0
 of-unlent P (a ∷ bs) h (suc i) d inside = of-unlent P bs h.1 i d (omega arith)
 
 -- a byte that may be loaded into a map of the ideal driver may be loaded into the map
 of-map : (h : Holdings) (k a : ℕ) → is_loadable (get (ideal_of h).mems k) (ideal_of h) a ≡ true →
-    is_of_map h.pages.now (get h.memories.map k) a ≡ true
+    awaits_map h.pages.now (get h.memories.map k) a ≡ true
 of-map h k a loadable =
     by (get h.memories.map k) (sym (ap (λ o. is_loadable o (ideal_of h) a) (get-map_values memory_of h.memories.map k))
     ∙ loadable)
@@ -40,19 +43,19 @@ of-map h k a loadable =
     or-true false c e = e
 
     by : (o : Option KeptMemory) → is_loadable (option_map memory_of o) (ideal_of h) a ≡ true →
-        is_of_map h.pages.now o a ≡ true
+        awaits_map h.pages.now o a ≡ true
     by None e = e
     by (Some x) e = or-true (is_own h.pages.now a) (in_run x.first.0 x.count a) e
 
 pub all-of-map : (h : Holdings) (k : ℕ) (bs : List ℕ) →
     AllByRecursion (λ a. is_loadable (get (ideal_of h).mems k) (ideal_of h) a ≡ true) bs →
-    AllByRecursion (λ a. is_of_map h.pages.now (get h.memories.map k) a ≡ true) bs
+    AllByRecursion (λ a. awaits_map h.pages.now (get h.memories.map k) a ≡ true) bs
 all-of-map h k [] are = tt
 all-of-map h k (b ∷ bs) are = (of-map h k b are.0, all-of-map h k bs are.1)
 
 module _ (pages : List PageRun) where
   abbrev Of : Option KeptMemory → Option Loan → Type 0
-  Of x loan = All (λ p. is_of_map pages x p.pa ≡ true) (unwrap_or loan no_loan).positions
+  Of x loan = All (λ p. awaits_map pages x p.pa ≡ true) (unwrap_or loan no_loan).positions
 
   none-of : (x : Option KeptMemory) → Of x None
   none-of x = λ i d inside. absurd (omega arith)
@@ -63,7 +66,7 @@ module _ (pages : List PageRun) where
   module _ (memories : FinMap nat_cmp KeptMemory) (prepared : Loans) (are : AreOfMaps pages memories prepared) where
     -- a loan is prepared for a map, or is not any more
     pub of-maps-more : (k : ℕ) (coherent : Bool) (bytes : List ℕ) →
-        AllByRecursion (λ a. is_of_map pages (get memories k) a ≡ true) bytes →
+        AllByRecursion (λ a. awaits_map pages (get memories k) a ≡ true) bytes →
         AreOfMaps pages memories (insert prepared k (new_loan coherent bytes))
     of-maps-more k coherent bytes all q =
         subst (Of (get memories q)) (sym (get_put prepared k (new_loan coherent bytes) q)) (by (q == k) refl)
@@ -72,7 +75,7 @@ module _ (pages : List PageRun) where
             Of (get memories q) (cond b (Some (new_loan coherent bytes)) (get prepared q))
         by true e =
             subst (λ j. Of (get memories j) (Some (new_loan coherent bytes))) (sym (exact_unsigned_eq q k e))
-            (λ i d inside. of-unlent (λ a. is_of_map pages (get memories k) a ≡ true) bytes all i d inside)
+            (λ i d inside. of-unlent (λ a. awaits_map pages (get memories k) a ≡ true) bytes all i d inside)
         by false e = are q
 
     pub of-maps-less : (k : ℕ) → AreOfMaps pages memories (remove prepared k)
@@ -109,7 +112,7 @@ module _ (pages : List PageRun) where
 
 -- a loan is prepared for a map, or memory ran out
 pub prepared-ready : {T E : Type 0} (h : Holdings) (k : ℕ) (r : Result T E) (t : Table) (coherent : Bool)
-    (bytes : List ℕ) → AllByRecursion (λ a. is_of_map h.pages.now (get h.memories.map k) a ≡ true) bytes →
+    (bytes : List ℕ) → AllByRecursion (λ a. awaits_map h.pages.now (get h.memories.map k) a ≡ true) bytes →
     OnOk r (t.prepared ≡ insert h.loans.prepared k (new_loan coherent bytes)) → OnErr r (IsSame h.loans t) →
     AreOfMaps h.pages.now h.memories.map t.prepared
 prepared-ready h k (Ok y) t coherent bytes all more same =

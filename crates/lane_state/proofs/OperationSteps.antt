@@ -46,20 +46,20 @@ module _ (h k : Holdings) (o p : Op) (same : o ≡ p) where
         ∙ unasked (operation o (ideal_of h)) (given k a) (ap (λ q. operation q (ideal_of h)) same ∙ sym done)
 
   -- the bytes of an operation that plainly leaves the wire came and went with their pages
-  pub paged-wire : k.memories ≡ h.memories → wires.operation p (ideal_of h) (wire_of h) ≡ wire_of h →
-      KeepsWhatStays h k → IsWireOf h k (wires.operation o (ideal_of h) (wire_of h))
+  pub paged-wire : k.memories ≡ h.memories → wires.wire_operation p (ideal_of h) (wire_of h) ≡ wire_of h →
+      KeepsWhatStays h k → IsWireOf h k (wires.wire_operation o (ideal_of h) (wire_of h))
   paged-wire memories plain keeps =
-      Stays memories (ap (λ q. wires.operation q (ideal_of h) (wire_of h)) same ∙ plain) keeps
+      Stays memories (ap (λ q. wires.wire_operation q (ideal_of h) (wire_of h)) same ∙ plain) keeps
 
   -- a memory came or went
-  pub beside-wire : wires.operation p (ideal_of h) (wire_of h) ≡ wire_of h → KeepsBesideMemory h k →
-      IsWireOf h k (wires.operation o (ideal_of h) (wire_of h))
-  beside-wire plain keeps = WithMemory (ap (λ q. wires.operation q (ideal_of h) (wire_of h)) same ∙ plain) keeps
+  pub beside-wire : wires.wire_operation p (ideal_of h) (wire_of h) ≡ wire_of h → KeepsBesideMemory h k →
+      IsWireOf h k (wires.wire_operation o (ideal_of h) (wire_of h))
+  beside-wire plain keeps = WithMemory (ap (λ q. wires.wire_operation q (ideal_of h) (wire_of h)) same ∙ plain) keeps
 
   -- the bytes after a step are those that the operation makes
-  pub done-wire : k.memories ≡ h.memories → wire_of k ≡ wires.operation p (ideal_of h) (wire_of h) →
-      IsWireOf h k (wires.operation o (ideal_of h) (wire_of h))
-  done-wire memories is = Becomes memories (is ∙ ap (λ q. wires.operation q (ideal_of h) (wire_of h)) (sym same))
+  pub done-wire : k.memories ≡ h.memories → wire_of k ≡ wires.wire_operation p (ideal_of h) (wire_of h) →
+      IsWireOf h k (wires.wire_operation o (ideal_of h) (wire_of h))
+  done-wire memories is = Becomes memories (is ∙ ap (λ q. wires.wire_operation q (ideal_of h) (wire_of h)) (sym same))
 
 -- a load of the bytes of a buffer
 pub load-named : (l : LaneState) (m : ℕ) (x : Buffer) (flags : ℕ) (items : List Item) (b : Bio) (nowait : Bool) →

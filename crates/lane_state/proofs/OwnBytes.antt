@@ -4,17 +4,17 @@ use Rattle.std.proofs.Common.{◌∙◌}
 use Rattle.std.specs.FinMap.{get}
 use Rattle.busdma_machine.specs.Machine.Wire.{put, with_bytes_of}
 use Rattle.loan_table.specs.Table.{AreIn}
-use Rattle.phys_memory.specs.Memory.{Memory, wire}
+use Rattle.phys_memory.specs.Memory.{FrameMemory, wire}
 use Rattle.phys_memory.proofs.PageBytes.{IsNone, put_under}
 use Rattle.ideal_lane.specs.State.{LaneState}
-use Rattle.ideal_wire.proofs.Copies.{same_reads}
-use Rattle.ideal_wire.proofs.Positions.{found_one}
-use Rattle.ideal_wire.proofs.Reaching.{all-from}
+use Rattle.ideal_wire.proofs.Faithful.BytesPut.{same_reads}
+use Rattle.ideal_wire.proofs.Laid.Positions.{found_one}
+use Rattle.ideal_wire.proofs.Loads.Reaching.{all-from}
 use Rattle.lane_state.specs.declared.holdings.Holdings.{Holdings}
 use Rattle.lane_state.specs.Held.{devices_of}
 use Rattle.lane_state.specs.Ideal.{ideal_of}
 use Rattle.lane_state.specs.Wire.{IsWired, held_pages, wire_of}
-use Rattle.lane_state.proofs.Changing.{held-put}
+use Rattle.lane_state.proofs.ChangeLaws.{held-put}
 use Rattle.lane_state.proofs.Lying.{own-mine, own-none, own-view}
 use Rattle.lane_state.proofs.MarkedMemory.{marks-held, some-mark}
 
@@ -49,7 +49,7 @@ module _ (h : Holdings) where
         (inside-own pas are i a at)))
 
     -- if bytes are put into the driver's own, its wire has them at their addresses
-    pub own-put : (pas vs : List ℕ) → AreIn h.loans.bytes pas → (n : Memory) →
+    pub own-put : (pas vs : List ℕ) → AreIn h.loans.bytes pas → (n : FrameMemory) →
         wire n ≡ put pas vs (wire h.memory.memory) →
         with_bytes_of (held_pages h.maps.map) (wire n) ≡ put pas vs (wire_of h)
     own-put pas vs inside n wires-are =

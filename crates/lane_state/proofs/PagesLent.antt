@@ -6,7 +6,7 @@ use Rattle.dma_map.specs.MapView as held
 use Rattle.lane_state.specs.Kept.{device_in}
 
 -- the pages that a load has are those that it lends
-pub lent-pages : (s : held.Stage KeptLoad) (p : RoomyPages) → held.pages_of s ≡ Some p →
+pub lent-pages : (s : held.HeldStage KeptLoad) (p : RoomyPages) → held.held_pages_of s ≡ Some p →
     (device_in s).pages ≡ p.items
 lent-pages held.idle p h = absurd (cc)
 lent-pages (held.waiting load_at callback room) p h = absurd (cc)
@@ -16,7 +16,7 @@ lent-pages (held.lent bounced segments frames) p h = absurd (cc)
 lent-pages held.returning p h = absurd (cc)
 
 -- a load whose pages are taken back as they were is what it was
-pub lent-back : (s : held.Stage KeptLoad) (p : RoomyPages) → held.pages_of s ≡ Some p →
+pub lent-back : (s : held.HeldStage KeptLoad) (p : RoomyPages) → held.held_pages_of s ≡ Some p →
     held.with_pages p (held.without_pages p.items s) ≡ s
 lent-back held.idle p h = absurd (cc)
 lent-back (held.waiting load_at callback room) p h = absurd (cc)

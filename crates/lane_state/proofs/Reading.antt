@@ -20,14 +20,14 @@ use Rattle.busdma_rules.specs.declared.position.Position.{Position}
 use Rattle.busdma_rules.specs.Lending.Access.{cpu_read_answer, cpu_read_refusal}
 use Rattle.busdma_rules.specs.Lending.Loans.{Loan, Loans, lends, to_write}
 use Rattle.loan_table.specs.Table.{is_marked}
-use Rattle.phys_memory.specs.Memory.{Memory, wire}
+use Rattle.phys_memory.specs.Memory.{FrameMemory, wire}
 use Rattle.phys_memory.specs.Memory as memory
 use Rattle.busdma_rules.specs.Memory.Translation.{physical_or_0, unreached}
 use Rattle.ideal_lane.specs.Accesses.{cpu_read, values}
 use Rattle.ideal_lane.specs.IdealMemory.{known, value, is_known}
 use Rattle.ideal_lane.specs.Outcomes.{gives, unless_absent, unless_refused}
 use Rattle.ideal_lane.specs.Asking.{Asking}
-use Rattle.ideal_lane.specs.Places.{physical, or_in_memory, first_unreached as reached, bytes_at, virtual_at}
+use Rattle.ideal_lane.specs.Places.{physical, or_in_memory, first_unreached, bytes_at, virtual_at}
 use Rattle.ideal_lane.specs.State.{LaneState}
 use Rattle.ideal_lane.specs.Outcomes.{Outcome}
 use Rattle.ideal_wire.specs.Traces.{bus_at}
@@ -40,7 +40,7 @@ use Rattle.lane_state.proofs.MapValues.{any-map_values}
 use Rattle.ideal_lane.specs.Places.{is_in_memory, physical_of}
 
 -- the driver reaches what its frames say
-pub physical-same : (h : Holdings) → physical (ideal_of h) ≡ memory.physical h.memory.memory
+pub physical-same : (h : Holdings) → physical (ideal_of h) ≡ memory.memory_physical h.memory.memory
 physical-same h = λ i va. (at va) i
   where
     among : (o : Option ℕ) (va : ℕ) → or_in_memory (ideal_of h) va o ≡ reached_in o h.memories.map va
@@ -49,7 +49,7 @@ physical-same h = λ i va. (at va) i
         ap (λ b. cond b (Some (physical_of va)) None)
         (any-map_values memory_of (λ e. is_in_memory va e.1) h.memories.map)
 
-    at : (va : ℕ) → physical (ideal_of h) va ≡ memory.physical h.memory.memory va
+    at : (va : ℕ) → physical (ideal_of h) va ≡ memory.memory_physical h.memory.memory va
     at va = among (physical_in h.pages.now va) va ∙ sym (h.reaches va)
 
 known-content : (o : Option Bool) (v : ℕ) → known (content_of o v) ≡ unwrap_or o false
@@ -58,7 +58,7 @@ known-content (Some true) v = refl
 known-content (Some false) v = refl
 
 -- a byte is Known if its mark says so
-pub known-held : (bytes : FinMap nat_cmp Bool) (loans : Loans) (d : ℕ → Device) (m : Memory) →
+pub known-held : (bytes : FinMap nat_cmp Bool) (loans : Loans) (d : ℕ → Device) (m : FrameMemory) →
     is_known (held bytes loans d m) ≡ is_marked bytes
 known-held bytes loans d m =
     λ i a. (known-content (get bytes a) (byte_among d m (entries loans) a)) i
@@ -74,7 +74,7 @@ unlent-bus cs i (p ∷ ps) a h =
     let parts = either_false ((p.pa == a) && to_write p) (list_any (λ q. (q.pa == a) && to_write q) ps) h in
     ap (λ b. cond b (Some (bus_at cs i p.pa)) (lent_bus cs (i + 1) ps a)) parts.0 ∙ unlent-bus cs (i + 1) ps a parts.1
 
-pub unlent-byte : (d : ℕ → Device) (m : Memory) (es : List (ℕ × Loan)) (a : ℕ) →
+pub unlent-byte : (d : ℕ → Device) (m : FrameMemory) (es : List (ℕ × Loan)) (a : ℕ) →
     list_any (λ e. lends to_write a e.1) es ≡ false → byte_among d m es a ≡ wire m a
 unlent-byte d m [] a h = refl
 unlent-byte d m (e ∷ es) a h =
@@ -97,7 +97,8 @@ two : (a b : ℕ) (xs ys : List ℕ) → a ≡ b → xs ≡ ys → a ∷ xs ≡ 
 two a b xs ys p q = λ i. p i ∷ q i
 
 -- the driver reads the values of bytes that are Known and not lent to write
-pub cpu-values : (bytes : FinMap nat_cmp Bool) (loans : Loans) (d : ℕ → Device) (m : Memory) (at : ℕ) (pas : List ℕ) →
+pub cpu-values : (bytes : FinMap nat_cmp Bool) (loans : Loans) (d : ℕ → Device) (m : FrameMemory) (at : ℕ)
+    (pas : List ℕ) →
     judged (cpu_read_refusal (is_marked bytes) loans) at pas ≡ Fine →
     map (wire m) pas ≡ map (λ a. value (held bytes loans d m a)) pas
 cpu-values bytes loans d m at [] h = refl
@@ -114,12 +115,12 @@ passes j l step h = rw h refl
 
 -- what the driver reaches at a place, by its frames
 pub reached-same : (h : Holdings) (va len : ℕ) →
-    reached (ideal_of h) va len ≡ judged (unreached (memory.physical h.memory.memory)) 0 (run_of va len)
+    first_unreached (ideal_of h) va len ≡ judged (unreached (memory.memory_physical h.memory.memory)) 0 (run_of va len)
 reached-same h va len = ap (λ t. judged (unreached t) 0 (run_of va len)) (physical-same h)
 
 -- which bytes it reaches there
 pub bytes-same : (h : Holdings) (va len : ℕ) →
-    map (physical_or_0 (memory.physical h.memory.memory)) (run_of va len) ≡ bytes_at (ideal_of h) (run_of va len)
+    map (physical_or_0 (memory.memory_physical h.memory.memory)) (run_of va len) ≡ bytes_at (ideal_of h) (run_of va len)
 bytes-same h va len = sym (ap (λ t. map (physical_or_0 t) (run_of va len)) (physical-same h))
 
 answer-same : (h : Holdings) (pas : List ℕ) →
@@ -140,7 +141,7 @@ pub cpu_read-absent : (h : Holdings) (place : Place) (len : ℕ) → virtual_at 
 cpu_read-absent h place len none =
     let l = ideal_of h in
     sym (ap (λ o. unless_absent o l (λ va.
-    unless_refused (reached l va len) l (
+    unless_refused (first_unreached l va len) l (
     unless_refused (cpu_read_answer (is_known l.memory) l.loans (bytes_at l (run_of va len))) l (
     gives l (answer.Bytes (values l (bytes_at l (run_of va len)))))))) none)
 
@@ -150,40 +151,40 @@ module _ (h : Holdings) (place : Place) (va len : ℕ) (at : virtual_at (ideal_o
 
   abbrev there : Asking Outcome
   there =
-      unless_refused (reached l va len) l (
+      unless_refused (first_unreached l va len) l (
       unless_refused (cpu_read_answer (is_known l.memory) l.loans (bytes_at l (run_of va len))) l (
       gives l (answer.Bytes (values l (bytes_at l (run_of va len))))))
 
   placed : cpu_read place len l ≡ there
   placed =
       ap (λ o. unless_absent o l (λ va.
-      unless_refused (reached l va len) l (
+      unless_refused (first_unreached l va len) l (
       unless_refused (cpu_read_answer (is_known l.memory) l.loans (bytes_at l (run_of va len))) l (
       gives l (answer.Bytes (values l (bytes_at l (run_of va len)))))))) at
 
   -- a read by the driver of which a byte cannot be reached
   pub cpu_read-unmapped : (r : Report) →
-      Refused r ≡ judged (unreached (memory.physical h.memory.memory)) 0 (run_of va len) →
+      Refused r ≡ judged (unreached (memory.memory_physical h.memory.memory)) 0 (run_of va len) →
       gives l (answer.Report r) ≡ cpu_read place len l
   cpu_read-unmapped r is =
-      sym (placed ∙ refused (reached l va len) r l _ (reached-same h va len ∙ sym is))
+      sym (placed ∙ refused (first_unreached l va len) r l _ (reached-same h va len ∙ sym is))
 
   -- a read by the driver that is refused
   pub cpu_read-refused : (r : Report) (pas : List ℕ) →
-      Fine ≡ judged (unreached (memory.physical h.memory.memory)) 0 (run_of va len) →
-      pas ≡ map (physical_or_0 (memory.physical h.memory.memory)) (run_of va len) →
+      Fine ≡ judged (unreached (memory.memory_physical h.memory.memory)) 0 (run_of va len) →
+      pas ≡ map (physical_or_0 (memory.memory_physical h.memory.memory)) (run_of va len) →
       Refused r ≡ cpu_read_answer (is_marked h.loans.bytes) h.loans.loans pas →
       gives l (answer.Report r) ≡ cpu_read place len l
   cpu_read-refused r pas reaches here is =
-      sym (placed ∙ passes (reached l va len) l _ (reached-same h va len ∙ sym reaches)
+      sym (placed ∙ passes (first_unreached l va len) l _ (reached-same h va len ∙ sym reaches)
       ∙ refused _ r l _
       (sym (is ∙ answer-same h pas ∙ ap (cpu_read_answer (is_known l.memory) h.loans.loans)
       (here ∙ bytes-same h va len))))
 
   -- a read by the driver that is done
   pub cpu_read-done : (pas bytes : List ℕ) →
-      Fine ≡ judged (unreached (memory.physical h.memory.memory)) 0 (run_of va len) →
-      pas ≡ map (physical_or_0 (memory.physical h.memory.memory)) (run_of va len) →
+      Fine ≡ judged (unreached (memory.memory_physical h.memory.memory)) 0 (run_of va len) →
+      pas ≡ map (physical_or_0 (memory.memory_physical h.memory.memory)) (run_of va len) →
       Fine ≡ cpu_read_answer (is_marked h.loans.bytes) h.loans.loans pas →
       bytes ≡ map (wire h.memory.memory) pas →
       gives l (answer.Bytes bytes) ≡ cpu_read place len l
@@ -192,5 +193,5 @@ module _ (h : Holdings) (place : Place) (va len : ℕ) (at : virtual_at (ideal_o
       ap (λ vs. gives l (answer.Bytes vs))
       (is ∙ cpu-values h.loans.bytes h.loans.loans (devices_of h.maps.map) h.memory.memory 0 pas (sym fine)
       ∙ ap (λ xs. map (λ a. value (l.memory a)) xs) same)
-      ∙ sym (placed ∙ passes (reached l va len) l _ (reached-same h va len ∙ sym reaches)
+      ∙ sym (placed ∙ passes (first_unreached l va len) l _ (reached-same h va len ∙ sym reaches)
       ∙ passes _ l _ (sym (fine ∙ answer-same h pas ∙ ap (cpu_read_answer (is_known l.memory) h.loans.loans) same)))

@@ -12,11 +12,11 @@ use Rattle.dma_map.specs.MapView.{idle}
 use Rattle.lane_agreement.specs.View.{Return, returning}
 use Rattle.lane_tables.specs.declared.queued.QueuedPage.{QueuedPage}
 use Rattle.lane_tables.specs.Places.{Places}
-use Rattle.lane_tables.specs.Queues.{has_page}
+use Rattle.lane_tables.specs.Queues.{queue_has_page}
 use Rattle.ideal_lane.specs.State.{LaneState, LaneMap, Stage, Idle, Waiting, Loaded, Returning}
 use Rattle.ideal_lane.specs.Unloads.{given_back}
 use Rattle.lane_state.specs.declared.kept.KeptMap.{KeptMap}
-use Rattle.lane_state.specs.Covered.{AreOwn, is_returning, returns_in}
+use Rattle.lane_state.specs.Covered.{AreOwn, is_covered_returning, returns_in}
 use Rattle.lane_state.specs.Kept.{map_of, return_of}
 use Rattle.lane_state.specs.MapValues.{map_values}
 use Rattle.lane_state.proofs.MapValues.{image-some, map_values-insert}
@@ -41,7 +41,7 @@ own-head true c h = (refl, h)
 own-head false c h = absurd (cc)
 
 pub any-pages : (lane : ℕ) (m : MapId) (pages : List QueuedPage) → m.lane.0 ≡ lane → AreOwn lane pages →
-    list_any (λ r. r.map == m.made_at) (map return_of pages) ≡ has_page m pages
+    list_any (λ r. r.map == m.made_at) (map return_of pages) ≡ queue_has_page m pages
 any-pages lane m [] own are = refl
 any-pages lane m (q ∷ pages) own are =
     let parts =
@@ -51,7 +51,7 @@ any-pages lane m (q ∷ pages) own are =
 
 -- a page of a map was the map's last in the queue if no other page of the map is there
 pub last-is : (lane : ℕ) (m : MapId) (pages : List QueuedPage) → m.lane.0 ≡ lane → AreOwn lane pages →
-    (returning m.made_at (map return_of pages) == 0) ≡ not (has_page m pages)
+    (returning m.made_at (map return_of pages) == 0) ≡ not (queue_has_page m pages)
 last-is lane m pages own are =
     none-counted (λ (r : Return). r.map == m.made_at) (map return_of pages) ∙ ap not (any-pages lane m pages own are)
 
@@ -81,7 +81,7 @@ pub given-back-is : (l : LaneState) (r : Return) (rest : List Return) (o : LaneM
 given-back-is l r rest o last there is = rw (there, is) refl
 
 -- the map of a page of the queue is there
-pub returning-there : (o : Option KeptMap) → is_returning o ≡ true →
+pub returning-there : (o : Option KeptMap) → is_covered_returning o ≡ true →
     (x : KeptMap) × (o ≡ Some x) × (returns_in (map_of x).stage ≡ true)
 returning-there None h = absurd (cc)
 returning-there (Some x) h = (x, refl, h)

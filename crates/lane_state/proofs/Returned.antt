@@ -8,16 +8,18 @@ use Rattle.busdma_machine.specs.declared.name.MapId.{MapId}
 use Rattle.dma_map.specs.MapView.{idle}
 use Rattle.lane_agreement.specs.View.{Return}
 use Rattle.lane_tables.specs.declared.queued.QueuedPage.{QueuedPage}
-use Rattle.lane_tables.specs.Queues.{has_page}
+use Rattle.lane_tables.specs.Queues.{queue_has_page}
 use Rattle.busdma_rules.specs.Lending.Loans.{Loans}
 use Rattle.ideal_lane.specs.Outcomes.{is_loaded}
 use Rattle.ideal_lane.proofs.Lookups.{get_put}
 use Rattle.ideal_lane.proofs.Weights.{weigh-put}
 use Rattle.lane_state.specs.declared.kept.KeptMap.{KeptMap}
-use Rattle.lane_state.specs.Covered.{AreOwn, AreReturning, has_load, lends_pages, pages_due, is_returning, is_tried}
+use Rattle.lane_state.specs.Covered.{AreOwn, AreReturning, has_load}
+use Rattle.lane_state.specs.Covered.{lends_pages, pages_due, is_covered_returning, is_tried}
 use Rattle.lane_state.specs.Covered.{returns_in}
 use Rattle.lane_state.specs.Held.{devices_of}
-use Rattle.lane_state.specs.Kept.{device_of, device_in, no_device, due_in, due_of, map_of, return_of, stage_of}
+use Rattle.lane_state.specs.Kept.{device_of, device_in, no_device, due_in}
+use Rattle.lane_state.specs.Kept.{due_of, map_of, return_of, kept_stage}
 use Rattle.lane_state.specs.declared.kept.KeptLoad.{KeptLoad}
 use Rattle.dma_map.specs.MapView as held
 use Rattle.lane_state.proofs.Bytes.{devices-put}
@@ -44,22 +46,22 @@ still-back maps k o [] none are = refl
 still-back maps k o (q ∷ pages) none are =
     let off = either_false (q.map.made_at == k) (list_any (λ p. p.map.made_at == k) pages) none in
     let parts =
-    own-head (is_returning (get maps q.map.made_at))
-    (list_any (λ p. not (is_returning (get maps p.map.made_at))) pages) are in
-    let here : is_returning (get (insert maps k o) q.map.made_at) ≡ true =
-    ap is_returning (get_put maps k o q.map.made_at)
-    ∙ ap (λ b. is_returning (cond b (Some o) (get maps q.map.made_at))) off.0 ∙ parts.0 in
-    ap (λ b. not b || list_any (λ p. not (is_returning (get (insert maps k o) p.map.made_at))) pages) here
+    own-head (is_covered_returning (get maps q.map.made_at))
+    (list_any (λ p. not (is_covered_returning (get maps p.map.made_at))) pages) are in
+    let here : is_covered_returning (get (insert maps k o) q.map.made_at) ≡ true =
+    ap is_covered_returning (get_put maps k o q.map.made_at)
+    ∙ ap (λ b. is_covered_returning (cond b (Some o) (get maps q.map.made_at))) off.0 ∙ parts.0 in
+    ap (λ b. not b || list_any (λ p. not (is_covered_returning (get (insert maps k o) p.map.made_at))) pages) here
     ∙ still-back maps k o pages off.1 parts.1
 
-bare-in : (s : held.Stage KeptLoad) → returns_in (stage_of s) ≡ true → device_in s ≡ no_device
+bare-in : (s : held.HeldStage KeptLoad) → returns_in (kept_stage s) ≡ true → device_in s ≡ no_device
 bare-in held.idle h = refl
 bare-in (held.waiting load_at callback room) h = refl
 bare-in (held.loaded bounced segments pages) h = absurd (cc)
 bare-in (held.lent bounced segments frames) h = absurd (cc)
 bare-in held.returning h = refl
 
-returning-due : (s : held.Stage KeptLoad) → returns_in (stage_of s) ≡ true → due_in s ≡ 0
+returning-due : (s : held.HeldStage KeptLoad) → returns_in (kept_stage s) ≡ true → due_in s ≡ 0
 returning-due held.idle h = refl
 returning-due (held.waiting load_at callback room) h = absurd (cc)
 returning-due (held.loaded bounced segments pages) h = absurd (cc)
@@ -94,7 +96,7 @@ module _ (maps : FinMap nat_cmp KeptMap) (loans : Loans) (owed : ℕ) (rest : Li
   unloaded : has_load (Some o) ≡ false
   unloaded = ap is_loaded (still-returning (map_of o).stage still)
 
-  pub maps-back : (last : Bool) → last ≡ not (has_page m rest) →
+  pub maps-back : (last : Bool) → last ≡ not (queue_has_page m rest) →
       AreMaps (cond last (insert maps k (idled o)) maps) loans rest owed
   maps-back false is = are
   maps-back true is = record {
@@ -103,7 +105,7 @@ module _ (maps : FinMap nat_cmp KeptMap) (loans : Loans) (owed : ℕ) (rest : Li
     unlent = λ q. told-put lends_pages maps k (idled o) (sym (are.unlent k)) q ∙ are.unlent q;
     promised = let few : pages_due maps ≤ owed = are.promised in omega (arith, weight, few);
     returning = still-back maps k (idled o) rest (sym (named-pages m rest)
-        ∙ any-pages lane m rest mine own ∙ no_more (has_page m rest) is) are.returning;
+        ∙ any-pages lane m rest mine own ∙ no_more (queue_has_page m rest) is) are.returning;
     tried = λ q. told-put is_tried maps k (idled o) (sym (are.tried k)) q ∙ are.tried q;
   }
     where

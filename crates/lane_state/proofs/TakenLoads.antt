@@ -16,12 +16,14 @@ use Rattle.ideal_lane.proofs.Weights.{weigh-put}
 use Rattle.lane_state.specs.declared.holdings.Holdings.{Holdings}
 use Rattle.lane_state.specs.declared.kept.KeptMap.{KeptMap}
 use Rattle.lane_state.specs.Changes.{KeepsButMaps, KeepsBytes}
-use Rattle.lane_state.specs.Covered.{has_load, is_idle_map, is_returning, is_tried, lends_pages, pages_due}
+use Rattle.lane_state.specs.Covered.{has_load, is_idle_map, is_covered_returning}
+use Rattle.lane_state.specs.Covered.{is_tried, lends_pages, pages_due}
 use Rattle.lane_state.specs.Covered.{returns_in}
 use Rattle.lane_state.specs.Held.{devices_of, held}
 use Rattle.lane_state.specs.Ideal.{ideal_of}
-use Rattle.lane_state.specs.Kept.{device_in, device_of, due_in, due_of, map_of, memory_of, return_of, ring_of, share_of}
-use Rattle.lane_state.specs.Kept.{stage_of}
+use Rattle.lane_state.specs.Kept.{device_in, device_of, due_in, due_of}
+use Rattle.lane_state.specs.Kept.{map_of, memory_of, return_of, kept_ring, kept_share}
+use Rattle.lane_state.specs.Kept.{kept_stage}
 use Rattle.lane_state.specs.Kept.{spaces_of, tag_of}
 use Rattle.lane_state.specs.MapValues.{map_values}
 use Rattle.lane_state.proofs.Bytes.{devices-put, held-alike}
@@ -43,10 +45,10 @@ module _ (maps : FinMap nat_cmp KeptMap) (loans : Loans) (returns : List QueuedP
     (are : AreMaps maps loans returns owed) (k : ℕ) (o : KeptMap) (there : get maps k ≡ Some o)
     (load : KeepsLoad o.map.stage) where
   unloaded : has_load (Some o) ≡ false
-  unloaded = ap (λ s. is_loaded (stage_of s)) load.is
+  unloaded = ap (λ s. is_loaded (kept_stage s)) load.is
 
-  still : is_returning (Some o) ≡ false
-  still = ap (λ s. returns_in (stage_of s)) load.is
+  still : is_covered_returning (Some o) ≡ false
+  still = ap (λ s. returns_in (kept_stage s)) load.is
 
   pub due-before : due_of o ≡ load.callback.need
   due-before = ap due_in load.is
@@ -64,7 +66,7 @@ module _ (maps : FinMap nat_cmp KeptMap) (loans : Loans) (returns : List QueuedP
     unlent = λ q. told-put lends_pages maps k (idled o) (sym (are.unlent k)) q ∙ are.unlent q;
     promised = let few : pages_due maps ≤ owed = are.promised in omega (arith, due-after, few);
     returning = returns-alike maps (insert maps k (idled o)) returns
-        (told-put is_returning maps k (idled o) (sym (ap is_returning there ∙ still))) are.returning;
+        (told-put is_covered_returning maps k (idled o) (sym (ap is_covered_returning there ∙ still))) are.returning;
     tried = λ q. told-put is_tried maps k (idled o) (sym (are.tried k)) q ∙ are.tried q;
   }
 
@@ -144,7 +146,7 @@ module _ (h k : Holdings) (m : ℕ) (o : KeptMap) (there : get h.maps.map m ≡ 
     tags = map_values tag_of (rest.tags i).map;
     maps = (ap (map_values map_of) maps ∙ map_values-insert map_of h.maps.map m (idled o)) i;
     mems = map_values memory_of (rest.most.memories i).map;
-    rings = map_values ring_of (rest.most.rings i).map;
+    rings = map_values kept_ring (rest.most.rings i).map;
     memory = ((λ j. held (rest.most.loans j).bytes (rest.most.loans j).loans (devices_of (maps j))
         (rest.most.memory j).memory)
         ∙ held-alike h.loans.bytes h.loans.loans (devices_of h.maps.map) (devices_of (insert h.maps.map m (idled o)))
@@ -152,7 +154,7 @@ module _ (h k : Holdings) (m : ℕ) (o : KeptMap) (there : get h.maps.map m ≡ 
     loans = (rest.most.loans i).loans;
     queue = (rest.agenda i).queue;
     returns = map return_of (rest.agenda i).returns;
-    shares = share_of (rest.most.shares i).items;
+    shares = kept_share (rest.most.shares i).items;
     spaces = spaces_of (rest.tags i).map;
   }
 

@@ -22,10 +22,12 @@ use Rattle.ideal_lane.specs.Outcomes.{is_idle}
 use Rattle.ideal_lane.proofs.Lookups.{get_put, get_cut}
 use Rattle.ideal_lane.proofs.Weights.{weigh-put}
 use Rattle.lane_state.specs.declared.kept.KeptMap.{KeptMap}
-use Rattle.lane_state.specs.Covered.{AreLoaded, AreOwn, has_load, lends_pages, pages_due, is_returning}
+use Rattle.lane_state.specs.Covered.{AreCoveredLoads, AreOwn, has_load}
+use Rattle.lane_state.specs.Covered.{lends_pages, pages_due, is_covered_returning}
 use Rattle.lane_state.specs.Covered.{is_tried, returns_in}
 use Rattle.lane_state.specs.Held.{devices_of}
-use Rattle.lane_state.specs.Kept.{device_in, device_of, due_in, due_of, map_of, pages_in, stage_of}
+use Rattle.lane_state.specs.Kept.{device_in, device_of, due_in}
+use Rattle.lane_state.specs.Kept.{due_of, map_of, kept_pages_in, kept_stage}
 use Rattle.lane_state.proofs.MapTables.{AreMaps, told-put}
 
 -- a map that gave these pages away
@@ -53,7 +55,7 @@ or-true true = refl
 or-true false = refl
 
 -- the pages that a loaded map has are those that it gives at last
-pages-due-in : (s : held.Stage KeptLoad) (p : RoomyPages) → held.pages_of s ≡ Some p →
+pages-due-in : (s : held.HeldStage KeptLoad) (p : RoomyPages) → held.held_pages_of s ≡ Some p →
     due_in s ≡ length p.items
 pages-due-in held.idle p h = absurd (cc)
 pages-due-in (held.waiting load_at callback room) p h = absurd (cc)
@@ -63,7 +65,8 @@ pages-due-in (held.lent bounced segments frames) p h = absurd (cc)
 pages-due-in held.returning p h = absurd (cc)
 
 -- the pages of a load are those that its map holds
-pages-held-in : (s : held.Stage KeptLoad) (p : RoomyPages) → held.pages_of s ≡ Some p → (device_in s).pages ≡ p.items
+pages-held-in : (s : held.HeldStage KeptLoad) (p : RoomyPages) → held.held_pages_of s ≡ Some p → (device_in s).pages
+    ≡ p.items
 pages-held-in held.idle p h = absurd (cc)
 pages-held-in (held.waiting load_at callback room) p h = absurd (cc)
 pages-held-in (held.loaded bounced segments pages) p h =
@@ -71,20 +74,21 @@ pages-held-in (held.loaded bounced segments pages) p h =
 pages-held-in (held.lent bounced segments frames) p h = absurd (cc)
 pages-held-in held.returning p h = absurd (cc)
 
-queued-are : (m : MapId) (zone : ZoneId) (pages : List FrameBytes) → pages_in (queued_pages m zone pages) ≡ pages
+queued-are : (m : MapId) (zone : ZoneId) (pages : List FrameBytes) → kept_pages_in (queued_pages m zone pages) ≡ pages
 queued-are m zone [] = refl
 queued-are m zone (p ∷ pages) = ap (λ ps. p ∷ ps) (queued-are m zone pages)
 
 -- the pages of a map join the queue with their bytes
-pub joined-pages : (returns : List QueuedPage) (m : MapId) (zone : ZoneId) (s : held.Stage KeptLoad) (p : RoomyPages) →
-    held.pages_of s ≡ Some p →
-    pages_in (returns ++ queued_pages m zone p.items) ≡ pages_in returns ++ (device_in s).pages
+pub joined-pages : (returns : List QueuedPage) (m : MapId) (zone : ZoneId) (s : held.HeldStage KeptLoad)
+    (p : RoomyPages) →
+    held.held_pages_of s ≡ Some p →
+    kept_pages_in (returns ++ queued_pages m zone p.items) ≡ kept_pages_in returns ++ (device_in s).pages
 joined-pages returns m zone s p is =
     map-append (λ (q : QueuedPage). q.page) returns (queued_pages m zone p.items)
-    ∙ ap (λ ps. pages_in returns ++ ps) (queued-are m zone p.items ∙ sym (pages-held-in s p is))
+    ∙ ap (λ ps. kept_pages_in returns ++ ps) (queued-are m zone p.items ∙ sym (pages-held-in s p is))
 
-held-still : (s : held.Stage KeptLoad) (p : RoomyPages) → held.pages_of s ≡ Some p →
-    returns_in (stage_of s) ≡ false
+held-still : (s : held.HeldStage KeptLoad) (p : RoomyPages) → held.held_pages_of s ≡ Some p →
+    returns_in (kept_stage s) ≡ false
 held-still held.idle p h = refl
 held-still (held.waiting load_at callback room) p h = refl
 held-still (held.loaded bounced segments pages) p h = refl
@@ -132,7 +136,7 @@ own-more lane returns m zone pages own are =
 
 module _ (maps : FinMap nat_cmp KeptMap) (loans : Loans) (returns : List QueuedPage) (owed : ℕ)
     (are : AreMaps maps loans returns owed) (m : MapId) (o : KeptMap) (p : RoomyPages)
-    (there : get maps m.made_at ≡ Some o) (pages : held.pages_of o.map.stage ≡ Some p) where
+    (there : get maps m.made_at ≡ Some o) (pages : held.held_pages_of o.map.stage ≡ Some p) where
   abbrev k : ℕ
   k = m.made_at
 
@@ -155,7 +159,7 @@ module _ (maps : FinMap nat_cmp KeptMap) (loans : Loans) (returns : List QueuedP
       let few : pages_due maps ≤ owed = are.promised in
       omega (arith, weight, count, few, left-undue o p.items)
 
-  loaded-now : AreLoaded now (remove loans k)
+  loaded-now : AreCoveredLoads now (remove loans k)
   loaded-now q =
       ap is_some (get_cut loans k q) ∙ by (q == k) refl
       ∙ sym (ap has_load (get_put maps k (left o p.items) q))
@@ -165,26 +169,26 @@ module _ (maps : FinMap nat_cmp KeptMap) (loans : Loans) (returns : List QueuedP
       by true e = sym (left-unloaded o p.items)
       by false e = are.loaded q
 
-  still-now : (j : ℕ) → is_returning (get maps j) ≡ true → is_returning (get now j) ≡ true
-  still-now j h = ap is_returning (get_put maps k (left o p.items) j) ∙ by (j == k) refl
+  still-now : (j : ℕ) → is_covered_returning (get maps j) ≡ true → is_covered_returning (get now j) ≡ true
+  still-now j h = ap is_covered_returning (get_put maps k (left o p.items) j) ∙ by (j == k) refl
     where
-      by : (b : Bool) → (j == k) ≡ b → is_returning (cond b (Some (left o p.items)) (get maps j)) ≡ true
+      by : (b : Bool) → (j == k) ≡ b → is_covered_returning (cond b (Some (left o p.items)) (get maps j)) ≡ true
       by true e =
-          let here : is_returning (get maps j) ≡ false =
-          ap (λ i. is_returning (get maps i)) (exact_unsigned_eq j k e) ∙ ap is_returning there
+          let here : is_covered_returning (get maps j) ≡ false =
+          ap (λ i. is_covered_returning (get maps i)) (exact_unsigned_eq j k e) ∙ ap is_covered_returning there
           ∙ held-still o.map.stage p pages in
           absurd (cc)
       by false e = h
 
   left-returning : (items : List FrameBytes) (zone : ZoneId) →
-      list_any (λ q. not (is_returning (get (insert maps k (left o items)) q.map.made_at)))
+      list_any (λ q. not (is_covered_returning (get (insert maps k (left o items)) q.map.made_at)))
       (queued_pages m zone items) ≡ false
   left-returning [] zone = refl
   left-returning (x ∷ items) zone =
       let same : (k == k) ≡ true = grind (arith, nat_tests) in
-      all-queued (λ j. is_returning (get (insert maps k (left o (x ∷ items))) j)) m zone (x ∷ items)
-      (ap is_returning (get_put maps k (left o (x ∷ items)) k)
-      ∙ ap (λ b. is_returning (cond b (Some (left o (x ∷ items))) (get maps k))) same)
+      all-queued (λ j. is_covered_returning (get (insert maps k (left o (x ∷ items))) j)) m zone (x ∷ items)
+      (ap is_covered_returning (get_put maps k (left o (x ∷ items)) k)
+      ∙ ap (λ b. is_covered_returning (cond b (Some (left o (x ∷ items))) (get maps k))) same)
 
   pub maps-unloaded : (zone : ZoneId) → o.map.tried ≡ true →
       AreMaps now (remove loans k) (returns ++ queued_pages m zone p.items) (owed - length p.items)
@@ -194,8 +198,10 @@ module _ (maps : FinMap nat_cmp KeptMap) (loans : Loans) (returns : List QueuedP
         (left-unlent o p.items ∙ sym (are.unlent k)) q ∙ are.unlent q;
     promised = let few : pages_due maps ≤ owed = are.promised in
         omega (arith, weight, count, few, left-undue o p.items);
-    returning = both-false (λ q. not (is_returning (get now q.map.made_at))) returns (queued_pages m zone p.items)
-        (all-still (λ j. is_returning (get maps j)) (λ j. is_returning (get now j)) returns still-now are.returning)
+    returning = both-false (λ q. not (is_covered_returning (get now q.map.made_at))) returns
+        (queued_pages m zone p.items)
+        (all-still (λ j. is_covered_returning (get maps j)) (λ j. is_covered_returning (get now j)) returns still-now
+        are.returning)
         (left-returning p.items zone);
     tried = λ q. told-put is_tried maps k (left o p.items)
         (ap (λ b. is_idle (map_of (left o p.items)).stage || b) tried ∙ or-true _ ∙ sym (are.tried k)) q ∙ are.tried q;

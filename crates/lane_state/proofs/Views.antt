@@ -9,7 +9,7 @@ use Rattle.std.specs.FinMap.Entries.{find, is_sorted, below_all}
 use Rattle.busdma_machine.specs.Machine.Page.{FrameBytes}
 use Rattle.busdma_machine.specs.Machine.Wire.{Wire, page_byte, with_bytes_of}
 use Rattle.phys_memory.proofs.PageBytes.{IsNone, no_page_at}
-use Rattle.ideal_wire.proofs.SyncedPositions.{decided}
+use Rattle.ideal_wire.proofs.Faithful.SyncedPositions.{decided}
 use Rattle.lane_state.specs.declared.kept.KeptMap.{KeptMap}
 use Rattle.lane_state.specs.Held.{devices_of}
 use Rattle.lane_state.specs.Kept.{device_of}

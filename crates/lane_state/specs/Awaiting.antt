@@ -13,7 +13,7 @@ use Rattle.busdma_machine.specs.Machine.Spans.{bio_spans}
 use Rattle.busdma_base.specs.declared.scenarios.scenario.PageRun.{PageRun}
 use Rattle.busdma_base.specs.Scenarios.PageRuns.{is_own}
 use Rattle.dma_map.specs.declared.room.LoadRoom.{LoadRoom}
-use Rattle.dma_map.specs.MapView.{waiting_load}
+use Rattle.dma_map.specs.MapView.{held_waiting_load}
 use Rattle.busdma_rules.specs.Memory.Bios.{is_rounded}
 use Rattle.busdma_rules.specs.Lending.Loans.{Loan, Loans, loan_of, new_loan}
 use Rattle.busdma_rules.specs.Memory.Vectors.{entries_of}
@@ -29,7 +29,7 @@ use Rattle.lane_state.specs.Loading.{HasRoomForAny, IsLoadable, bio_of}
 -- the load that a map keeps while it waits: the place of the load in the script, its callback and its room
 abbrev pub kept_load : Option KeptMap → Option (ℕ × KeptLoad × LoadRoom)
 kept_load None = None
-kept_load (Some o) = waiting_load o.map.stage
+kept_load (Some o) = held_waiting_load o.map.stage
 
 -- the limits of the tag that was made at a place, if the tag exists
 abbrev pub limits_at : FinMap nat_cmp KeptTag → ℕ → Option TagLimits
@@ -42,7 +42,7 @@ page_entries pages b = entries_of (is_rounded b) (in_pages pages b) (bio_spans b
 -- a load that waits has what its callback needs: its bytes are bytes of the pages; its map has a tag; the room is
 -- enough for the segments of the bytes by that tag, in whichever pages; and the loan that is prepared for the map has
 -- these bytes
-pub record IsAwaiting (pages : List PageRun) (maxmem : ℕ) (tag : Option TagLimits) (loan : Option Loan)
+pub record IsAwaitingNow (pages : List PageRun) (maxmem : ℕ) (tag : Option TagLimits) (loan : Option Loan)
     (w : KeptLoad) (room : LoadRoom) : Type 0 where
   pub loadable : IsLoadable pages (bio_of w.bytes)
   pub paged : AreInPages pages (bio_of w.bytes)
@@ -52,22 +52,22 @@ pub record IsAwaiting (pages : List PageRun) (maxmem : ℕ) (tag : Option TagLim
   pub prepared : loan ≡ Some (new_loan false (entries_addresses (page_entries pages (bio_of w.bytes))))
 
 -- the load for which a map waits, with its room and the limits of the map's tag
-abbrev pub awaited : FinMap nat_cmp KeptTag → Option KeptMap → Option (KeptLoad × LoadRoom × Option TagLimits)
-awaited tags None = None
-awaited tags (Some o) =
-    option_map (λ (w : ℕ × KeptLoad × LoadRoom). (w.1, w.2, limits_at tags o.tag)) (waiting_load o.map.stage)
+abbrev pub awaited_map : FinMap nat_cmp KeptTag → Option KeptMap → Option (KeptLoad × LoadRoom × Option TagLimits)
+awaited_map tags None = None
+awaited_map tags (Some o) =
+    option_map (λ (w : ℕ × KeptLoad × LoadRoom). (w.1, w.2, limits_at tags o.tag)) (held_waiting_load o.map.stage)
 
 -- each load that waits has what its callback needs
 abbrev pub AreAwaiting : List PageRun → ℕ → FinMap nat_cmp KeptTag → FinMap nat_cmp KeptMap → Loans → Type 0
 AreAwaiting pages maxmem tags maps prepared = (m : ℕ) →
-    IfSome (awaited tags (get maps m)) (λ w. IsAwaiting pages maxmem w.2 (get prepared m) w.0 w.1)
+    IfSome (awaited_map tags (get maps m)) (λ w. IsAwaitingNow pages maxmem w.2 (get prepared m) w.0 w.1)
 
 -- whether a byte may be loaded into a map: it is one of the driver's pages, or of the memory whose map it is
-abbrev pub is_of_map : List PageRun → Option KeptMemory → ℕ → Bool
-is_of_map pages None a = is_own pages a
-is_of_map pages (Some x) a = is_own pages a || in_run x.first.0 x.count a
+abbrev pub awaits_map : List PageRun → Option KeptMemory → ℕ → Bool
+awaits_map pages None a = is_own pages a
+awaits_map pages (Some x) a = is_own pages a || in_run x.first.0 x.count a
 
 -- each loan that is prepared for a map has only bytes that may be loaded into the map
 abbrev pub AreOfMaps : List PageRun → FinMap nat_cmp KeptMemory → Loans → Type 0
 AreOfMaps pages memories prepared = (m : ℕ) →
-    All (λ p. is_of_map pages (get memories m) p.pa ≡ true) (loan_of prepared m).positions
+    All (λ p. awaits_map pages (get memories m) p.pa ≡ true) (loan_of prepared m).positions

@@ -2,7 +2,7 @@
 use Rattle.std.specs.Prelude.{◌≡◌, ℕ, ◌+◌, ◌==◌, true, false, List, [], ◌⊎◌, length, map, Some, None, is_some}
 use Rattle.busdma_machine.specs.Machine.Wire.{Wire, put}
 use Rattle.loan_table.specs.Table.{AreIn, set_all}
-use Rattle.phys_memory.specs.Memory.{Memory, wire}
+use Rattle.phys_memory.specs.Memory.{FrameMemory, wire}
 use Rattle.ideal_lane.specs.IdealMemory.{Known, written}
 use Rattle.ideal_lane.specs.State.{LaneState}
 use Rattle.lane_state.specs.declared.holdings.Holdings.{Holdings}
@@ -115,7 +115,7 @@ abbrev pub with_written : List ℕ → List ℕ → LaneState → LaneState
 with_written pas vs l = record l { memory = written pas vs l.memory }
 
 -- the ideal state after the bytes at these addresses were marked as Known, and the driver's memory became this one
-abbrev pub with_marked : List ℕ → Memory → Holdings → LaneState
+abbrev pub with_marked : List ℕ → FrameMemory → Holdings → LaneState
 with_marked pas m h = record (ideal_of h) {
   memory = held (set_all h.loans.bytes pas true) h.loans.loans (devices_of h.maps.map) m;
 }

@@ -14,8 +14,8 @@ use Rattle.lane_state.specs.declared.kept.KeptLoad.{KeptLoad}
 use Rattle.dma_map.specs.MapView as held
 use Rattle.lane_tables.specs.declared.queued.QueuedPage.{QueuedPage}
 use Rattle.busdma_rules.specs.Lending.Loans.{Loans}
-use Rattle.memory_pages.specs.Placed.{IsPlaced}
-use Rattle.phys_memory.specs.Memory.{Memory, has_frame, physical}
+use Rattle.memory_pages.specs.Placed.{IsMemoryPlaced}
+use Rattle.phys_memory.specs.Memory.{FrameMemory, memory_has_frame, memory_physical}
 use Rattle.ideal_lane.specs.Outcomes.{is_idle, is_loaded}
 use Rattle.ideal_lane.specs.Places.{is_in_memory, physical_of}
 use Rattle.ideal_lane.specs.State.{Stage, Idle, Waiting, Loaded, Returning}
@@ -25,12 +25,12 @@ use Rattle.lane_state.specs.Kept.{map_of, memory_of, due_of}
 use Rattle.lane_state.specs.Kept as kept
 
 -- the table of Known and Unknown bytes has exactly the bytes of the driver's frames
-abbrev pub IsCovered : Memory → FinMap nat_cmp Bool → Type 0
-IsCovered m bytes = (a : ℕ) → contains_key bytes a ≡ has_frame m (a / 4096)
+abbrev pub IsCovered : FrameMemory → FinMap nat_cmp Bool → Type 0
+IsCovered m bytes = (a : ℕ) → contains_key bytes a ≡ memory_has_frame m (a / 4096)
 
 -- the memory has all frames of the driver's pages
-abbrev pub HasFramesOf : List PageRun → Memory → Type 0
-HasFramesOf runs m = (f : ℕ) → pages.has_frame runs f ≡ true → has_frame m f ≡ true
+abbrev pub HasFramesOf : List PageRun → FrameMemory → Type 0
+HasFramesOf runs m = (f : ℕ) → pages.has_frame runs f ≡ true → memory_has_frame m f ≡ true
 
 -- the physical address of a virtual one: by the driver's pages if they have it, or else by its memories
 abbrev pub reached_in : Option ℕ → FinMap nat_cmp KeptMemory → ℕ → Option ℕ
@@ -39,12 +39,13 @@ reached_in None memories va =
     if list_any (λ e. is_in_memory va (memory_of e.1)) (entries memories) then Some (physical_of va) else None
 
 -- the driver reaches the bytes of its pages and of its memories, and no others
-abbrev pub Reaches : List PageRun → FinMap nat_cmp KeptMemory → Memory → Type 0
-Reaches pages memories m = (va : ℕ) → physical m va ≡ reached_in (physical_in pages va) memories va
+abbrev pub Reaches : List PageRun → FinMap nat_cmp KeptMemory → FrameMemory → Type 0
+Reaches pages memories m = (va : ℕ) → memory_physical m va ≡ reached_in (physical_in pages va) memories va
 
 -- each memory is in its frames, which follow one another
-abbrev pub AreStanding : FinMap nat_cmp KeptMemory → Memory → Type 0
-AreStanding memories m = (k : ℕ) (x : KeptMemory) → get memories k ≡ Some x → IsPlaced m x.first.0 x.count x.memory.len
+abbrev pub AreStanding : FinMap nat_cmp KeptMemory → FrameMemory → Type 0
+AreStanding memories m = (k : ℕ) (x : KeptMemory) → get memories k ≡ Some x → IsMemoryPlaced m x.first.0 x.count
+    x.memory.len
 
 -- a map exists and is loaded
 abbrev pub has_load : Option KeptMap → Bool
@@ -64,9 +65,9 @@ returns_in (Loaded bounced segments pages) = false
 returns_in Returning = true
 
 -- a map exists and its pages are on their way back
-abbrev pub is_returning : Option KeptMap → Bool
-is_returning None = false
-is_returning (Some o) = returns_in (map_of o).stage
+abbrev pub is_covered_returning : Option KeptMap → Bool
+is_covered_returning None = false
+is_covered_returning (Some o) = returns_in (map_of o).stage
 
 -- a load of a map has called or stored a callback, unless the map is idle
 abbrev pub is_tried : Option KeptMap → Bool
@@ -74,11 +75,11 @@ is_tried None = true
 is_tried (Some o) = is_idle (map_of o).stage || o.map.tried
 
 -- the maps that lend bytes are those that are loaded
-abbrev pub AreLoaded : FinMap nat_cmp KeptMap → Loans → Type 0
-AreLoaded maps loans = (k : ℕ) → contains_key loans k ≡ has_load (get maps k)
+abbrev pub AreCoveredLoads : FinMap nat_cmp KeptMap → Loans → Type 0
+AreCoveredLoads maps loans = (k : ℕ) → contains_key loans k ≡ has_load (get maps k)
 
 -- the pages of a map in this state are lent out for an access or a copy
-abbrev pub is_lent : held.Stage KeptLoad → Bool
+abbrev pub is_lent : held.HeldStage KeptLoad → Bool
 is_lent held.idle = false
 is_lent (held.waiting load_at callback room) = false
 is_lent (held.loaded bounced segments pages) = false
@@ -96,7 +97,7 @@ pages_due maps = sum_by (λ e. due_of e.1) (entries maps)
 
 -- how many items the callbacks of the loads that wait will append
 abbrev pub items_due : FinMap nat_cmp KeptMap → ℕ
-items_due maps = sum_by (λ e. kept.items_of e.1) (entries maps)
+items_due maps = sum_by (λ e. kept.kept_items e.1) (entries maps)
 
 -- the pages of the return queue are those of maps of the driver of this number
 abbrev pub AreOwn : ℕ → List QueuedPage → Type 0
@@ -104,7 +105,7 @@ AreOwn lane pages = list_any (λ q. not (q.map.lane.0 == lane)) pages ≡ false
 
 -- the pages of the return queue are of maps whose pages are on their way back
 abbrev pub AreReturning : FinMap nat_cmp KeptMap → List QueuedPage → Type 0
-AreReturning maps pages = list_any (λ q. not (is_returning (get maps q.map.made_at))) pages ≡ false
+AreReturning maps pages = list_any (λ q. not (is_covered_returning (get maps q.map.made_at))) pages ≡ false
 
 -- nothing was made at this place of the script or later
 abbrev pub IsVacantFrom : {X : Type 0} → ℕ → FinMap nat_cmp X → Type 0

@@ -2,7 +2,7 @@
 use Rattle.std.specs.Prelude.{◌≡◌, ℕ, ◌⊎◌, Bool, true, false}
 use Rattle.busdma_machine.specs.declared.bounce.hold.HubCall.{HubCall}
 use Rattle.busdma_machine.specs.declared.bounce.hold.HubReply.{HubReply}
-use Rattle.busdma_machine.specs.Bounce.Door.{Seen, Allows, Holds, Fails}
+use Rattle.busdma_machine.specs.Bounce.Door.{Seen, Allows, HoldsAtDoor, FailsAtDoor}
 use Rattle.ideal_lane.specs.Asking.{Asking, Gives, Asks}
 
 module _ {X : Type 0} where
@@ -14,7 +14,7 @@ module _ {X : Type 0} where
   -- a call was made between what the door had seen and what it has seen now, and the step continued with its reply
   pub record IsCalled (d : Seen) (lane : ℕ) (c : HubCall) (k : HubReply → X) (x : X) (e : Seen) : Type 0 where
     pub reply : HubReply
-    pub holds : Holds d lane c reply e
+    pub holds : HoldsAtDoor d lane c reply e
     pub is : x ≡ k reply
 
   -- a step is done and has this outcome: after its call, or without a call, and then the door has seen nothing new
@@ -29,4 +29,4 @@ asks {X} (Asks c k) = true
 
 -- memory ran out: the door has seen nothing new, or its call failed
 abbrev pub IsUndone : Seen → Seen → Type 0
-IsUndone d e = (e ≡ d) ⊎ Fails d e
+IsUndone d e = (e ≡ d) ⊎ FailsAtDoor d e

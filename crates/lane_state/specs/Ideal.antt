@@ -5,7 +5,7 @@ use Rattle.ideal_lane.specs.Outcomes.{Outcome}
 use Rattle.ideal_lane.specs.State.{LaneState}
 use Rattle.lane_state.specs.declared.holdings.Holdings.{Holdings}
 use Rattle.lane_state.specs.Held.{devices_of, held}
-use Rattle.lane_state.specs.Kept.{tag_of, map_of, memory_of, ring_of, return_of, share_of, spaces_of}
+use Rattle.lane_state.specs.Kept.{tag_of, map_of, memory_of, kept_ring, return_of, kept_share, spaces_of}
 use Rattle.lane_state.specs.MapValues.{map_values}
 
 -- the ideal driver of what a driver holds
@@ -20,12 +20,12 @@ ideal_of h = record {
   tags = map_values tag_of h.tags.map;
   maps = map_values map_of h.maps.map;
   mems = map_values memory_of h.memories.map;
-  rings = map_values ring_of h.rings.map;
+  rings = map_values kept_ring h.rings.map;
   memory = held h.loans.bytes h.loans.loans (devices_of h.maps.map) h.memory.memory;
   loans = h.loans.loans;
   queue = h.agenda.queue;
   returns = map return_of h.agenda.returns;
-  shares = share_of h.shares.items;
+  shares = kept_share h.shares.items;
   spaces = spaces_of h.tags.map;
 }
 

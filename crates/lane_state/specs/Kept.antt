@@ -39,12 +39,12 @@ abbrev pub waits_of : ℕ → KeptLoad → WaitingLoad
 waits_of at w = record { load_at = at; bio = bio_of w.bytes; items = w.items; need = w.need }
 
 -- the ideal stage of a map; pages that are lent out are still the map's
-abbrev pub stage_of : held.Stage KeptLoad → Stage
-stage_of held.idle = Idle
-stage_of (held.waiting load_at callback room) = Waiting (waits_of load_at callback)
-stage_of (held.loaded bounced segments pages) = Loaded bounced segments (page_addresses pages.items)
-stage_of (held.lent bounced segments frames) = Loaded bounced segments (map (λ f. 4096 * f) frames)
-stage_of held.returning = Returning
+abbrev pub kept_stage : held.HeldStage KeptLoad → Stage
+kept_stage held.idle = Idle
+kept_stage (held.waiting load_at callback room) = Waiting (waits_of load_at callback)
+kept_stage (held.loaded bounced segments pages) = Loaded bounced segments (page_addresses pages.items)
+kept_stage (held.lent bounced segments frames) = Loaded bounced segments (map (λ f. 4096 * f) frames)
+kept_stage held.returning = Returning
 
 -- the ideal map
 abbrev pub map_of : KeptMap → LaneMap
@@ -52,7 +52,7 @@ map_of o = record {
   tag = o.tag;
   zone = option_map (λ z. z.0) o.map.zone;
   tried = o.map.tried;
-  stage = stage_of o.map.stage;
+  stage = kept_stage o.map.stage;
 }
 
 -- the ideal memory object of a dmamem memory
@@ -66,21 +66,21 @@ memory_of x = record {
 }
 
 -- the ideal ring
-abbrev pub ring_of : KeptRing → LaneRing
-ring_of r = record { mem = r.mem; slots = r.slots; head = r.head }
+abbrev pub kept_ring : KeptRing → LaneRing
+kept_ring r = record { mem = r.mem; slots = r.slots; head = r.head }
 
 -- the ideal entry of a page in the return queue
 abbrev pub return_of : QueuedPage → Return
 return_of q = record { map = q.map.made_at; zone = q.zone.0; page = page_address q.page }
 
 -- the pages of the return queue, with the bytes that they hold
-abbrev pub pages_in : List QueuedPage → List FrameBytes
-pages_in returns = map (λ q. q.page) returns
+abbrev pub kept_pages_in : List QueuedPage → List FrameBytes
+kept_pages_in returns = map (λ q. q.page) returns
 
 -- a driver's share of the copying syncs of a zone, or 0 if none is kept
-abbrev pub share_of : List KeptShare → ℕ → ℕ
-share_of [] z = 0
-share_of (s ∷ shares) z = if z == s.zone.0 then s.count else share_of shares z
+abbrev pub kept_share : List KeptShare → ℕ → ℕ
+kept_share [] z = 0
+kept_share (s ∷ shares) z = if z == s.zone.0 then s.count else kept_share shares z
 
 -- what the load of a map has beside its buffer: its bounced chunks, and its bounce pages with the bytes that they hold
 pub record Device : Type 0 where
@@ -92,7 +92,7 @@ abbrev pub no_device : Device
 no_device = record { chunks = []; pages = [] }
 
 -- the bounced chunks and bounce pages of a map in this state
-abbrev pub device_in : held.Stage KeptLoad → Device
+abbrev pub device_in : held.HeldStage KeptLoad → Device
 device_in held.idle = no_device
 device_in (held.waiting load_at callback room) = no_device
 device_in (held.loaded bounced segments pages) = record { chunks = bounced; pages = pages.items }
@@ -106,7 +106,7 @@ device_of (Some o) = device_in o.map.stage
 
 -- how many pages a map in this state will give to the return queue: those that it holds, or the need of its waiting
 -- load
-abbrev pub due_in : held.Stage KeptLoad → ℕ
+abbrev pub due_in : held.HeldStage KeptLoad → ℕ
 due_in held.idle = 0
 due_in (held.waiting load_at callback room) = callback.need
 due_in (held.loaded bounced segments pages) = length pages.items
@@ -118,13 +118,13 @@ abbrev pub due_of : KeptMap → ℕ
 due_of o = due_in o.map.stage
 
 -- how many items the callback of a map in this state will append
-abbrev pub items_in : held.Stage KeptLoad → ℕ
-items_in held.idle = 0
-items_in (held.waiting load_at callback room) = length callback.items
-items_in (held.loaded bounced segments pages) = 0
-items_in (held.lent bounced segments frames) = 0
-items_in held.returning = 0
+abbrev pub kept_items_in : held.HeldStage KeptLoad → ℕ
+kept_items_in held.idle = 0
+kept_items_in (held.waiting load_at callback room) = length callback.items
+kept_items_in (held.loaded bounced segments pages) = 0
+kept_items_in (held.lent bounced segments frames) = 0
+kept_items_in held.returning = 0
 
 -- how many items the callback of a map will append
-abbrev pub items_of : KeptMap → ℕ
-items_of o = items_in o.map.stage
+abbrev pub kept_items : KeptMap → ℕ
+kept_items o = kept_items_in o.map.stage

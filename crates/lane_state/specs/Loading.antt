@@ -84,13 +84,13 @@ abbrev pub bio_chunks : LaneState → LaneMap → Bio → List Chunk
 bio_chunks l o b = chunks_for l o false (load_entries l b)
 
 -- the bytes of a bio are the first ones of this memory, below the end of any machine's memory
-pub record AreFirst (l : LaneState) (x : LaneMemory) (b : Bio) : Type 0 where
+pub record AreFirstEntries (l : LaneState) (x : LaneMemory) (b : Bio) : Type 0 where
   pub run : entries_addresses (load_entries l b) ≡ run_of x.first (bio_bytes b)
   pub inside : x.first + bio_bytes b ≤ 2 ^ 42
 
 -- if the map is a memory's, the bytes of a bio are the first ones of the memory
 abbrev pub AreItsFirst : LaneState → ℕ → Bio → Type 0
-AreItsFirst l m b = (x : LaneMemory) → get l.mems m ≡ Some x → AreFirst l x b
+AreItsFirst l m b = (x : LaneMemory) → get l.mems m ≡ Some x → AreFirstEntries l x b
 
 -- all bytes of a load may be loaded into this map: they are of the driver's pages, or of the memory whose map it is
 abbrev pub AreOfMap : LaneState → ℕ → Bio → Type 0

@@ -24,7 +24,7 @@ use Rattle.ideal_wire.specs.OneProof.{IsBioOf-prop}
 use Rattle.lane_state.specs.declared.kept.KeptLoad.{KeptLoad}
 use Rattle.lane_state.specs.declared.kept.KeptMap.{KeptMap}
 use Rattle.lane_state.specs.declared.kept.KeptTag.{KeptTag}
-use Rattle.lane_state.specs.Awaiting.{AreAwaiting, IsAwaiting, awaited}
+use Rattle.lane_state.specs.Awaiting.{AreAwaiting, IsAwaitingNow, awaited_map}
 use Rattle.lane_state.specs.Loading.{HasRoomFor, HasRoomForAny}
 
 Loan-set : IsSet Loan
@@ -45,17 +45,17 @@ IsBio-prop (bio.Vector spans) = hlevel (props, AllByRecursion-prop)
 IsBio-prop (bio.Unmapped frames off len) = hlevel (props, AllByRecursion-prop)
 
 IsAwaiting-prop : (pages : List PageRun) (maxmem : ℕ) (tag : Option TagLimits) (loan : Option Loan) (w : KeptLoad)
-    (room : LoadRoom) → IsProp (IsAwaiting pages maxmem tag loan w room)
+    (room : LoadRoom) → IsProp (IsAwaitingNow pages maxmem tag loan w room)
 IsAwaiting-prop pages maxmem tag loan w room =
     hlevel (props, Loan-set, HasRoomForAny-prop, IsBio-prop, IsBioOf-prop, AllByRecursion-prop)
 
 awaits-prop : (pages : List PageRun) (maxmem : ℕ) (loan : Option Loan)
     (w : Option (KeptLoad × LoadRoom × Option TagLimits)) →
-    IsProp (IfSome w (λ w. IsAwaiting pages maxmem w.2 loan w.0 w.1))
+    IsProp (IfSome w (λ w. IsAwaitingNow pages maxmem w.2 loan w.0 w.1))
 awaits-prop pages maxmem loan None = Unit-prop
 awaits-prop pages maxmem loan (Some w) = IsAwaiting-prop pages maxmem w.2 loan w.0 w.1
 
 pub AreAwaiting-prop : (pages : List PageRun) (maxmem : ℕ) (tags : FinMap nat_cmp KeptTag)
     (maps : FinMap nat_cmp KeptMap) (prepared : Loans) → IsProp (AreAwaiting pages maxmem tags maps prepared)
 AreAwaiting-prop pages maxmem tags maps prepared = λ p q i m.
-    awaits-prop pages maxmem (get prepared m) (awaited tags (get maps m)) (p m) (q m) i
+    awaits-prop pages maxmem (get prepared m) (awaited_map tags (get maps m)) (p m) (q m) i

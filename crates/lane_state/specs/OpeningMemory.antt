@@ -8,7 +8,7 @@ use Rattle.busdma_machine.specs.Each.{EachAfter}
 use Rattle.busdma_machine.specs.Machine.VirtualPages.{pages_end}
 use Rattle.busdma_base.specs.Scenarios.PageRuns.{share_frame, share_page}
 use Rattle.phys_memory.specs.declared.reach.Reach.{Reach}
-use Rattle.phys_memory.specs.Memory.{Memory, physical, wire, has_frame}
+use Rattle.phys_memory.specs.Memory.{FrameMemory, memory_physical, wire, memory_has_frame}
 use Rattle.busdma_base.specs.Scenarios.PageRuns.{physical_in, is_own}
 
 -- a run has a page, is on page boundaries below the end of pages and in frames of numbers below 2^30, and shares no
@@ -26,9 +26,9 @@ abbrev pub ArePages : List PageRun → Type 0
 ArePages pages = EachAfter IsOwnRun [] pages
 
 -- the memory has exactly these pages, below the virtual addresses of memories, and 0 in every byte of them
-pub record IsOpeningMemory (pages : List PageRun) (m : Memory) : Type 0 where
-  pub physical : physical m ≡ physical_in pages
-  pub frames : (a : ℕ) → has_frame m (a / 4096) ≡ is_own pages a
+pub record IsOpeningMemory (pages : List PageRun) (m : FrameMemory) : Type 0 where
+  pub physical : memory_physical m ≡ physical_in pages
+  pub frames : (a : ℕ) → memory_has_frame m (a / 4096) ≡ is_own pages a
   pub zero : (a : ℕ) → is_own pages a ≡ true → wire m a ≡ 0
   pub low : (v : ℕ) (r : Reach) → get m.table v ≡ Some r → v < pages_end / 4096
 
@@ -41,13 +41,13 @@ abbrev pub row_of : PageRun → ℕ → Reach
 row_of run v = record { frame = run.frame + (v - run.va.0 / 4096); reach = 4096 }
 
 -- a memory after the pages of a run were added to it, with 0 in every byte
-pub record HasRun (run : PageRun) (before after : Memory) : Type 0 where
+pub record HasPageRun (run : PageRun) (before after : FrameMemory) : Type 0 where
   pub table : (v : ℕ) → get after.table v ≡ (if is_one_of (run.va.0 / 4096) run.count v
       then Some (row_of run v) else get before.table v)
   pub frames : (f : ℕ) → get after.frames f
       ≡ (if is_one_of run.frame run.count f then Some (replicate 4096 0) else get before.frames f)
 
 -- a memory has none of the pages of a run, and none of its frames
-pub record IsWithout (run : PageRun) (m : Memory) : Type 0 where
+pub record IsWithout (run : PageRun) (m : FrameMemory) : Type 0 where
   pub table : (v : ℕ) → is_one_of (run.va.0 / 4096) run.count v ≡ true → get m.table v ≡ None
   pub frames : (f : ℕ) → is_one_of run.frame run.count f ≡ true → get m.frames f ≡ None

@@ -5,7 +5,7 @@ ghost use Rattle.std.specs.FinMap.{get};
 ghost use Rattle.busdma_base.specs.declared.journals.answer.Answer.TheVariants as answer;
 ghost use Rattle.memory_pages.specs.Placed.{AreAtTheirFrames};
 ghost use Rattle.lane_state.specs.Awaiting.{AreAwaiting, AreOfMaps};
-ghost use Rattle.lane_state.specs.Covered.{AreLoaded, AreOwn, AreReturning, AreStanding, HasFramesOf, IsCovered};
+ghost use Rattle.lane_state.specs.Covered.{AreCoveredLoads, AreOwn, AreReturning, AreStanding, HasFramesOf, IsCovered};
 ghost use Rattle.lane_state.specs.Covered.{Reaches, is_tried, lends_pages, pages_due};
 ghost use Rattle.lane_state.specs.OneAwaiting.{AreAwaiting-prop};
 
@@ -47,7 +47,7 @@ pub struct Holdings<'s> {
     ghost map_places: { agenda.length ≤ maps.places },
     ghost memory_places: { agenda.length ≤ memories.places },
     ghost ring_places: { agenda.length ≤ rings.places },
-    ghost loaded: { AreLoaded maps.map loans.loans },
+    ghost loaded: { AreCoveredLoads maps.map loans.loans },
     ghost unlent: { (k : ℕ) → lends_pages (get maps.map k) ≡ false },
     ghost promised: { pages_due maps.map ≤ agenda.promised },
     ghost own_returns: { AreOwn id.0 agenda.returns },

@@ -6,7 +6,7 @@ ghost use Rattle.busdma_machine.specs.Judging.{judged};
 ghost use Rattle.busdma_machine.specs.Runs.{addresses, byte_count, run_of};
 ghost use Rattle.loan_table.specs.Table.{AreIn};
 ghost use Rattle.phys_memory.specs.Frames.{Lie};
-ghost use Rattle.phys_memory.specs.Memory.{physical};
+ghost use Rattle.phys_memory.specs.Memory.{memory_physical};
 ghost use Rattle.busdma_rules.specs.Memory.Translation.{physical_or_0, unreached};
 ghost use Rattle.phys_memory.specs.Walk.{IfParts, verdict, walk_of};
 ghost use Rattle.ideal_lane.specs.Loads.{is_device};
@@ -58,9 +58,9 @@ impl Holdings<'_> {
     ///
     /// `AllocError` if memory runs out. The driver is not changed.
     pub fn reach(&self, alloc: Global, va: u128, len: u64) -> Result<Walked, AllocError>
-        ensures verdict { let refusal = unreached (physical self.now.memory.memory) in
+        ensures verdict { let refusal = unreached (memory_physical self.now.memory.memory) in
             IfOk result (λ w. verdict w ≡ judged refusal 0 (run_of va len)) }
-        ensures addresses { let pas = map (physical_or_0 (physical self.now.memory.memory)) (run_of va len) in
+        ensures addresses { let pas = map (physical_or_0 (memory_physical self.now.memory.memory)) (run_of va len) in
             IfOk result (λ w. IfParts w (λ es. addresses es ≡ pas)) }
         ensures lie { IfOk result (λ w. IfParts w (Lie self.now.memory.memory)) }
         ensures inside { IfOk result (λ w. IfParts w (λ es. AreIn self.now.loans.bytes (addresses es))) }

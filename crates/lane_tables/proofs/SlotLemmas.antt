@@ -1,5 +1,6 @@
 -- What a table of values by script place finds, and how a put and a take change it.
-use Rattle.std.proofs.Common.{T, ◌≡◌, ◌≢◌, ◌⊎◌, ℕ, zero, suc, ◌+◌, ◌-◌, ◌<◌, Bool, true, false, cond, ◌&&◌, List, [], ◌∷◌}
+use Rattle.std.proofs.Common.{T, ◌≡◌, ◌≢◌, ◌⊎◌, ℕ, zero, suc, ◌+◌, ◌-◌, ◌<◌, Bool, true, false, cond, ◌&&◌, List, []}
+use Rattle.std.proofs.Common.{◌∷◌}
 use Rattle.std.proofs.Common.{length, get_or, set, replicate, Option, Some, None, IsSome, refl, sym, ap, subst, ◌∙◌}
 use Rattle.std.proofs.Common.{inl, inr, zero-add, arith, count_by, is_some, ◌++◌, ◌^◌, length-append}
 use Rattle.std.proofs.lemmas.Bool.{cases_eq, lt-ltb}
@@ -12,7 +13,7 @@ use Rattle.std.specs.Cmp.{nat_cmp_total}
 use Rattle.std.specs.FinMap.{FinMap, find, is_sorted, empty, get, get-empty, insert, remove, get-from_sorted}
 use Rattle.std.specs.FinMap.{get-insert, get-remove, same_map, nat_cmp-IsAntisymmetric}
 use Rattle.std.specs.FinMap.Entries.{below_all}
-use Rattle.busdma_machine.proofs.Accounts.Counting.{count_by-append}
+use Rattle.busdma_machine.proofs.Accounts.EditedSums.{count_by-append}
 use Rattle.slab.specs.Slab.{Slab, get as under, ContainsKey, Updates, entries_from, slab_len, with_value}
 use Rattle.lane_tables.specs.Lends.{with_value as table_with}
 use Rattle.lane_tables.specs.Slots.{value_under, slots, by_place, IsKept}

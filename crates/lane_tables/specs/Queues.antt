@@ -15,5 +15,5 @@ abbrev pub is_of : MapId → QueuedPage → Bool
 is_of m page = (page.map.lane.0 == m.lane.0) && (page.map.made_at == m.made_at)
 
 -- some page of the queue is the map's
-abbrev pub has_page : MapId → List QueuedPage → Bool
-has_page m queue = list_any (is_of m) queue
+abbrev pub queue_has_page : MapId → List QueuedPage → Bool
+queue_has_page m queue = list_any (is_of m) queue

@@ -7,7 +7,7 @@ ghost use Rattle.std.specs.VecDeque.{deque_capacity};
 ghost use Rattle.busdma_base.specs.Scenarios.Limits.{steps_limit};
 ghost use Rattle.busdma_base.specs.Scenarios.Script.{steps_of};
 ghost use Rattle.busdma_base.specs.Scenarios.Queues.{script_items, queued_items as queued, queue_names};
-ghost use Rattle.lane_tables.specs.Queues.{queued_pages, has_page};
+ghost use Rattle.lane_tables.specs.Queues.{queued_pages, queue_has_page as has_page};
 
 use crate::queued::{QueuedPage, Returned, item_names};
 use busdma_base::{Driver, ItemList, MapId, Op, PageList, QueuedItem, ZoneId};

@@ -10,7 +10,8 @@ use Rattle.busdma_machine.specs.declared.bounce.hold.HubReply.{HubReply}
 use Rattle.busdma_machine.specs.declared.bounce.hold.HoldEntry.{HoldEntry}
 use Rattle.busdma_machine.specs.Bounce.Account.{Account}
 use Rattle.busdma_machine.specs.Bounce.AccountStep.{account_step}
-use Rattle.busdma_machine.specs.Bounce.Door.{Seen, Passes, Holds, Fails, Misses, IsRow, account}
+use Rattle.busdma_machine.specs.Bounce.Door.{Seen, Passes, HoldsAtDoor}
+use Rattle.busdma_machine.specs.Bounce.Door.{FailsAtDoor, Misses, IsRow, account}
 use Rattle.busdma_machine.specs.Machine.PageList.{RoomyPages, page_addresses}
 use Rattle.bounce_hub.specs.Seen.{HubSeen, door}
 use Rattle.turnstile.specs.TurnObject.{Grows}
@@ -34,7 +35,7 @@ same-passed : (h : HubSeen) (others : List HoldEntry) (m : Seen) → Passes (doo
 same-passed h others m p =
     p.history ∙ (ap (λ es. h.history ++ es) (no_others others p.apart) ∙ append-nil h.history)
 
-pub made : (h g : HubSeen) (lane : ℕ) (c : HubCall) (r : HubReply) → Holds (door h) lane c r (door g)
+pub made : (h g : HubSeen) (lane : ℕ) (c : HubCall) (r : HubReply) → HoldsAtDoor (door h) lane c r (door g)
     → IsEntered h.opening h.history lane c r g.history
 made h g lane c r held =
     let same : held.between.history ≡ h.history = same-passed h held.others held.between held.passes in
@@ -47,7 +48,7 @@ made h g lane c r held =
           ∙ ap (λ es. es ++ record { lane = record { 0 = lane }; call = c; reply = r } ∷ []) same;
     }
 
-pub failed : (h g : HubSeen) → Fails (door h) (door g) → g.history ≡ h.history
+pub failed : (h g : HubSeen) → FailsAtDoor (door h) (door g) → g.history ≡ h.history
 failed h g f = same-passed h f.others (door g) f.passes
 
 missed : (h g : HubSeen) (lane : ℕ) → Misses (door h) lane (door g) → IsMissed h.opening h.history lane g.history
@@ -60,15 +61,16 @@ missed h g lane m =
 
 -- the two answers of a call that takes memory
 pub made_or_failed : {X E : Type 0} (h g : HubSeen) (lane : ℕ) (c : HubCall) (as_reply : X → HubReply)
-    → (r : Result X E) → IfOk r (λ x. Holds (door h) lane c (as_reply x) (door g))
-    → OnErr r (Fails (door h) (door g))
+    → (r : Result X E) → IfOk r (λ x. HoldsAtDoor (door h) lane c (as_reply x) (door g))
+    → OnErr r (FailsAtDoor (door h) (door g))
     → IfOk r (λ x. IsEntered h.opening h.history lane c (as_reply x) g.history) × OnErr r (g.history ≡ h.history)
 made_or_failed h g lane c as_reply (Ok x) held fails = (made h g lane c (as_reply x) held, tt)
 made_or_failed h g lane c as_reply (Err e) held fails = (tt, failed h g fails)
 
 -- the two answers when a callback is asked for
 pub made_or_missed : (h g : HubSeen) (lane : ℕ) (r : Option Called)
-    → MatchOption r (Misses (door h) lane (door g)) (λ c. Holds (door h) lane TakeCallback (called_reply c) (door g))
+    → MatchOption r (Misses (door h) lane (door g)) (λ c. HoldsAtDoor (door h) lane TakeCallback (called_reply c)
+    (door g))
     → MatchOption r (IsMissed h.opening h.history lane g.history)
     (λ c. IsEntered h.opening h.history lane TakeCallback (called_reply c) g.history)
 made_or_missed h g lane None m = missed h g lane m

@@ -1,4 +1,4 @@
 pub mod Acting
-pub mod Closings
+pub mod ClosingLaws
 pub mod Sending
 pub mod Turning

@@ -13,7 +13,8 @@ use Rattle.busdma_machine.specs.declared.bounce.hold.HoldEntry.{HoldEntry}
 use Rattle.busdma_machine.specs.Bounce.Account.{Account}
 use Rattle.busdma_machine.specs.Bounce.AccountStep.{account_step}
 use Rattle.busdma_machine.specs.Bounce.History.{account_of}
-use Rattle.busdma_machine.specs.Bounce.Door.{Seen, Allows, Passes, Holds, Fails, Misses, account}
+use Rattle.busdma_machine.specs.Bounce.Door.{Seen, Allows, Passes}
+use Rattle.busdma_machine.specs.Bounce.Door.{HoldsAtDoor, FailsAtDoor, Misses, account}
 use Rattle.turnstile.specs.declared.view.Start.{Start}
 use Rattle.turnstile.specs.TurnHistory.{entries, turns_of, IsOfOthers}
 use Rattle.turnstile.specs.Start.{history_after, IsLawful}
@@ -86,7 +87,7 @@ module _ (start : Start HoldEntry Account) (name : ℕ) (front between whole : L
   -- after the turns of others came the call's own turn
   holds : (lane : ℕ) (c : HubCall) (r : HubReply)
       → IsEntered start.fixed (history_after start (front ++ between)) lane c r (history_after start whole)
-      → Holds (at start name front) lane c r (at start name whole)
+      → HoldsAtDoor (at start name front) lane c r (at start name whole)
   holds lane c r made = record {
     between = at start name (front ++ between);
     others = entries between;
@@ -100,7 +101,7 @@ module _ (start : Start HoldEntry Account) (name : ℕ) (front between whole : L
 
   -- after the turns of others came no turn
   fails : history_after start whole ≡ history_after start (front ++ between)
-      → Fails (at start name front) (at start name whole)
+      → FailsAtDoor (at start name front) (at start name whole)
   fails same = let p = passes in record {
     others = entries between;
     passes = record {

@@ -7,7 +7,7 @@ use Rattle.busdma_machine.specs.Bounce.Account.{Account}
 use Rattle.busdma_machine.specs.Bounce.Conditions.{MayCall}
 use Rattle.busdma_machine.specs.Bounce.History.{IsSound, account_of}
 use Rattle.busdma_machine.proofs.Accounts.LaneEntries.{account_of-append, sound-rest}
-use Rattle.busdma_machine.proofs.Accounts.Shares.{MayCall-stays, frames-stay}
+use Rattle.busdma_machine.proofs.Accounts.ShareLaws.{MayCall-stays, frames-stay}
 use Rattle.turnstile.specs.TurnObject.{OutlastsOthers}
 use Rattle.lane_threads.specs.declared.call.DoorCall.{DoorCall}
 use Rattle.lane_threads.specs.declared.call.DoorCall.TheVariants.{AttachTag, CreateMap, DestroyMap, Grab}

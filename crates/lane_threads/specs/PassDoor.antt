@@ -4,7 +4,7 @@ use Rattle.busdma_machine.specs.declared.bounce.hold.HubCall.TheVariants as hub
 use Rattle.busdma_machine.specs.declared.bounce.hold.HubReply.TheVariants as said
 use Rattle.busdma_machine.specs.declared.bounce.hold.HoldEntry.{HoldEntry}
 use Rattle.busdma_machine.specs.Bounce.Account.{Account, no_account}
-use Rattle.busdma_machine.specs.Bounce.Door.{Seen, Holds, Fails, Misses, grab_reply, memory_reply}
+use Rattle.busdma_machine.specs.Bounce.Door.{Seen, HoldsAtDoor, FailsAtDoor, Misses, grab_reply, memory_reply}
 use Rattle.busdma_machine.specs.Machine.PageList.{page_address}
 use Rattle.atomic_table.specs.Seated.{TableId}
 use Rattle.turnstile.specs.declared.view.Start.{Start}
@@ -35,8 +35,8 @@ pub record Place : Type 0 where
   pub name : ℕ
 
 -- which pass this is, by what contracts see of it
-abbrev pub place_of : PassView HoldEntry Account → Place
-place_of pass = record { turnstile = pass.turnstile; start = pass.start; name = pass.name }
+abbrev pub door_place : PassView HoldEntry Account → Place
+door_place pass = record { turnstile = pass.turnstile; start = pass.start; name = pass.name }
 
 -- the place of no pass, for a type that needs a value
 abbrev pub no_place : Place
@@ -50,19 +50,20 @@ no_place = record {
 -- there was no callback
 abbrev pub Replied : Seen → DoorCall → DoorReply → Seen → Type 0
 Replied d (call.AttachTag alloc lane tag) (reply.AttachTag r) e =
-    IfOk r (λ g. Holds d lane.0 (hub.AttachTag tag) (said.Grown g) e) × OnErr r (Fails d e)
+    IfOk r (λ g. HoldsAtDoor d lane.0 (hub.AttachTag tag) (said.Grown g) e) × OnErr r (FailsAtDoor d e)
 Replied d (call.CreateMap alloc map tag first_done) (reply.CreateMap r) e =
-    IfOk r (λ g. Holds d map.lane.0 (hub.CreateMap map tag first_done) (said.Grown g) e) × OnErr r (Fails d e)
+    IfOk r (λ g. HoldsAtDoor d map.lane.0 (hub.CreateMap map tag first_done) (said.Grown g) e)
+    × OnErr r (FailsAtDoor d e)
 Replied d (call.DestroyMap map zone) reply.DestroyMap e =
-    Holds d map.lane.0 (hub.DestroyMap map zone) said.Nothing e
+    HoldsAtDoor d map.lane.0 (hub.DestroyMap map zone) said.Nothing e
 Replied d (call.Grab alloc map zone need nowait) (reply.Grab r) e =
-    IfOk r (λ g. Holds d map.lane.0 (hub.Grab map zone need nowait) (grab_reply g) e) × OnErr r (Fails d e)
+    IfOk r (λ g. HoldsAtDoor d map.lane.0 (hub.Grab map zone need nowait) (grab_reply g) e) × OnErr r (FailsAtDoor d e)
 Replied d (call.Release map zone page) (reply.Release moved) e =
-    Holds d map.lane.0 (hub.Release map zone (record { 0 = page_address page })) (said.Served moved) e
+    HoldsAtDoor d map.lane.0 (hub.Release map zone (record { 0 = page_address page })) (said.Served moved) e
 Replied d (call.TakeCallback lane) (reply.TakeCallback r) e =
-    MatchOption r (Misses d lane.0 e) (λ c. Holds d lane.0 hub.TakeCallback (called_reply c) e)
+    MatchOption r (Misses d lane.0 e) (λ c. HoldsAtDoor d lane.0 hub.TakeCallback (called_reply c) e)
 Replied d (call.MemAlloc alloc mem tag) (reply.MemAlloc r) e =
-    IfOk r (λ g. Holds d mem.lane.0 (hub.MemAlloc mem tag) (memory_reply g) e × IfSome g AreInRow)
-    × OnErr r (Fails d e)
-Replied d (call.MemFree mem pages) reply.MemFree e = Holds d mem.lane.0 (hub.MemFree mem) said.Nothing e
+    IfOk r (λ g. HoldsAtDoor d mem.lane.0 (hub.MemAlloc mem tag) (memory_reply g) e × IfSome g AreInRow)
+    × OnErr r (FailsAtDoor d e)
+Replied d (call.MemFree mem pages) reply.MemFree e = HoldsAtDoor d mem.lane.0 (hub.MemFree mem) said.Nothing e
 Replied d _ _ e = ⊥

@@ -4,7 +4,7 @@ ghost use Rattle.std.specs.Prelude.{◌≡◌, ◌+◌};
 ghost use Rattle.busdma_machine.specs.Bounce.Door.{Allows, account};
 ghost use Rattle.lane_threads.specs.Calls.{lane_of, hub_call};
 ghost use Rattle.lane_threads.specs.Object.{GivesBack};
-ghost use Rattle.lane_threads.specs.PassDoor.{seen, place_of, Replied};
+ghost use Rattle.lane_threads.specs.PassDoor.{seen, door_place, Replied};
 
 use crate::call::{DoorCall, DoorReply};
 use crate::object::HubObject;
@@ -86,7 +86,7 @@ impl<'a, Rt: Wait> PassDoor<'a, Rt> {
         requires allowed { Allows (seen self.old) (lane_of call) (hub_call call) }
         requires pages { GivesBack call (account (seen self.old)) }
         ensures replied { Replied (seen self.old) call result (seen self.new) }
-        ensures fixed { place_of self.new ≡ place_of self.old }
+        ensures fixed { door_place self.new ≡ door_place self.old }
     {
         self.turnstile.hold(self.rt, &mut self.pass, call)
     }
@@ -97,7 +97,7 @@ impl<'a, Rt: Wait> HubDoor for PassDoor<'a, Rt> {
 
     ghost seen = { seen };
 
-    ghost fixed = { place_of };
+    ghost fixed = { door_place };
 
     fn attach_tag(
         &mut self,

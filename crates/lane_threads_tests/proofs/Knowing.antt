@@ -5,13 +5,13 @@ use Rattle.busdma_machine.specs.declared.bounce.hold.HubCall.{HubCall}
 use Rattle.busdma_machine.specs.declared.bounce.hold.HubReply.{HubReply}
 use Rattle.busdma_machine.specs.Bounce.AccountStep.{as_pages}
 use Rattle.busdma_machine.specs.Bounce.Conditions.{MayCall}
-use Rattle.busdma_machine.specs.Bounce.Door.{Seen, Allows, Holds, account}
+use Rattle.busdma_machine.specs.Bounce.Door.{Seen, Allows, HoldsAtDoor as Holds, account}
 use Rattle.lane_agreement.specs.View.{View, Loaded, unloaded}
-use Rattle.lane_agreement.specs.After.{after, addresses_of_pages as addresses, MayAsk}
+use Rattle.lane_agreement.specs.After.{after, addresses_of_pages, MayAsk}
 use Rattle.lane_agreement.proofs.Asking.{agrees-may}
 use Rattle.lane_agreement.proofs.Doors.{agrees-holds}
 use Rattle.lane_agreement.proofs.Steps.{agrees-unloaded}
-use Rattle.lane_threads_tests.specs.Knowing.{Knows, in_zone}
+use Rattle.lane_threads_tests.specs.Knowing.{Knows, is_known_in_zone}
 
 -- a view of the lane of which this holds
 abbrev pub IsOf : ℕ → (View → Type 0) → View → Type 0
@@ -49,7 +49,7 @@ module _ (lane : ℕ) (Has : View → Type 0) (d : Seen) (k : Knows lane Has d) 
 
   -- the pages of a map that is unloaded are to be given back
   pub unloads : (Next : View → Type 0) (m z : ℕ) (pages : List ℕ)
-      → Each lane Has (λ l. l.map_at m ≡ in_zone z (Loaded pages))
+      → Each lane Has (λ l. l.map_at m ≡ is_known_in_zone z (Loaded pages))
       → Each lane Has (λ l. Next (unloaded l m z pages)) → Knows lane Next d
   unloads Next m z pages here leads = record {
     view = unloaded k.view m z pages;
@@ -61,6 +61,6 @@ module _ (lane : ℕ) (Has : View → Type 0) (d : Seen) (k : Knows lane Has d) 
   }
 
 -- the addresses of pages as a reply has them
-pub addresses_as_pages : (pages : List ℕ) → addresses (as_pages pages) ≡ pages
+pub addresses_as_pages : (pages : List ℕ) → addresses_of_pages (as_pages pages) ≡ pages
 addresses_as_pages [] = refl
 addresses_as_pages (p ∷ ps) = ap (λ qs. p ∷ qs) (addresses_as_pages ps)

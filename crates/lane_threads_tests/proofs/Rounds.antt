@@ -8,19 +8,19 @@ use Rattle.busdma_machine.specs.declared.bounce.zone.Grown.{Grown}
 use Rattle.busdma_machine.specs.declared.bounce.hold.HubCall.TheVariants.{CreateMap, Grab, Release}
 use Rattle.busdma_machine.specs.declared.bounce.hold.HubReply.TheVariants.{Grown as GrownBy, Granted, Served}
 use Rattle.busdma_machine.specs.Bounce.AccountStep.{as_pages}
-use Rattle.busdma_machine.specs.Bounce.Door.{Seen, Allows, Holds}
-use Rattle.lane_agreement.specs.View.{View, OwnMap, Return, Stage, Idle, Loaded, Returning}
-use Rattle.lane_agreement.specs.View.{unloaded, given_back, restaged, queued_back}
+use Rattle.busdma_machine.specs.Bounce.Door.{Seen, Allows, HoldsAtDoor}
+use Rattle.lane_agreement.specs.View.{View, OwnMap, Return, SeenStage, Idle, Loaded, Returning}
+use Rattle.lane_agreement.specs.View.{unloaded, view_given_back, view_restaged, queued_back}
 use Rattle.lane_agreement.specs.After.{MayAsk, IsFront}
-use Rattle.lane_threads_tests.specs.Knowing.{Knows, HasIdle, HasNone, in_zone}
+use Rattle.lane_threads_tests.specs.Knowing.{Knows, HasIdle, HasNone, is_known_in_zone}
 use Rattle.lane_threads_tests.proofs.Knowing.{Each, allows, unloads}
 use Rattle.lane_threads_tests.proofs.Calls.{created, granted, released}
 use Rattle.lane_threads_tests.proofs.Table.{bounces}
 use Rattle.lane_threads_tests.proofs.TableCalls.{zone}
 
 -- a map of zone 0 is in this stage, and these pages are to be given back
-pub record HasOne (k : ℕ) (s : Stage) (back : List Return) (l : View) : Type 0 where
-  pub map : l.map_at k ≡ in_zone 0 s
+pub record HasOne (k : ℕ) (s : SeenStage) (back : List Return) (l : View) : Type 0 where
+  pub map : l.map_at k ≡ is_known_in_zone 0 s
   pub returns : l.returns ≡ back
 
 -- what is looked up at its own place
@@ -33,14 +33,14 @@ page_back k page = record { map = k; zone = 0; page = page }
 one_unloaded : (k p : ℕ) (l : View) → HasOne k (Loaded (p ∷ [])) [] l
     → HasOne k Returning (page_back k p ∷ []) (unloaded l k 0 (p ∷ []))
 one_unloaded k p l h = record {
-  map = found k (in_zone 0 Returning) (l.map_at k);
+  map = found k (is_known_in_zone 0 Returning) (l.map_at k);
   returns = ap (λ rs. rs ++ queued_back k 0 (p ∷ [])) h.returns;
 }
 
 one_again : (k p : ℕ) (l : View) → HasOne k Returning (page_back k p ∷ []) l
-    → HasIdle k (given_back l (page_back k p ∷ []))
+    → HasIdle k (view_given_back l (page_back k p ∷ []))
 one_again k p l h = record {
-  map = found k (restaged (l.map_at k) Idle) (l.map_at k) ∙ ap (λ o. restaged o Idle) h.map;
+  map = found k (view_restaged (l.map_at k) Idle) (l.map_at k) ∙ ap (λ o. view_restaged o Idle) h.map;
   returns = refl;
 }
 
@@ -58,23 +58,27 @@ module _ (m : MapId) (d e : Seen) where
     may_make k = allows lane HasNone d k (CreateMap m t false) asks_making
 
     pub made_one : Knows lane HasNone d → (g : Grown) → g.made ≡ true → g.zone.0 ≡ 0
-        → Holds d lane (CreateMap m t false) (GrownBy g) e → Knows lane (HasIdle m.made_at) e
+        → HoldsAtDoor d lane (CreateMap m t false) (GrownBy g) e → Knows lane (HasIdle m.made_at) e
     made_one k g made here h =
         created lane HasNone (HasIdle m.made_at) d e k m t false g 0 asks_making made here
-        (λ l id has. record { map = found m.made_at (in_zone 0 Idle) (l.map_at m.made_at); returns = has.returns }) h
+        (λ l id has. record {
+          map = found m.made_at (is_known_in_zone 0 Idle) (l.map_at m.made_at);
+          returns =
+              has.returns;
+        }) h
 
   asks_grab : Each lane (HasIdle m.made_at) (λ l. MayAsk l (Grab m zone 1 true))
   asks_grab l id h = (sym id, omega arith, h.map)
 
   -- the map got a page, which it may give back
   pub grabbed_one : Knows lane (HasIdle m.made_at) d → (page : ℕ)
-      → Holds d lane (Grab m zone 1 true) (Granted (as_pages (page ∷ []))) e
+      → HoldsAtDoor d lane (Grab m zone 1 true) (Granted (as_pages (page ∷ []))) e
       → Knows lane (HasOne m.made_at Returning (page_back m.made_at page ∷ [])) e
   grabbed_one k page h =
       unloads lane (HasOne m.made_at (Loaded (page ∷ [])) []) e
       (granted lane (HasIdle m.made_at) (HasOne m.made_at (Loaded (page ∷ [])) []) d e k m zone 1 true (page ∷ [])
       asks_grab (λ l id has. record {
-        map = found m.made_at (in_zone 0 (Loaded (page ∷ []))) (l.map_at m.made_at);
+        map = found m.made_at (is_known_in_zone 0 (Loaded (page ∷ []))) (l.map_at m.made_at);
         returns = has.returns;
       }) h) (HasOne m.made_at Returning (page_back m.made_at page ∷ [])) m.made_at 0 (page ∷ [])
       (λ l id has. has.map) (λ l id has. one_unloaded m.made_at page l has)
@@ -93,7 +97,7 @@ module _ (m : MapId) (d e : Seen) where
       (Release m zone (record { 0 = page })) (asks_back page)
 
   pub given_one : (page moved : ℕ) → Knows lane (HasOne m.made_at Returning (page_back m.made_at page ∷ [])) d
-      → Holds d lane (Release m zone (record { 0 = page })) (Served moved) e → Knows lane (HasIdle m.made_at) e
+      → HoldsAtDoor d lane (Release m zone (record { 0 = page })) (Served moved) e → Knows lane (HasIdle m.made_at) e
   given_one page moved k h =
       released lane (HasOne m.made_at Returning (page_back m.made_at page ∷ [])) (HasIdle m.made_at) d e k m zone
       (record { 0 = page }) moved (page_back m.made_at page) [] (asks_back page) (λ l id has. has.returns)

@@ -1,7 +1,6 @@
 -- A lane whose pass made no call knows that it has nothing.
 use Rattle.std.proofs.Common.{◌≡◌, ℕ, ◌+◌, ◌==◌, false, [], ◌++◌, Some, None, refl, sym, ◌∙◌, subst, eq-eqb}
 use Rattle.std.proofs.lemmas.Bool.{false≢true}
-use Rattle.bounce_hub.specs.Opening.{opening}
 use Rattle.atomic_table.specs.Seated.{TableId}
 use Rattle.lane_agreement.specs.View.{View}
 use Rattle.lane_agreement.proofs.Whole.{agrees-opening}

@@ -11,11 +11,12 @@ use Rattle.busdma_machine.specs.declared.bounce.hold.HubCall.TheVariants.{TakeCa
 use Rattle.busdma_machine.specs.declared.bounce.hold.HubReply.TheVariants.{Nothing, Grown as GrownBy, Granted, Queued}
 use Rattle.busdma_machine.specs.declared.bounce.hold.HubReply.TheVariants.{NoPages, Served, Called}
 use Rattle.busdma_machine.specs.Bounce.AccountStep.{as_pages}
-use Rattle.busdma_machine.specs.Bounce.Door.{Seen, Allows, Holds, memory_reply}
+use Rattle.busdma_machine.specs.Bounce.Door.{Seen, Allows, HoldsAtDoor, memory_reply}
 use Rattle.busdma_machine.specs.Machine.PageList.{RoomyPages}
-use Rattle.lane_agreement.specs.View.{View, OwnMap, Return, Idle, Waiting, Loaded, Returning, staged, zone_in}
+use Rattle.lane_agreement.specs.View.{View, OwnMap, Return, Idle}
+use Rattle.lane_agreement.specs.View.{Waiting, Loaded, Returning, view_staged, zone_in}
 use Rattle.lane_agreement.specs.After.{MayAsk, IsFront, after_mem_alloc}
-use Rattle.lane_threads_tests.specs.Knowing.{Knows, HasMaps, in_zone}
+use Rattle.lane_threads_tests.specs.Knowing.{Knows, HasMaps, is_known_in_zone}
 use Rattle.lane_threads_tests.proofs.Knowing.{IsOf, Each, allows, held, unloads}
 use Rattle.lane_threads_tests.proofs.Calls.{created, granted, queued, released, called, destroyed, refused}
 use Rattle.lane_threads_tests.proofs.Table.{bounces, first_in, second_in, first_gone, back, first_unloaded}
@@ -29,7 +30,7 @@ abbrev pub zone : ZoneId
 zone = record { 0 = 0 }
 
 abbrev pub idle : Option OwnMap
-idle = in_zone 0 Idle
+idle = is_known_in_zone 0 Idle
 
 abbrev Fresh : View → Type 0
 Fresh = HasMaps None None []
@@ -46,7 +47,7 @@ module _ (d e : Seen) (t : TagLimits) (could : IsTrue (could_bounce t 0x1010)) w
   may_make_first k = allows 0 Fresh d k (CreateMap (of_table 1) t false) asks_first
 
   pub first_made : Knows 0 Fresh d → (g : Grown) → g.made ≡ true → g.zone.0 ≡ 0
-      → Holds d 0 (CreateMap (of_table 1) t false) (GrownBy g) e → Knows 0 (HasMaps idle None []) e
+      → HoldsAtDoor d 0 (CreateMap (of_table 1) t false) (GrownBy g) e → Knows 0 (HasMaps idle None []) e
   first_made k g made here h =
       created 0 Fresh (HasMaps idle None []) d e k (of_table 1) t false g 0 asks_first made here
       (λ l id has. first_in None None [] l has 0 Idle) h
@@ -55,7 +56,7 @@ module _ (d e : Seen) (t : TagLimits) (could : IsTrue (could_bounce t 0x1010)) w
   may_make_second k = allows 0 (HasMaps idle None []) d k (CreateMap (of_table 2) t true) asks_second
 
   pub second_made : Knows 0 (HasMaps idle None []) d → (g : Grown) → g.made ≡ true → g.zone.0 ≡ 0
-      → Holds d 0 (CreateMap (of_table 2) t true) (GrownBy g) e → Knows 0 (HasMaps idle idle []) e
+      → HoldsAtDoor d 0 (CreateMap (of_table 2) t true) (GrownBy g) e → Knows 0 (HasMaps idle idle []) e
   second_made k g made here h =
       created 0 (HasMaps idle None []) (HasMaps idle idle []) d e k (of_table 2) t true g 0 asks_second made here
       (λ l id has. second_in idle None [] l has 0 Idle) h
@@ -71,31 +72,34 @@ module _ (d e : Seen) (one two : Option OwnMap) where
   may_load_first k = allows 0 (HasMaps idle two []) d k (Grab (of_table 1) zone 2 false) asks_one
 
   pub first_loaded : Knows 0 (HasMaps idle two []) d → (pages : List ℕ)
-      → Holds d 0 (Grab (of_table 1) zone 2 false) (Granted (as_pages pages)) e
-      → Knows 0 (HasMaps (in_zone 0 (Loaded pages)) two []) e
+      → HoldsAtDoor d 0 (Grab (of_table 1) zone 2 false) (Granted (as_pages pages)) e
+      → Knows 0 (HasMaps (is_known_in_zone 0 (Loaded pages)) two []) e
   first_loaded k pages h =
-      granted 0 (HasMaps idle two []) (HasMaps (in_zone 0 (Loaded pages)) two []) d e k (of_table 1) zone 2 false
+      granted 0 (HasMaps idle two []) (HasMaps (is_known_in_zone 0 (Loaded pages)) two []) d e k (of_table 1) zone 2
+      false
       pages asks_one (λ l id has. first_in idle two [] l has 0 (Loaded pages)) h
 
   pub may_load_second : (nowait : Bool) → Knows 0 (HasMaps one idle []) d → Allows d 0
       (Grab (of_table 2) zone 2 nowait)
   may_load_second nowait k = allows 0 (HasMaps one idle []) d k (Grab (of_table 2) zone 2 nowait) (asks_two nowait)
 
-  pub second_refused : Knows 0 (HasMaps one idle []) d → Holds d 0 (Grab (of_table 2) zone 2 true) NoPages e
+  pub second_refused : Knows 0 (HasMaps one idle []) d → HoldsAtDoor d 0 (Grab (of_table 2) zone 2 true) NoPages e
       → Knows 0 (HasMaps one idle []) e
   second_refused k h = refused 0 (HasMaps one idle []) d e k (of_table 2) zone 2 true (asks_two true) h
 
   pub second_waits : Knows 0 (HasMaps one idle []) d → (have : ℕ)
-      → Holds d 0 (Grab (of_table 2) zone 2 false) (Queued have) e → Knows 0 (HasMaps one (in_zone 0 (Waiting 2)) []) e
+      → HoldsAtDoor d 0 (Grab (of_table 2) zone 2 false) (Queued have) e →
+      Knows 0 (HasMaps one (is_known_in_zone 0 (Waiting 2)) []) e
   second_waits k have h =
-      queued 0 (HasMaps one idle []) (HasMaps one (in_zone 0 (Waiting 2)) []) d e k (of_table 2) zone 2 have false
+      queued 0 (HasMaps one idle []) (HasMaps one (is_known_in_zone 0 (Waiting 2)) []) d e k (of_table 2) zone 2 have
+      false
       (asks_two false) (λ l id has. second_in one idle [] l has 0 (Waiting 2)) h
 
-  pub unload_first : (p q : ℕ) → Knows 0 (HasMaps (in_zone 0 (Loaded (p ∷ q ∷ []))) two []) d
-      → Knows 0 (HasMaps (in_zone 0 Returning) two (back p ∷ back q ∷ [])) d
+  pub unload_first : (p q : ℕ) → Knows 0 (HasMaps (is_known_in_zone 0 (Loaded (p ∷ q ∷ []))) two []) d
+      → Knows 0 (HasMaps (is_known_in_zone 0 Returning) two (back p ∷ back q ∷ [])) d
   unload_first p q k =
-      unloads 0 (HasMaps (in_zone 0 (Loaded (p ∷ q ∷ []))) two []) d k
-      (HasMaps (in_zone 0 Returning) two (back p ∷ back q ∷ [])) 1 0 (p ∷ q ∷ []) (λ l id has. has.one)
+      unloads 0 (HasMaps (is_known_in_zone 0 (Loaded (p ∷ q ∷ []))) two []) d k
+      (HasMaps (is_known_in_zone 0 Returning) two (back p ∷ back q ∷ [])) 1 0 (p ∷ q ∷ []) (λ l id has. has.one)
       (λ l id has. first_unloaded p q two l has)
 
   asks_back : (p : ℕ) (rs : List Return)
@@ -107,21 +111,23 @@ module _ (d e : Seen) (one two : Option OwnMap) where
   may_give_back p rs k =
       allows 0 (HasMaps one two (back p ∷ rs)) d k (Release (of_table 1) zone (record { 0 = p })) (asks_back p rs)
 
-  pub second_called : Knows 0 (HasMaps one (in_zone 0 (Waiting 2)) []) d → (m : MapId) (pages : List ℕ) → m ≡ of_table
+  pub second_called : Knows 0 (HasMaps one (is_known_in_zone 0 (Waiting 2)) []) d → (m : MapId) (pages : List ℕ) → m
+      ≡ of_table
       2
-      → Holds d 0 TakeCallback (Called m (as_pages pages)) e
-      → Knows 0 (HasMaps one (in_zone 0 (Loaded pages)) []) e
+      → HoldsAtDoor d 0 TakeCallback (Called m (as_pages pages)) e
+      → Knows 0 (HasMaps one (is_known_in_zone 0 (Loaded pages)) []) e
   second_called k m pages is h =
-      called 0 (HasMaps one (in_zone 0 (Waiting 2)) []) (HasMaps one (in_zone 0 (Loaded pages)) []) d e k
+      called 0 (HasMaps one (is_known_in_zone 0 (Waiting 2)) []) (HasMaps one (is_known_in_zone 0 (Loaded pages)) []) d
+      e k
       (of_table 2) pages
-      (λ l id has. subst (λ z. HasMaps one (in_zone 0 (Loaded pages)) [] (staged l 2 z (Loaded pages)))
-      (sym (ap zone_in has.two)) (second_in one (in_zone 0 (Waiting 2)) [] l has 0 (Loaded pages)))
-      (subst (λ n. Holds d 0 TakeCallback (Called n (as_pages pages)) e) is h)
+      (λ l id has. subst (λ z. HasMaps one (is_known_in_zone 0 (Loaded pages)) [] (view_staged l 2 z (Loaded pages)))
+      (sym (ap zone_in has.two)) (second_in one (is_known_in_zone 0 (Waiting 2)) [] l has 0 (Loaded pages)))
+      (subst (λ n. HoldsAtDoor d 0 TakeCallback (Called n (as_pages pages)) e) is h)
 
   pub may_end_first : Knows 0 (HasMaps idle two []) d → Allows d 0 (DestroyMap (of_table 1) zone)
   may_end_first k = allows 0 (HasMaps idle two []) d k (DestroyMap (of_table 1) zone) (λ l id has. (sym id, has.one))
 
-  pub first_ended : Knows 0 (HasMaps idle two []) d → Holds d 0 (DestroyMap (of_table 1) zone) Nothing e
+  pub first_ended : Knows 0 (HasMaps idle two []) d → HoldsAtDoor d 0 (DestroyMap (of_table 1) zone) Nothing e
       → Knows 0 (HasMaps None two []) e
   first_ended k h =
       destroyed 0 (HasMaps idle two []) (HasMaps None two []) d e k (of_table 1) zone (λ l id has. (sym id, has.one))
@@ -132,20 +138,24 @@ module _ (d e : Seen) (one two : Option OwnMap) where
 
 -- the second page goes back, and then the first map is idle
 module _ (d e : Seen) (two : Option OwnMap) (p q moved : ℕ) where
-  pub first_back : Knows 0 (HasMaps (in_zone 0 Returning) two (back p ∷ back q ∷ [])) d
-      → Holds d 0 (Release (of_table 1) zone (record { 0 = p })) (Served moved) e
-      → Knows 0 (HasMaps (in_zone 0 Returning) two (back q ∷ [])) e
+  pub first_back : Knows 0 (HasMaps (is_known_in_zone 0 Returning) two (back p ∷ back q ∷ [])) d
+      → HoldsAtDoor d 0 (Release (of_table 1) zone (record { 0 = p })) (Served moved) e
+      → Knows 0 (HasMaps (is_known_in_zone 0 Returning) two (back q ∷ [])) e
   first_back k h =
-      released 0 (HasMaps (in_zone 0 Returning) two (back p ∷ back q ∷ []))
-      (HasMaps (in_zone 0 Returning) two (back q ∷ [])) d e k (of_table 1) zone (record { 0 = p }) moved (back p)
-      (back q ∷ []) (asks_back d e (in_zone 0 Returning) two p (back q ∷ [])) (λ l id has. has.returns)
+      released 0 (HasMaps (is_known_in_zone 0 Returning) two (back p ∷ back q ∷ []))
+      (HasMaps (is_known_in_zone 0 Returning) two (back q ∷ [])) d e k (of_table 1) zone (record { 0 = p }) moved
+      (back p)
+      (back q ∷ []) (asks_back d e (is_known_in_zone 0 Returning) two p (back q ∷ [])) (λ l id has. has.returns)
       (λ l id has. one_back p q two l has) h
 
-  pub second_back : Knows 0 (HasMaps (in_zone 0 Returning) two (back q ∷ [])) d
-      → Holds d 0 (Release (of_table 1) zone (record { 0 = q })) (Served moved) e → Knows 0 (HasMaps idle two []) e
+  pub second_back : Knows 0 (HasMaps (is_known_in_zone 0 Returning) two (back q ∷ [])) d
+      → HoldsAtDoor d 0 (Release (of_table 1) zone (record { 0 = q })) (Served moved) e →
+      Knows 0 (HasMaps idle two []) e
   second_back k h =
-      released 0 (HasMaps (in_zone 0 Returning) two (back q ∷ [])) (HasMaps idle two []) d e k (of_table 1) zone
-      (record { 0 = q }) moved (back q) [] (asks_back d e (in_zone 0 Returning) two q []) (λ l id has. has.returns)
+      released 0 (HasMaps (is_known_in_zone 0 Returning) two (back q ∷ [])) (HasMaps idle two []) d e k (of_table 1)
+      zone
+      (record { 0 = q }) moved (back q) [] (asks_back d e (is_known_in_zone 0 Returning) two q [])
+      (λ l id has. has.returns)
       (λ l id has. both_back q two l has) h
 
 -- no memory of the operation of number 4
@@ -159,7 +169,7 @@ no_fourth l (Some pages) id none = (id, record { four = none })
 
 -- whatever became of that of number 3, that of number 4 may be asked for
 pub may_make_next : (d e : Seen) (one two : Option OwnMap) (t u : TagLimits) → Knows 0 (HasMaps one two []) d
-    → (r : Option RoomyPages) → Holds d 0 (MemAlloc (of_table 3) t) (memory_reply r) e
+    → (r : Option RoomyPages) → HoldsAtDoor d 0 (MemAlloc (of_table 3) t) (memory_reply r) e
     → Allows e 0 (MemAlloc (of_table 4) u)
 may_make_next d e one two t u k r h =
     allows 0 HasNoFourth e (held 0 (HasMaps one two []) d k HasNoFourth e (MemAlloc (of_table 3) t) (memory_reply r)

@@ -3,7 +3,7 @@ use Rattle.std.specs.Prelude.{◌≡◌, ℕ, List, [], Option, Some, None, IsTr
 use Rattle.busdma_machine.specs.Bounce.Door.{Seen, account}
 use Rattle.busdma_machine.specs.Bounce.History.{IsSound}
 use Rattle.lane_agreement.specs.Agreement.{Agrees}
-use Rattle.lane_agreement.specs.View.{View, OwnMap, Return, Stage, Idle}
+use Rattle.lane_agreement.specs.View.{View, OwnMap, Return, SeenStage, Idle}
 
 -- the door serves the lane, its history is sound, and its account agrees with a view of the lane of which this holds
 pub record Knows (lane : ℕ) (Has : View → Type 0) (d : Seen) : Type 0 where
@@ -15,8 +15,8 @@ pub record Knows (lane : ℕ) (Has : View → Type 0) (d : Seen) : Type 0 where
   pub agrees : Agrees view (account d)
 
 -- a map of this zone in this stage
-abbrev pub in_zone : ℕ → Stage → Option OwnMap
-in_zone zone stage = Some (record { zone = zone; stage = stage })
+abbrev pub is_known_in_zone : ℕ → SeenStage → Option OwnMap
+is_known_in_zone zone stage = Some (record { zone = zone; stage = stage })
 
 -- a view has these maps of the operations 1 and 2, no memory of the operations 3 and 4, and these pages to give back
 pub record HasMaps (first second : Option OwnMap) (back : List Return) (l : View) : Type 0 where
@@ -35,5 +35,5 @@ pub record HasNone (l : View) : Type 0 where
 
 -- a view has a map of zone 0 that no load uses, and no page to give back
 pub record HasIdle (made_at : ℕ) (l : View) : Type 0 where
-  pub map : l.map_at made_at ≡ in_zone 0 Idle
+  pub map : l.map_at made_at ≡ is_known_in_zone 0 Idle
   pub returns : l.returns ≡ []

@@ -23,15 +23,15 @@ use Rattle.ideal_lane.specs.Standing.{KeepsStanding, Stands}
 use Rattle.ideal_lane.specs.State.{LaneState}
 use Rattle.ideal_lane.specs.Turns.{Turned, lane_step}
 use Rattle.ideal_lane.specs.View.{view_of}
-use Rattle.ideal_lane.proofs.Standings.{turn-stands}
-use Rattle.ideal_lane.proofs.Turning.{turn-kept}
+use Rattle.ideal_lane.proofs.StandingLaws.{turn-stands}
+use Rattle.ideal_lane.proofs.TurnLaws.{turn-kept}
 use Rattle.ideal_wire.specs.Laid.{AreLaid, KeepsLaid}
 use Rattle.ideal_wire.specs.Machine.{IsInMachine}
 use Rattle.ideal_wire.specs.NewRuns.{BringsNew}
-use Rattle.ideal_wire.proofs.LaidTurns.{turn-laid}
-use Rattle.ideal_wire.proofs.NewFrames.{given-new}
+use Rattle.ideal_wire.proofs.Laid.LaidTurns.{turn-laid}
+use Rattle.ideal_wire.proofs.Apart.NewFrames.{given-new}
 use Rattle.lane_state.specs.Served.{IsServed}
-use Rattle.lane_turns.specs.Turning.{IsTurned}
+use Rattle.lane_turns.specs.TakenTurns.{IsTurned}
 
 -- ---- the account after entries, and if no callback was found
 

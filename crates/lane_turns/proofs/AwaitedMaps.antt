@@ -8,7 +8,7 @@ use Rattle.dma_map.specs.MapView as held
 use Rattle.busdma_base.specs.Scenarios.Queues.{queue_names}
 use Rattle.ideal_lane.specs.State.{LaneState, LaneMap}
 use Rattle.ideal_lane.specs.Turns.{waits, waits_in}
-use Rattle.lane_state.specs.Kept.{stage_of}
+use Rattle.lane_state.specs.Kept.{kept_stage}
 
 module _ (l : LaneState) (m : ℕ) where
   -- the map is not there
@@ -21,16 +21,16 @@ module _ (l : LaneState) (m : ℕ) where
   awaits-some o there = rw there refl
 
 -- whether a load waits is what the state of its map says
-pub state-waits : (s : held.Stage KeptLoad) → held.state_of s ≡ state.Waiting →
-    waits_in (stage_of s) ≡ true
+pub state-waits : (s : held.HeldStage KeptLoad) → held.state_of s ≡ state.Waiting →
+    waits_in (kept_stage s) ≡ true
 state-waits held.idle h = absurd (cc)
 state-waits (held.waiting load_at callback room) h = refl
 state-waits (held.loaded bounced segments pages) h = absurd (cc)
 state-waits (held.lent bounced segments frames) h = absurd (cc)
 state-waits held.returning h = absurd (cc)
 
-pub state-goes : (s : held.Stage KeptLoad) → ¬ (held.state_of s ≡ state.Waiting) →
-    waits_in (stage_of s) ≡ false
+pub state-goes : (s : held.HeldStage KeptLoad) → ¬ (held.state_of s ≡ state.Waiting) →
+    waits_in (kept_stage s) ≡ false
 state-goes held.idle h = refl
 state-goes (held.waiting load_at callback room) h = absurd (h refl)
 state-goes (held.loaded bounced segments pages) h = refl

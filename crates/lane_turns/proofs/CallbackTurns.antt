@@ -10,9 +10,9 @@ use Rattle.busdma_base.specs.declared.journals.journal.Did.TheVariants as did
 use Rattle.busdma_base.specs.declared.journals.journal.Side.TheVariants as side
 use Rattle.busdma_machine.specs.declared.name.MapId.{MapId}
 use Rattle.busdma_machine.specs.Bounce.AccountStep.{as_pages}
-use Rattle.busdma_machine.specs.Bounce.Door.{Seen, Holds}
+use Rattle.busdma_machine.specs.Bounce.Door.{Seen, HoldsAtDoor}
 use Rattle.ideal_lane.specs.Turns.{called, stepped}
-use Rattle.ideal_wire.proofs.Accepting.{same-pages}
+use Rattle.ideal_wire.proofs.Obeys.AcceptedLaws.{same-pages}
 use Rattle.lane_state.specs.declared.holdings.Holdings.{Holdings}
 use Rattle.lane_turns.specs.declared.turn.Turn.{Turn}
 use Rattle.lane_turns.specs.declared.turn.Turn.TheVariants as turn
@@ -20,7 +20,7 @@ use Rattle.lane_state.specs.Changes.{KeepsBytesBut, KeepsWhatStays, Stays}
 use Rattle.lane_state.specs.Held.{devices_of}
 use Rattle.lane_state.specs.Ideal.{given, ideal_of}
 use Rattle.lane_state.specs.Kept.{device_of, device_in}
-use Rattle.lane_turns.specs.Turning.{IsTurnOf}
+use Rattle.lane_turns.specs.TakenTurns.{IsTurnOf}
 use Rattle.lane_state.proofs.Called.{WaitsFor, kept-load}
 
 module _ (h k : Holdings) (m count : ℕ) (waits : WaitsFor h m count) (bytes : KeepsBytesBut m h k) where
@@ -40,7 +40,7 @@ module _ (h k : Holdings) (m count : ℕ) (waits : WaitsFor h m count) (bytes : 
 
 -- a callback was there, and its load has ended
 pub called-made : (h k : Holdings) (d e : Seen) (m : MapId) (pas : List ℕ) (count : ℕ) (a : Answer) →
-    Holds d h.id.0 TakeCallback (reply.Called m (as_pages pas)) e → WaitsFor h m.made_at count →
+    HoldsAtDoor d h.id.0 TakeCallback (reply.Called m (as_pages pas)) e → WaitsFor h m.made_at count →
     given k a ≡ called m.made_at (get (ideal_of h).maps m.made_at) pas (ideal_of h) → KeepsBytesBut m.made_at h k →
     k.memories ≡ h.memories → k.agenda.length ≡ h.agenda.length →
     k.agenda.room + length k.agenda.queue ≡ h.agenda.room + length h.agenda.queue → (t : Turn) →

@@ -7,7 +7,7 @@ use Rattle.ideal_wire.specs.Machine.{IsInMachine}
 use Rattle.ideal_wire.specs.Mapped.{AreMapped}
 use Rattle.ideal_wire.specs.Spaced.{AreSpaced}
 use Rattle.ideal_wire.specs.WireStep.{Follows}
-use Rattle.ideal_wire.proofs.Carried.{are-bused, carried, same-carries}
+use Rattle.ideal_wire.proofs.Faithful.Carried.{are-bused, carried, same-carries}
 use Rattle.lane_state.specs.declared.holdings.Holdings.{Holdings}
 use Rattle.lane_state.specs.Changes.{KeepsState}
 use Rattle.lane_state.specs.Ideal.{ideal_of}

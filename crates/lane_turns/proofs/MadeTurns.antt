@@ -15,42 +15,47 @@ use Rattle.lane_state.specs.Changes.{IsWireOf, Becomes, Copies, Stays, WithMemor
 use Rattle.lane_state.specs.Doing.{IsUndone}
 use Rattle.lane_state.specs.Ideal.{ideal_of}
 use Rattle.lane_state.specs.Served.{IsServed}
-use Rattle.lane_turns.specs.Turning.{IsTurnOf, IsReady, is_held, turned}
+use Rattle.lane_turns.specs.TakenTurns.{IsTurnOf, IsReady, is_held, turn_taken}
 use Rattle.lane_state.specs.Wire.{wire_of}
 use Rattle.lane_turns.proofs.KeepsWired.{kept-wired}
-use Rattle.lane_turns.proofs.TurnEnds.{end-beside, end-bounded, end-copies, end-follows, end-known, end-served, end-stands}
+use Rattle.lane_turns.proofs.TurnEnds.{end-beside, end-bounded, end-copies, end-follows, end-known, end-served}
+use Rattle.lane_turns.proofs.TurnEnds.{end-stands}
 use Rattle.lane_turns.proofs.TurnEnds.{end-wired}
 
 module _ (h k : Holdings) (d e : Seen) (s : Side) (t : Turn) (ready : IsReady h d) (made : IsTurnOf h k d e s t) where
-  pub end-wire : IsWireOf h k (wires.lane_step (ideal_of h) s (wire_of h)) →
-      Follows (ideal_of h) (ideal_of k) (wires.lane_step (ideal_of h) s (wire_of h)) (wire_of k)
+  pub end-wire : IsWireOf h k (wires.wire_lane_step (ideal_of h) s (wire_of h)) →
+      Follows (ideal_of h) (ideal_of k) (wires.wire_lane_step (ideal_of h) s (wire_of h)) (wire_of k)
   end-wire (Becomes memories is) = record {
     own = λ a before after. ap (λ w. w a) is;
     pages = λ m a before after. ap (λ w. w a) is;
-    known = end-known h k s d e ready.stands ready.wired ready.served (turned k t) (is_held t) made.done refl memories
+    known = end-known h k s d e ready.stands ready.wired ready.served (turn_taken k t) (is_held t) made.done refl
+        memories
         (wire_of k);
   }
   end-wire (Stays memories plain keeps) =
-      end-follows h k s d e ready.stands ready.wired ready.served (turned k t) (is_held t) made.done refl memories keeps
-      (wires.lane_step (ideal_of h) s (wire_of h)) plain
+      end-follows h k s d e ready.stands ready.wired ready.served (turn_taken k t) (is_held t) made.done refl memories
+      keeps
+      (wires.wire_lane_step (ideal_of h) s (wire_of h)) plain
   end-wire (Copies from to memories plain keeps) =
-      end-copies h k s d e ready.stands ready.wired ready.served (turned k t) (is_held t) made.done refl memories from to
-      keeps (wires.lane_step (ideal_of h) s (wire_of h)) plain
+      end-copies h k s d e ready.stands ready.wired ready.served (turn_taken k t) (is_held t) made.done refl memories
+      from to
+      keeps (wires.wire_lane_step (ideal_of h) s (wire_of h)) plain
   end-wire (WithMemory plain keeps) =
-      end-beside h k s d e ready.stands ready.wired ready.served (turned k t) (is_held t) made.done refl keeps
-      (wires.lane_step (ideal_of h) s (wire_of h)) plain
+      end-beside h k s d e ready.stands ready.wired ready.served (turn_taken k t) (is_held t) made.done refl keeps
+      (wires.wire_lane_step (ideal_of h) s (wire_of h)) plain
 
   pub made-ready : IsReady k e
   made-ready =
-      let few = end-bounded h k s d e ready.stands ready.wired ready.served (turned k t) (is_held t) made.done refl in
+      let few = end-bounded h k s d e ready.stands ready.wired ready.served (turn_taken k t) (is_held t) made.done
+      refl in
       let before = ready.room in
       let capacity = made.capacity in
       record {
-        stands = end-stands h k s d e ready.stands ready.wired ready.served (turned k t) (is_held t) made.done refl;
-        wired = end-wired h k s d e ready.stands ready.wired ready.served (turned k t) (is_held t) made.done refl
+        stands = end-stands h k s d e ready.stands ready.wired ready.served (turn_taken k t) (is_held t) made.done refl;
+        wired = end-wired h k s d e ready.stands ready.wired ready.served (turn_taken k t) (is_held t) made.done refl
             (end-wire made.wire);
         room = omega (arith, few, before, capacity);
-        served = end-served h k s d e ready.stands ready.wired ready.served (turned k t) (is_held t) made.done refl;
+        served = end-served h k s d e ready.stands ready.wired ready.served (turn_taken k t) (is_held t) made.done refl;
       }
 
 module _ (h k : Holdings) (d e : Seen) (ready : IsReady h d) (same : KeepsState h k)

@@ -40,7 +40,7 @@ use Rattle.lane_state.specs.Changes.{KeepsPromises, KeepsState}
 use Rattle.lane_state.specs.Covered.{pages_due}
 use Rattle.lane_state.specs.Doing.{IsDone}
 use Rattle.lane_state.specs.Ideal.{given, ideal_of}
-use Rattle.lane_state.specs.Kept.{due_in, due_of, map_of, stage_of}
+use Rattle.lane_state.specs.Kept.{due_in, due_of, map_of, kept_stage}
 use Rattle.lane_state.specs.MapValues.{entry_values, map_values}
 use Rattle.lane_state.proofs.MapValues.{entries-map_values}
 
@@ -56,7 +56,7 @@ stage_due Returning = 0
 abbrev map_due : LaneMap → ℕ
 map_due o = stage_due o.stage
 
-stage-due : (s : held.Stage KeptLoad) → due_in s ≡ stage_due (stage_of s)
+stage-due : (s : held.HeldStage KeptLoad) → due_in s ≡ stage_due (kept_stage s)
 stage-due held.idle = refl
 stage-due (held.waiting load_at callback room) = refl
 stage-due (held.loaded bounced segments pages) = sym (length-map pages.items page_address)
@@ -214,7 +214,8 @@ item-maps h k i a done =
     touched-maps (subst (Only (ideal_of h) (Transfer i)) (sym done) (transfer-touches (ideal_of h) i))
 
 -- as many pages are due if memory ran out
-pub either-promise : {E : Type 0} (h k : Holdings) → Stands (ideal_of h) → (o : Op) (d e : Seen) (r : Result Answered E) →
+pub either-promise : {E : Type 0} (h k : Holdings) → Stands (ideal_of h) →
+    (o : Op) (d e : Seen) (r : Result Answered E) →
     IfOk r (λ x. IsDone d h.id.0 (operation o (ideal_of h)) (given k x.answer) e) → OnErr r (KeepsState h k) →
     IsStillOp o → k.agenda ≡ h.agenda → KeepsPromises h k
 either-promise h k stands o d e (Ok x) done err still same =

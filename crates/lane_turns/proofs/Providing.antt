@@ -15,7 +15,7 @@ use Rattle.lane_turns.specs.declared.turn.Turn.{Turn}
 use Rattle.lane_state.specs.Changes.{Becomes, KeepsState}
 use Rattle.lane_state.specs.Doing.{IsUndone}
 use Rattle.lane_state.specs.Ideal.{ideal_of}
-use Rattle.lane_turns.specs.Turning.{IsTurnOf, IsReady, IsTurned, is_held, turned}
+use Rattle.lane_turns.specs.TakenTurns.{IsTurnOf, IsReady, IsTurned, is_held, turn_taken}
 use Rattle.lane_state.specs.Wire.{IsWired, wire_of}
 use Rattle.lane_state.proofs.Following.{follows, stays-all}
 use Rattle.lane_turns.proofs.MadeTurns.{end-wire, made-ready, wanting-ready}
@@ -25,7 +25,7 @@ use Rattle.lane_turns.proofs.TurnEnds.{end-own}
 pub made-script : (h k : Holdings) (d e : Seen) (s : Side) (t : Turn) → IsReady h d → IsTurnOf h k d e s t →
     k.script ≡ h.script
 made-script h k d e s t ready made =
-    let own = end-own h k s d e ready.stands ready.wired ready.served (turned k t) (is_held t) made.done refl in
+    let own = end-own h k s d e ready.stands ready.wired ready.served (turn_taken k t) (is_held t) made.done refl in
     own.same_script
 
 -- what follows from the same driver at the same door
@@ -37,13 +37,13 @@ module _ {E : Type 0} (h k n : Holdings) (d e f : Seen) (s : Side) (same : k ≡
 
 -- the turn of the device, which makes no call
 pub transfer-made : (h k : Holdings) (d : Seen) (t : Turn) →
-    Gives (turned k t) ≡ lane_step (ideal_of h) side.Transfer → is_held t ≡ false →
-    wire_of k ≡ wires.lane_step (ideal_of h) side.Transfer (wire_of h) → k.memories ≡ h.memories →
+    Gives (turn_taken k t) ≡ lane_step (ideal_of h) side.Transfer → is_held t ≡ false →
+    wire_of k ≡ wires.wire_lane_step (ideal_of h) side.Transfer (wire_of h) → k.memories ≡ h.memories →
     k.agenda.length ≡ h.agenda.length →
     k.agenda.room + length k.agenda.queue ≡ h.agenda.room + length h.agenda.queue →
     IsTurnOf h k d d side.Transfer t
 transfer-made h k d t done unheld wire memories places capacity = record {
-  done = subst (λ step. IsTurned d h.id.0 step (turned k t) (is_held t) d) done (refl, unheld, refl);
+  done = subst (λ step. IsTurned d h.id.0 step (turn_taken k t) (is_held t) d) done (refl, unheld, refl);
   wire = Becomes memories wire;
   places = places;
   capacity = capacity;
@@ -51,8 +51,8 @@ transfer-made h k d t done unheld wire memories places capacity = record {
 
 -- the turn of the device, if it was made
 pub transfer-all : {E : Type 0} (h k : Holdings) (d : Seen) (r : Result Turn E) →
-    IfOk r (λ t. Gives (turned k t) ≡ lane_step (ideal_of h) side.Transfer) → IfOk r (λ t. is_held t ≡ false) →
-    OnOk r (wire_of k ≡ wires.lane_step (ideal_of h) side.Transfer (wire_of h)) → k.memories ≡ h.memories →
+    IfOk r (λ t. Gives (turn_taken k t) ≡ lane_step (ideal_of h) side.Transfer) → IfOk r (λ t. is_held t ≡ false) →
+    OnOk r (wire_of k ≡ wires.wire_lane_step (ideal_of h) side.Transfer (wire_of h)) → k.memories ≡ h.memories →
     k.agenda.length ≡ h.agenda.length →
     k.agenda.room + length k.agenda.queue ≡ h.agenda.room + length h.agenda.queue →
     IfOk r (IsTurnOf h k d d side.Transfer)
@@ -90,7 +90,7 @@ module _ {E : Type 0} (h k : Holdings) (d e : Seen) (s : Side) (ready : IsReady 
 
   -- the driver's wire is the step's, except for pages that came and went
   pub follows-after : (r : Result Turn E) → IfOk r (IsTurnOf h k d e s) →
-      OnOk r (Follows (ideal_of h) (ideal_of k) (wires.lane_step (ideal_of h) s (wire_of h)) (wire_of k))
+      OnOk r (Follows (ideal_of h) (ideal_of k) (wires.wire_lane_step (ideal_of h) s (wire_of h)) (wire_of k))
   follows-after (Ok t) made = end-wire h k d e s t ready made made.wire
   follows-after (Err x) made = tt
 

@@ -11,7 +11,8 @@ use Rattle.busdma_machine.specs.declared.machine.bio.Bio.TheVariants.{Vector}
 use Rattle.busdma_machine.specs.declared.report.Judged.{Judged}
 use Rattle.busdma_machine.specs.declared.report.Judged.TheVariants.{Fine, Refused}
 use Rattle.busdma_machine.specs.declared.report.ReportName.{ReportName}
-use Rattle.busdma_machine.specs.declared.report.ReportName.TheVariants.{DeviceReadUnlent, DeviceWriteUnlent, Untranslated}
+use Rattle.busdma_machine.specs.declared.report.ReportName.TheVariants.{DeviceReadUnlent, DeviceWriteUnlent}
+use Rattle.busdma_machine.specs.declared.report.ReportName.TheVariants.{Untranslated}
 use Rattle.busdma_machine.specs.Judging.{judged}
 use Rattle.busdma_machine.specs.Runs.{run_of}
 use Rattle.busdma_base.specs.declared.scenarios.script.Item.{Item}
@@ -24,7 +25,7 @@ use Rattle.lane_tables.specs.Schedule.{Schedule}
 use Rattle.busdma_rules.specs.Iommu.Space.{translated}
 use Rattle.busdma_rules.specs.declared.position.Position.{Position}
 use Rattle.busdma_rules.specs.Lending.Access.{dev_read_answer, dev_read_refusal, dev_write_answer, dev_write_refusal}
-use Rattle.busdma_rules.specs.Lending.Syncing.{sync_answer}
+use Rattle.busdma_rules.specs.Lending.SyncEffects.{sync_answer}
 use Rattle.busdma_rules.specs.Lending.Loans.{load_bytes, loan_of}
 use Rattle.busdma_rules.specs.declared.descriptor.Descriptor.{Descriptor}
 use Rattle.busdma_rules.specs.Rings.Ranges.{place_of}
@@ -33,18 +34,20 @@ use Rattle.std.specs.Prelude.{nat_le, replicate}
 use Rattle.ideal_lane.specs.Accesses.{place_in, position_in, raw_refusal, unless_unlent, values}
 use Rattle.ideal_lane.specs.Asking.{Asking, Gives, goes_on}
 use Rattle.ideal_lane.specs.IdealMemory.{is_known}
-use Rattle.ideal_lane.specs.Outcomes.{Outcome, gives, is_loaded, load_length, unless_absent, unless_past, unless_refused}
+use Rattle.ideal_lane.specs.Outcomes.{Outcome, gives, is_loaded, load_length, unless_absent, unless_past}
+use Rattle.ideal_lane.specs.Outcomes.{unless_refused}
 use Rattle.ideal_lane.specs.Outcomes.{unless_unloaded}
 use Rattle.ideal_lane.specs.Rings as rings
-use Rattle.ideal_lane.specs.Rings.{Candidate, allowed, at_first, before_others, candidates, candidates_in, fetch, head_at}
+use Rattle.ideal_lane.specs.Rings.{Candidate, allowed, at_first, before_others, candidates, candidates_in, fetch}
+use Rattle.ideal_lane.specs.Rings.{head_at}
 use Rattle.ideal_lane.specs.Rings.{head_of, is_left_out, is_work, moved_on, retired, stored, used_candidate}
 use Rattle.ideal_lane.specs.Standing.{Stands}
 use Rattle.ideal_lane.specs.State.{LaneMap, LaneRing, LaneState}
 use Rattle.ideal_lane.specs.Syncs.{sync_part}
 use Rattle.ideal_lane.specs.Turns.{lane_step, left_queue, transfer, transfer_turn}
 use Rattle.ideal_lane.specs.Unloads.{segments_in}
-use Rattle.ideal_wire.proofs.SameBytes.{judged-same}
-use Rattle.ideal_wire.proofs.StillLaid.{like}
+use Rattle.ideal_wire.proofs.Laid.SameBytes.{judged-same}
+use Rattle.ideal_wire.proofs.Laid.StillLaid.{like}
 use Rattle.ideal_wire.specs.Apart.{IsApart}
 use Rattle.ideal_wire.specs.Centre.{IsFaithful}
 use Rattle.ideal_wire.specs.Laid.{AreLaid}
@@ -60,9 +63,10 @@ use Rattle.lane_turns.specs.declared.turn.Turn.TheVariants.{Stepped}
 use Rattle.lane_state.specs.Changes.{KeepsAgenda, KeepsBytes, KeepsButAgenda, KeepsState}
 use Rattle.lane_state.specs.Held.{devices_of, held}
 use Rattle.lane_state.specs.Ideal.{given, ideal_of}
-use Rattle.lane_state.specs.Kept.{map_of, memory_of, return_of, ring_of, share_of, spaces_of, tag_of}
+use Rattle.lane_state.specs.Kept.{map_of, memory_of, return_of}
+use Rattle.lane_state.specs.Kept.{kept_ring, kept_share, spaces_of, tag_of}
 use Rattle.lane_state.specs.MapValues.{map_values}
-use Rattle.lane_turns.specs.Turning.{turned}
+use Rattle.lane_turns.specs.TakenTurns.{turn_taken}
 use Rattle.lane_state.specs.Wire.{IsWired, held_pages, wire_of}
 
 -- ---- an item, beside another queue
@@ -126,13 +130,15 @@ module _ (l : LaneState) (q : QueuedItem) (rest : List QueuedItem) where
   by-range : (m off len : ℕ) (x y : Asking Outcome) → IsAlike x y →
       IsAlike (unless_past m off len beside x) (unless_past m off len l y)
   by-range m off len x y alike =
-      by-test (nat_le (off + len) (load_length l m)) _ _ _ _ alike (record { step = refl; wire = λ after w. refl; fetched = λ after w. refl })
+      by-test (nat_le (off + len) (load_length l m)) _ _ _ _ alike
+      (record { step = refl; wire = λ after w. refl; fetched = λ after w. refl })
 
   part-alike : (m : ℕ) (o : LaneMap) (off len ops : ℕ) →
       IsAlike (sync_part m o off len ops beside) (sync_part m o off len ops l)
   part-alike m o off len ops =
       by-test (is_mixed ops) _ _ _ _ (record { step = refl; wire = λ after w. refl; fetched = λ after w. refl })
-      (by-judged (sync_answer l.loans m off len ops) _ _ (record { step = refl; wire = λ after w. refl; fetched = λ after w. refl }))
+      (by-judged (sync_answer l.loans m off len ops) _ _
+      (record { step = refl; wire = λ after w. refl; fetched = λ after w. refl }))
 
   -- the candidates for a descriptor are the same with the driver's own queue
   candidates-beside : (d : Descriptor) (own : ℕ) (es : List (ℕ × LaneMap)) →
@@ -186,7 +192,8 @@ module _ (l : LaneState) (q : QueuedItem) (rest : List QueuedItem) where
       (by-judged (dev_write_answer (loan_of l.loans m) off (length (bytes_of bytes))) _ _
       (record { step = refl; wire = λ after w. refl; fetched = λ after w. refl })))
   item-alike (item.DevReadAt t addr len) =
-      by-found (get l.tags t) _ _ (λ o. by-raw DeviceReadUnlent (dev_read_refusal (is_known l.memory) false) t addr len _ _
+      by-found (get l.tags t) _ _ (λ o. by-raw DeviceReadUnlent (dev_read_refusal (is_known l.memory) false) t addr len
+      _ _
       (record { step = refl; wire = λ after w. refl; fetched = λ after w. refl }))
   item-alike (item.DevWriteAt t addr bytes) =
       by-found (get l.tags t) _ _ (λ o. by-raw DeviceWriteUnlent (dev_write_refusal false) t addr
@@ -201,7 +208,7 @@ module _ (l : LaneState) (q : QueuedItem) (rest : List QueuedItem) where
       goes_on (left_queue q rest) (transfer i beside) ≡ goes_on (left_queue q rest) (transfer i l)
   item-beside i = (item-alike i).step
 
-  pub wire-beside : (i : Item) (w : Wire) → wires.transfer i beside w ≡ wires.transfer i l w
+  pub wire-beside : (i : Item) (w : Wire) → wires.wire_transfer i beside w ≡ wires.wire_transfer i l w
   wire-beside (item.Sync m ops) w = (item-alike (item.Sync m ops)).wire _ w
   wire-beside (item.SyncRange m off len ops) w = (item-alike (item.SyncRange m off len ops)).wire _ w
   wire-beside (item.DevRead m off len) w = refl
@@ -229,13 +236,13 @@ module _ (h k : Holdings) (rest : KeepsButAgenda h k)
     tags = map_values tag_of (rest.tags i).map;
     maps = map_values map_of (rest.maps i).map;
     mems = map_values memory_of (rest.most.memories i).map;
-    rings = map_values ring_of (rest.most.rings i).map;
+    rings = map_values kept_ring (rest.most.rings i).map;
     memory = held (rest.most.loans i).bytes (rest.most.loans i).loans (devices_of (rest.maps i).map)
         (rest.most.memory i).memory;
     loans = (rest.most.loans i).loans;
     queue = k.agenda.queue;
     returns = map return_of (agenda i).returns;
-    shares = share_of (rest.most.shares i).items;
+    shares = kept_share (rest.most.shares i).items;
     spaces = spaces_of (rest.tags i).map;
   }
 
@@ -308,22 +315,22 @@ module _ (h k n : Holdings) (q : QueuedItem) (first : h.agenda.queue ≡ q ∷ k
         actor = record { lane = n.id; side = side.Transfer };
         did = did.Item q.load_at q.place;
         answer = a;
-      }) false → Gives (turned n t) ≡ lane_step (ideal_of h) side.Transfer
+      }) false → Gives (turn_taken n t) ≡ lane_step (ideal_of h) side.Transfer
   item-done a t done is =
-      ap (λ x. Gives (turned n x)) is
+      ap (λ x. Gives (turn_taken n x)) is
       ∙ ap (λ (g : Schedule). goes_on (left_queue q g.queue) (Gives (given n a))) stays
       ∙ ap (goes_on (left_queue q rest)) done
       ∙ ap (λ x. goes_on (left_queue q rest) (transfer q.item x)) queued
       ∙ item-beside l q rest q.item
       ∙ ap (λ qs. transfer_turn qs l) (sym first)
 
-  pub item-wire : wire_of n ≡ wires.transfer q.item (ideal_of k) (wire_of k) →
-      wire_of n ≡ wires.lane_step (ideal_of h) side.Transfer (wire_of h)
+  pub item-wire : wire_of n ≡ wires.wire_transfer q.item (ideal_of k) (wire_of k) →
+      wire_of n ≡ wires.wire_lane_step (ideal_of h) side.Transfer (wire_of h)
   item-wire done =
-      done ∙ ap (λ w. wires.transfer q.item (ideal_of k) w) (queue-wire h k left agenda)
-      ∙ ap (λ x. wires.transfer q.item x (wire_of h)) queued
+      done ∙ ap (λ w. wires.wire_transfer q.item (ideal_of k) w) (queue-wire h k left agenda)
+      ∙ ap (λ x. wires.wire_transfer q.item x (wire_of h)) queued
       ∙ wire-beside l q rest q.item (wire_of h)
-      ∙ ap (λ qs. wires.transfer_turn qs l (wire_of h)) (sym first)
+      ∙ ap (λ qs. wires.wire_transfer_turn qs l (wire_of h)) (sym first)
 
   -- memory ran out, and the item was put back
   pub item-back : (b : Holdings) → KeepsState k n → KeepsButAgenda n b →

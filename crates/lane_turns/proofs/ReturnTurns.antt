@@ -17,7 +17,7 @@ use Rattle.lane_state.specs.Changes.{KeepsBytes, Stays}
 use Rattle.lane_state.specs.Doing.{IsDone, asks}
 use Rattle.lane_state.specs.Ideal.{given, ideal_of}
 use Rattle.lane_state.specs.Kept.{return_of}
-use Rattle.lane_turns.specs.Turning.{IsTurnOf}
+use Rattle.lane_turns.specs.TakenTurns.{IsTurnOf}
 use Rattle.lane_state.specs.Wire.{wire_of}
 use Rattle.lane_state.proofs.Following.{stays-all}
 use Rattle.lane_turns.proofs.TurnEnds.{done-turned}
@@ -28,7 +28,7 @@ asks-there [] l h = absurd (omega (arith, h))
 asks-there (r ∷ rest) l h = refl
 
 still-there : (rs : List QueuedPage) (l : LaneState) (w : Wire) → 1 ≤ length rs →
-    wires.script_turn (map return_of rs) l w ≡ w
+    wires.wire_script_turn (map return_of rs) l w ≡ w
 still-there [] l w h = absurd (omega (arith, h))
 still-there (r ∷ rest) l w h = refl
 

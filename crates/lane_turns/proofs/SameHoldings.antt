@@ -8,14 +8,15 @@ use Rattle.lane_state.specs.declared.holdings.Holdings.{Holdings}
 use Rattle.lane_state.specs.Changes.{KeepsButAgenda}
 use Rattle.phys_memory.specs.declared.reach.Reach.{Reach}
 use Rattle.phys_memory.specs.contracts.reach.Reach as reach
-use Rattle.phys_memory.specs.Memory.{Memory}
+use Rattle.phys_memory.specs.Memory.{FrameMemory}
 use Rattle.memory_pages.specs.Placed.{AreAtTheirFrames, IsAtItsFrame}
-use Rattle.lane_state.specs.Covered.{AreLoaded, AreOwn, AreReturning, AreStanding, HasFramesOf, IsCovered, Reaches}
+use Rattle.lane_state.specs.Covered.{AreCoveredLoads, AreOwn, AreReturning}
+use Rattle.lane_state.specs.Covered.{AreStanding, HasFramesOf, IsCovered, Reaches}
 use Rattle.lane_state.specs.Awaiting.{AreAwaiting, AreOfMaps}
 use Rattle.lane_state.specs.OneAwaiting.{AreAwaiting-prop}
 use Rattle.lane_state.specs.Covered.{is_tried, lends_pages, pages_due}
 
-IsAtItsFrame-prop : (m : Memory) (v : ℕ) (r : Reach) → IsProp (IsAtItsFrame m v r)
+IsAtItsFrame-prop : (m : FrameMemory) (v : ℕ) (r : Reach) → IsProp (IsAtItsFrame m v r)
 IsAtItsFrame-prop m v r = hlevel (props)
 
 pub same-all : (h k : Holdings) → KeepsButAgenda h k → k.agenda ≡ h.agenda → k ≡ h
@@ -54,7 +55,7 @@ same-all h k s agenda = λ i. record {
       k.memory_places h.memory_places i;
   ring_places = is_prop→PathP (λ j. (agenda j).length ≤ (s.most.rings j).places) (λ j. hlevel (props)) k.ring_places
       h.ring_places i;
-  loaded = is_prop→PathP (λ j. AreLoaded (s.maps j).map (s.most.loans j).loans) (λ j. hlevel (props)) k.loaded
+  loaded = is_prop→PathP (λ j. AreCoveredLoads (s.maps j).map (s.most.loans j).loans) (λ j. hlevel (props)) k.loaded
       h.loaded i;
   unlent = is_prop→PathP (λ j. (m : ℕ) → lends_pages (get (s.maps j).map m) ≡ false) (λ j. hlevel (props)) k.unlent
       h.unlent i;

@@ -29,10 +29,11 @@ use Rattle.lane_state.specs.Changes.{IsWireOf, Becomes, Copies, Stays, WithMemor
 use Rattle.lane_state.specs.Doing.{IsAllowedBy, IsDone, asks}
 use Rattle.lane_state.specs.Held.{devices_of, held}
 use Rattle.lane_state.specs.Ideal.{given, ideal_of}
-use Rattle.lane_state.specs.Kept.{map_of, memory_of, return_of, ring_of, share_of, spaces_of, tag_of}
+use Rattle.lane_state.specs.Kept.{map_of, memory_of, return_of}
+use Rattle.lane_state.specs.Kept.{kept_ring, kept_share, spaces_of, tag_of}
 use Rattle.lane_state.specs.MapValues.{map_values}
 use Rattle.lane_state.specs.Served.{IsServed}
-use Rattle.lane_turns.specs.Turning.{IsAt, IsTurnOf, IsTurned, answered, is_held, turned}
+use Rattle.lane_turns.specs.TakenTurns.{IsAtTurn, IsTurnOf, IsTurned, answered, is_held, turn_taken}
 use Rattle.lane_state.specs.Wire.{held_pages, wire_of}
 use Rattle.lane_turns.proofs.TurnEnds.{done-turned, turn-may}
 
@@ -56,9 +57,9 @@ module _ {X Y : Type 0} (f : X → Y) (d : Seen) (lane : ℕ) where
 -- the turn leaves the driver and the door as they were
 pub still-made : (h : Holdings) (d : Seen) (s : Side) (t : Turn) → is_held t ≡ false →
     lane_step (ideal_of h) s ≡ Gives (stays (answered t) (ideal_of h)) →
-    wires.lane_step (ideal_of h) s (wire_of h) ≡ wire_of h → IsTurnOf h h d d s t
+    wires.wire_lane_step (ideal_of h) s (wire_of h) ≡ wire_of h → IsTurnOf h h d d s t
 still-made h d s t unheld is plain = record {
-  done = subst (λ step. IsTurned d h.id.0 step (turned h t) (is_held t) d) (sym is) (refl, unheld, refl);
+  done = subst (λ step. IsTurned d h.id.0 step (turn_taken h t) (is_held t) d) (sym is) (refl, unheld, refl);
   wire = Becomes refl (sym plain);
   places = refl;
   capacity = refl;
@@ -73,7 +74,7 @@ few-items h o here room =
 
 -- ---- a step of the script that was done: then its driver has come to a place
 
-module _ (h k n : Holdings) (place : ℕ) (due : Bool) (at : IsAt place due k n) where
+module _ (h k n : Holdings) (place : ℕ) (due : Bool) (at : IsAtTurn place due k n) where
   gone-on : ideal_of n ≡ record (ideal_of k) { place = place; due = due }
   gone-on =
       let most = at.rest.most in
@@ -87,12 +88,13 @@ module _ (h k n : Holdings) (place : ℕ) (due : Bool) (at : IsAt place due k n)
         tags = map_values tag_of (at.rest.tags i).map;
         maps = map_values map_of (at.rest.maps i).map;
         mems = map_values memory_of (most.memories i).map;
-        rings = map_values ring_of (most.rings i).map;
-        memory = held (most.loans i).bytes (most.loans i).loans (devices_of (at.rest.maps i).map) (most.memory i).memory;
+        rings = map_values kept_ring (most.rings i).map;
+        memory = held (most.loans i).bytes (most.loans i).loans (devices_of (at.rest.maps i).map)
+            (most.memory i).memory;
         loans = (most.loans i).loans;
         queue = (at.agenda i).queue;
         returns = map return_of (at.agenda i).returns;
-        shares = share_of (most.shares i).items;
+        shares = kept_share (most.shares i).items;
         spaces = spaces_of (at.rest.tags i).map;
       }
 
@@ -136,7 +138,7 @@ module _ (h k n : Holdings) (place : ℕ) (due : Bool) (at : IsAt place due k n)
   -- a turn was made that goes on with a step so
   pub step-made : (d e : Seen) (what : Did) (step : Asking Outcome) (f : Outcome → Turned) (w : Wire) (r : Answered)
       (t : Turn) → lane_step (ideal_of h) side.Script ≡ goes_on f step →
-      wires.lane_step (ideal_of h) side.Script (wire_of h) ≡ w →
+      wires.wire_lane_step (ideal_of h) side.Script (wire_of h) ≡ w →
       f (given k r.answer) ≡ turns.stepped side.Script what
       (record { lane = record (ideal_of k) { place = place; due = due }; answer = r.answer }) →
       IsDone d h.id.0 step (given k r.answer) e → r.held ≡ asks step → IsWireOf h k w → KeepsAgenda h k →
@@ -160,7 +162,7 @@ module _ (h k n : Holdings) (place : ℕ) (due : Bool) (at : IsAt place due k n)
         answer = r.answer;
       }) r.held
 
-      made : turned n entry ≡ f (given k r.answer)
+      made : turn_taken n entry ≡ f (given k r.answer)
       made =
           (λ i. record {
             lane = gone-on i;
@@ -187,8 +189,8 @@ module _ (h : Holdings) (empty : h.agenda.returns ≡ []) where
   step-due : lane_step l side.Script ≡ due_turn (due_send l) l
   step-due = ap (λ qs. script_turn (map return_of qs) l) empty
 
-  wire-due : (w : Wire) → wires.lane_step l side.Script w ≡ wires.due_turn (due_send l) l w
-  wire-due w = ap (λ qs. wires.script_turn (map return_of qs) l w) empty
+  wire-due : (w : Wire) → wires.wire_lane_step l side.Script w ≡ wires.wire_due_turn (due_send l) l w
+  wire-due w = ap (λ qs. wires.wire_script_turn (map return_of qs) l w) empty
 
   -- ---- the next operation
 
@@ -197,15 +199,15 @@ module _ (h : Holdings) (empty : h.agenda.returns ≡ []) where
     step-next = step-due ∙ ap (λ s. due_turn s l) undue
 
     wire-next : (w : Wire) →
-        wires.lane_step l side.Script w ≡ wires.next_operation (slice_get h.script h.agenda.place) l w
-    wire-next w = wire-due w ∙ ap (λ s. wires.due_turn s l w) undue
+        wires.wire_lane_step l side.Script w ≡ wires.wire_next_operation (slice_get h.script h.agenda.place) l w
+    wire-next w = wire-due w ∙ ap (λ s. wires.wire_due_turn s l w) undue
 
     -- there is no next operation
     pub ended-made : (d : Seen) → slice_get h.script h.agenda.place ≡ None →
         IsTurnOf h h d d side.Script turn.Ended
     ended-made d none =
         still-made h d side.Script turn.Ended refl (step-next ∙ ap (λ o. next_operation o l) none)
-        (wire-next (wire_of h) ∙ ap (λ o. wires.next_operation o l (wire_of h)) none)
+        (wire-next (wire_of h) ∙ ap (λ o. wires.wire_next_operation o l (wire_of h)) none)
 
     module _ (o : Op) (here : slice_get h.script h.agenda.place ≡ Some o) where
       -- the next operation cannot step
@@ -214,8 +216,8 @@ module _ (h : Holdings) (empty : h.agenda.returns ≡ []) where
           still-made h d side.Script turn.Blocked refl
           (step-next ∙ ap (λ q. next_operation q l) here
           ∙ ap (λ b. if b then Gives (stays turns.Blocked l) else goes_on (went_on o l.place) (operation o l)) waiting)
-          (wire-next (wire_of h) ∙ ap (λ q. wires.next_operation q l (wire_of h)) here
-          ∙ ap (λ b. if b then wire_of h else wires.operation o l (wire_of h)) waiting)
+          (wire-next (wire_of h) ∙ ap (λ q. wires.wire_next_operation q l (wire_of h)) here
+          ∙ ap (λ b. if b then wire_of h else wires.wire_operation o l (wire_of h)) waiting)
 
       module _ (goes : waits o l ≡ false) where
         step-is : lane_step l side.Script ≡ goes_on (went_on o h.agenda.place) (operation o l)
@@ -223,10 +225,10 @@ module _ (h : Holdings) (empty : h.agenda.returns ≡ []) where
             step-next ∙ ap (λ q. next_operation q l) here
             ∙ ap (λ b. if b then Gives (stays turns.Blocked l) else goes_on (went_on o l.place) (operation o l)) goes
 
-        wire-is : (w : Wire) → wires.lane_step l side.Script w ≡ wires.operation o l w
+        wire-is : (w : Wire) → wires.wire_lane_step l side.Script w ≡ wires.wire_operation o l w
         wire-is w =
-            wire-next w ∙ ap (λ q. wires.next_operation q l w) here
-            ∙ ap (λ b. if b then w else wires.operation o l w) goes
+            wire-next w ∙ ap (λ q. wires.wire_next_operation q l w) here
+            ∙ ap (λ b. if b then w else wires.wire_operation o l w) goes
 
         -- the account allows its call
         pub next-may : (d : Seen) → Stands l → IsServed l d → IsAllowedBy d h.id.0 (operation o l)
@@ -236,18 +238,18 @@ module _ (h : Holdings) (empty : h.agenda.returns ≡ []) where
 
         module _ (k n : Holdings) (d e : Seen) (r : Answered) (t : Turn)
             (done : IsDone d h.id.0 (operation o l) (given k r.answer) e) (asked : r.held ≡ asks (operation o l))
-            (wire : IsWireOf h k (wires.operation o l (wire_of h))) (agenda : KeepsAgenda h k)
+            (wire : IsWireOf h k (wires.wire_operation o l (wire_of h))) (agenda : KeepsAgenda h k)
             (is : t ≡ turn.Stepped (record {
               actor = record { lane = n.id; side = side.Script };
               did = did.Op h.agenda.place;
               answer = r.answer;
             }) r.held) where
           -- the operation is done, and the script goes on
-          gone-made : is_kept (send_of o) r.answer ≡ false → IsAt (k.agenda.place + 1) false k n →
+          gone-made : is_kept (send_of o) r.answer ≡ false → IsAtTurn (k.agenda.place + 1) false k n →
               IsTurnOf h n d e side.Script t
           gone-made gone at =
               step-made h k n (k.agenda.place + 1) false at d e (did.Op h.agenda.place) (operation o l)
-              (went_on o h.agenda.place) (wires.operation o l (wire_of h)) r t step-is (wire-is (wire_of h))
+              (went_on o h.agenda.place) (wires.wire_operation o l (wire_of h)) r t step-is (wire-is (wire_of h))
               (ap (λ b. if b then turns.kept h.agenda.place (given k r.answer)
               else turns.advanced h.agenda.place (given k r.answer)) gone
               ∙ (λ i. turns.stepped side.Script (did.Op h.agenda.place) (record {
@@ -256,16 +258,16 @@ module _ (h : Holdings) (empty : h.agenda.returns ≡ []) where
               }))) done asked wire agenda is
 
           -- the operation is a send whose callback is kept, and the script stays
-          kept-made : is_kept (send_of o) r.answer ≡ true → IsAt k.agenda.place true k n →
+          kept-made : is_kept (send_of o) r.answer ≡ true → IsAtTurn k.agenda.place true k n →
               IsTurnOf h n d e side.Script t
           kept-made kept at =
               step-made h k n k.agenda.place true at d e (did.Op h.agenda.place) (operation o l)
-              (went_on o h.agenda.place) (wires.operation o l (wire_of h)) r t step-is (wire-is (wire_of h))
+              (went_on o h.agenda.place) (wires.wire_operation o l (wire_of h)) r t step-is (wire-is (wire_of h))
               (ap (λ b. if b then turns.kept h.agenda.place (given k r.answer)
               else turns.advanced h.agenda.place (given k r.answer)) kept) done asked wire agenda is
 
-          pub next-made : (is_kept (send_of o) r.answer ≡ false → IsAt (k.agenda.place + 1) false k n) →
-              (is_kept (send_of o) r.answer ≡ true → IsAt k.agenda.place true k n) → IsTurnOf h n d e side.Script t
+          pub next-made : (is_kept (send_of o) r.answer ≡ false → IsAtTurn (k.agenda.place + 1) false k n) →
+              (is_kept (send_of o) r.answer ≡ true → IsAtTurn k.agenda.place true k n) → IsTurnOf h n d e side.Script t
           next-made gone kept = by (is_kept (send_of o) r.answer) refl
             where
               by : (b : Bool) → is_kept (send_of o) r.answer ≡ b → IsTurnOf h n d e side.Script t
@@ -278,8 +280,8 @@ module _ (h : Holdings) (empty : h.agenda.returns ≡ []) where
     step-again : lane_step l side.Script ≡ goes_on (resent h.agenda.place) (resend s l)
     step-again = step-due ∙ ap (λ s. due_turn s l) due
 
-    wire-again : (w : Wire) → wires.lane_step l side.Script w ≡ wires.resend s l w
-    wire-again w = wire-due w ∙ ap (λ s. wires.due_turn s l w) due
+    wire-again : (w : Wire) → wires.wire_lane_step l side.Script w ≡ wires.wire_resend s l w
+    wire-again w = wire-due w ∙ ap (λ s. wires.wire_due_turn s l w) due
 
     pub again-may : (d : Seen) → Stands l → IsServed l d → IsAllowedBy d h.id.0 (resend s l)
     again-may d stands served =
@@ -287,8 +289,8 @@ module _ (h : Holdings) (empty : h.agenda.returns ≡ []) where
         (subst (λ step. IsAllowedBy d h.id.0 step) step-again (turn-may h side.Script d stands served))
 
     pub again-made : (k n : Holdings) (d e : Seen) (r : Answered) (t : Turn) →
-        IsAt (k.agenda.place + 1) false k n → IsDone d h.id.0 (resend s l) (given k r.answer) e →
-        r.held ≡ asks (resend s l) → IsWireOf h k (wires.resend s l (wire_of h)) → KeepsAgenda h k →
+        IsAtTurn (k.agenda.place + 1) false k n → IsDone d h.id.0 (resend s l) (given k r.answer) e →
+        r.held ≡ asks (resend s l) → IsWireOf h k (wires.wire_resend s l (wire_of h)) → KeepsAgenda h k →
         t ≡ turn.Stepped (record {
           actor = record { lane = n.id; side = side.Script };
           did = did.Again h.agenda.place;
@@ -296,7 +298,7 @@ module _ (h : Holdings) (empty : h.agenda.returns ≡ []) where
         }) r.held → IsTurnOf h n d e side.Script t
     again-made k n d e r t at done asked wire agenda is =
         step-made h k n (k.agenda.place + 1) false at d e (did.Again h.agenda.place) (resend s l)
-        (resent h.agenda.place) (wires.resend s l (wire_of h)) r t step-again (wire-again (wire_of h))
+        (resent h.agenda.place) (wires.wire_resend s l (wire_of h)) r t step-again (wire-again (wire_of h))
         (λ i. turns.stepped side.Script (did.Again h.agenda.place) (record {
           lane = record (ideal_of k) { place = sym agenda.place i + 1; due = false };
           answer = r.answer;

@@ -1,5 +1,6 @@
 -- The loads of a driver stay small, and the pages that are promised few.
-use Rattle.std.proofs.Common.{◌≡◌, ℕ, ◌+◌, ◌*◌, ◌^◌, ◌<◌, ◌≤◌, Bool, true, false, List, Option, Some, None, if◌then◌else◌}
+use Rattle.std.proofs.Common.{◌≡◌, ℕ, ◌+◌, ◌*◌, ◌^◌, ◌<◌, ◌≤◌, Bool, true, false, List, Option, Some, None}
+use Rattle.std.proofs.Common.{if◌then◌else◌}
 use Rattle.std.proofs.Common.{slice_get, refl, sym, ap, ◌∙◌, arith, subst}
 use Rattle.std.specs.Option.{option_and_then, option_map_or}
 use Rattle.busdma_base.specs.declared.journals.answer.Answer.{Answer}
@@ -19,7 +20,7 @@ use Rattle.lane_state.specs.Changes.{KeepsPromises}
 use Rattle.lane_state.specs.Covered.{pages_due}
 use Rattle.lane_state.specs.Ideal.{ideal_of}
 use Rattle.lane_state.specs.SmallLoads.{HasSmallLoads, bytes_ahead, loaded_once}
-use Rattle.lane_turns.specs.Turning.{IsAt}
+use Rattle.lane_turns.specs.TakenTurns.{IsAtTurn}
 
 -- ---- sends
 
@@ -184,11 +185,11 @@ module _ (h : Holdings) (small : HasSmallLoads h) where
       -- the loads are small wherever the script goes on
       pub small-after : (k n : Holdings) → k.agenda.place ≡ h.agenda.place → n.script ≡ h.script →
           k.agenda.promised ≤ h.agenda.promised + loaded_once o → KeepsPromises h k → (a : Answer) →
-          (is_kept (send_of o) a ≡ false → IsAt (k.agenda.place + 1) false k n) →
-          (is_kept (send_of o) a ≡ true → IsAt k.agenda.place true k n) → HasSmallLoads n
+          (is_kept (send_of o) a ≡ false → IsAtTurn (k.agenda.place + 1) false k n) →
+          (is_kept (send_of o) a ≡ true → IsAtTurn k.agenda.place true k n) → HasSmallLoads n
       small-after k n place script promised kept a gone stays = by (send_of o) refl
         where
-          due : (b : Bool) (at : ℕ) → IsAt at b k n → KeepsPromises h n
+          due : (b : Bool) (at : ℕ) → IsAtTurn at b k n → KeepsPromises h n
           due b at is =
               omega (
                 arith,
@@ -197,10 +198,10 @@ module _ (h : Holdings) (small : HasSmallLoads h) where
                 ap (λ t. pages_due t.map) is.rest.maps,
               )
 
-          low : (b : Bool) (at : ℕ) → IsAt at b k n → n.agenda.promised ≤ h.agenda.promised + loaded_once o
+          low : (b : Bool) (at : ℕ) → IsAtTurn at b k n → n.agenda.promised ≤ h.agenda.promised + loaded_once o
           low b at is = let same = ap (λ x. x.promised) is.agenda in omega (arith, promised, same)
 
-          goes : IsAt (k.agenda.place + 1) false k n → HasSmallLoads n
+          goes : IsAtTurn (k.agenda.place + 1) false k n → HasSmallLoads n
           goes is =
               small-next n script (ap (λ x. x.place) is.agenda ∙ ap (λ p. p + 1) place) is.rest.most.due
               (low false _ is) (due false _ is)

@@ -17,11 +17,11 @@ use Rattle.ideal_wire.specs.OneProof.{IsFaithful-prop}
 use Rattle.ideal_wire.specs.Spaced.{AreSpaced}
 use Rattle.ideal_wire.specs.WireStep.{Follows}
 use Rattle.ideal_wire.specs.WireStep as wires
-use Rattle.ideal_wire.proofs.Frames.{agreeing-apart}
-use Rattle.ideal_wire.proofs.KeptSpaces.{turn-spaced}
-use Rattle.ideal_wire.proofs.Machines.{turn-keeps}
-use Rattle.ideal_wire.proofs.MappedTurns.{turn-mapped}
-use Rattle.ideal_wire.proofs.Turns.{turn-stays}
+use Rattle.ideal_wire.proofs.Apart.Frames.{agreeing-apart}
+use Rattle.ideal_wire.proofs.Devices.KeptSpaces.{turn-spaced}
+use Rattle.ideal_wire.proofs.Tags.MachineTurns.{turn-keeps}
+use Rattle.ideal_wire.proofs.Devices.MappedTurns.{turn-mapped}
+use Rattle.ideal_wire.proofs.Faithful.Turns.{turn-stays}
 use Rattle.lane_state.specs.declared.holdings.Holdings.{Holdings}
 use Rattle.lane_state.specs.Ideal.{ideal_of}
 use Rattle.lane_state.specs.Served.{IsServed}
@@ -58,19 +58,20 @@ module _ (h k : Holdings) (s : Side) (d e : Seen) (stands : Stands (ideal_of h))
     agrees = still-agrees;
   }
 
-  pub still-wired : Follows (ideal_of h) (ideal_of k) (wires.lane_step (ideal_of h) s (wire_of h)) (wire_of k) →
+  pub still-wired : Follows (ideal_of h) (ideal_of k) (wires.wire_lane_step (ideal_of h) s (wire_of h)) (wire_of k) →
       IsWired k
   still-wired follows = record {
     machine = subst IsInMachine replied (turn-keeps (ideal_of h) wired.machine s led.reply led.new);
     laid = still-laid;
     apart = still-apart;
-    spaced = subst AreSpaced replied (turn-spaced (ideal_of h) stands wired.laid wired.machine wired.spaced s led.reply);
+    spaced = subst AreSpaced replied (turn-spaced (ideal_of h) stands wired.laid wired.machine wired.spaced s
+        led.reply);
     mapped = ∥∥₁_map wired.mapped (λ mapped. subst AreMapped replied
         (turn-mapped (ideal_of h) stands wired.laid wired.machine wired.spaced mapped s led.reply));
     faithful = subst (λ l. IsFaithful l (wire_of k)) replied (∥∥₁_elim wired.mapped
         (IsFaithful-prop (by_reply (lane_step (ideal_of h) s) led.reply).lane (wire_of k))
         (λ mapped. turn-stays (ideal_of h) (account d) (wire_of h) stands served.agrees wired.laid wired.spaced mapped
         wired.faithful s led.reply (wire_of k) led.new
-        (subst (λ l. Follows (ideal_of h) l (wires.lane_step (ideal_of h) s (wire_of h)) (wire_of k)) (sym replied)
+        (subst (λ l. Follows (ideal_of h) l (wires.wire_lane_step (ideal_of h) s (wire_of h)) (wire_of k)) (sym replied)
         follows)));
   }

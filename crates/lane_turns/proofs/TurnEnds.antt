@@ -11,7 +11,7 @@ use Rattle.ideal_lane.specs.Turns.{Turned, lane_step}
 use Rattle.ideal_lane.specs.Ahead.{items_ahead}
 use Rattle.ideal_lane.proofs.Ahead.{turn-bounded}
 use Rattle.ideal_lane.proofs.Own.{IsLater}
-use Rattle.ideal_lane.proofs.Turning.{turn-allowed}
+use Rattle.ideal_lane.proofs.TurnLaws.{turn-allowed}
 use Rattle.ideal_wire.specs.Apart.{IsApart}
 use Rattle.ideal_wire.specs.Laid.{AreLaid}
 use Rattle.ideal_wire.specs.WireStep.{BringsKnown, Follows}
@@ -23,7 +23,7 @@ use Rattle.lane_state.specs.Kept.{memory_of}
 use Rattle.lane_state.specs.MapValues.{map_values}
 use Rattle.lane_state.specs.Ideal.{ideal_of}
 use Rattle.lane_state.specs.Served.{IsServed}
-use Rattle.lane_turns.specs.Turning.{IsTurned}
+use Rattle.lane_turns.specs.TakenTurns.{IsTurned}
 use Rattle.lane_state.specs.Wire.{IsWired, wire_of}
 use Rattle.lane_turns.proofs.AfterTurn.{Led, led}
 use Rattle.lane_state.specs.Changes.{KeepsBesideMemory, KeepsCopied, KeepsWhatStays}
@@ -94,7 +94,8 @@ module _ (h k : Holdings) (s : Side) (d e : Seen) (stands : Stands (ideal_of h))
       subst (λ w. Follows (ideal_of h) (ideal_of k) w (wire_of k)) (sym plain)
       (follows-memory h k wired.laid wired.apart end-laid end-apart keeps)
 
-  pub end-wired : Follows (ideal_of h) (ideal_of k) (wires.lane_step (ideal_of h) s (wire_of h)) (wire_of k) → IsWired
+  pub end-wired : Follows (ideal_of h) (ideal_of k) (wires.wire_lane_step (ideal_of h) s (wire_of h)) (wire_of k) →
+      IsWired
       k
   end-wired = still-wired h k s d e stands wired served x the-end same
 

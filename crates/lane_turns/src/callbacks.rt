@@ -3,7 +3,7 @@
 ghost use Rattle.std.specs.Prelude.{◌≡◌, ◌≤◌};
 ghost use Rattle.busdma_base.specs.declared.journals.journal.Side.TheVariants as side;
 ghost use Rattle.lane_state.specs.SmallLoads.{HasSmallLoads};
-ghost use Rattle.lane_turns.specs.Turning.{IsTurnOf, IsReady};
+ghost use Rattle.lane_turns.specs.TakenTurns.{IsTurnOf, IsReady};
 
 use crate::turn::{Turn, stepped};
 use busdma_base::{Called, Did, HubDoor, Side};

@@ -46,7 +46,7 @@ pub(crate) fn operation<'s, D: HubDoor>(
         (given holdings.new r.answer) (D.seen door.new)) }
     ensures held { IfOk result (λ r. r.held ≡ asks (turns.operation op.now (ideal_of holdings.old))) }
     ensures wire { OnOk result (IsWireOf holdings.old holdings.new
-        (wires.operation op.now (ideal_of holdings.old) (wire_of holdings.old))) }
+        (wires.wire_operation op.now (ideal_of holdings.old) (wire_of holdings.old))) }
     ensures err { OnErr result (KeepsState holdings.old holdings.new) }
     ensures unpromised { OnErr result (holdings.new.agenda ≡ holdings.old.agenda) }
     ensures undone { OnErr result (IsUndone (D.seen door.old) (D.seen door.new)) }

@@ -7,7 +7,7 @@ ghost use Rattle.busdma_base.specs.declared.journals.journal.Did.TheVariants as 
 ghost use Rattle.busdma_base.specs.declared.journals.journal.Side.TheVariants as side;
 ghost use Rattle.dma_map.specs.MapView.{idle};
 ghost use Rattle.ideal_lane.specs.Turns.{lane_step, stepped};
-ghost use Rattle.lane_state.specs.Covered.{is_returning};
+ghost use Rattle.lane_state.specs.Covered.{is_covered_returning};
 ghost use Rattle.lane_state.specs.Doing.{IsAllowedBy, IsDone};
 ghost use Rattle.lane_state.specs.Changes.{KeepsBytes, KeepsPromises};
 ghost use Rattle.lane_state.specs.Ideal.{given, ideal_of};
@@ -65,7 +65,7 @@ pub(crate) fn release<D: HubDoor>(holdings: &mut Holdings<'_>, door: &mut D) -> 
 
 /// Notes that a page of a map left the return queue. If it was the map's last page there, the map becomes idle.
 fn note_returned(maps: &mut PlaceTable<KeptMap<'_>>, map: u32, last: bool)
-    requires { is_returning (get maps.old.map map) ≡ true }
+    requires { is_covered_returning (get maps.old.map map) ≡ true }
     ensures last { last ≡ true → (o : _) → get maps.old.map map ≡ Some o →
         maps.new ≡ record maps.old {
           map = insert maps.old.map map (record o { map = record o.map { stage = idle } });

@@ -10,7 +10,7 @@ ghost use Rattle.ideal_lane.specs.Sends as sends;
 ghost use Rattle.ideal_lane.specs.Standing.{Stands};
 ghost use Rattle.ideal_lane.specs.Turns as turns;
 ghost use Rattle.ideal_wire.specs.WireStep as wires;
-ghost use Rattle.lane_turns.specs.Turning.{IsAt};
+ghost use Rattle.lane_turns.specs.TakenTurns.{IsAtTurn as IsAt};
 ghost use Rattle.lane_state.specs.Wire.{IsWired, wire_of};
 ghost use Rattle.lane_state.specs.Changes.{KeepsButAgenda, KeepsState};
 ghost use Rattle.lane_state.specs.Ideal.{given, ideal_of};
@@ -34,7 +34,7 @@ pub(crate) fn transfer(
     ensures done { IfOk result (λ answer.
         Gives (given holdings.new answer) ≡ turns.transfer item.now (ideal_of holdings.old)) }
     ensures wire { OnOk result (wire_of holdings.new
-        ≡ wires.transfer item.now (ideal_of holdings.old) (wire_of holdings.old)) }
+        ≡ wires.wire_transfer item.now (ideal_of holdings.old) (wire_of holdings.old)) }
     ensures script { holdings.new.script ≡ holdings.old.script }
     ensures memories { holdings.new.memories ≡ holdings.old.memories }
     ensures agenda { holdings.new.agenda ≡ holdings.old.agenda }
@@ -66,7 +66,7 @@ fn write_item(
     ensures done { IfOk result (λ answer.
         Gives (given holdings.new answer) ≡ accesses.dev_write map off (bytes_of bytes.now) (ideal_of holdings.old)) }
     ensures wire { IfOk result (λ answer.
-        wire_of holdings.new ≡ wires.dev_write map off (bytes_of bytes.now) (ideal_of holdings.old) (wire_of holdings.old)) }
+        wire_of holdings.new ≡ wires.wire_dev_write map off (bytes_of bytes.now) (ideal_of holdings.old) (wire_of holdings.old)) }
     ensures script { holdings.new.script ≡ holdings.old.script }
     ensures memories { holdings.new.memories ≡ holdings.old.memories }
     ensures agenda { holdings.new.agenda ≡ holdings.old.agenda }
@@ -94,7 +94,7 @@ fn write_item_at(
     ensures done { IfOk result (λ answer.
         Gives (given holdings.new answer) ≡ accesses.dev_write_at tag addr (bytes_of bytes.now) (ideal_of holdings.old)) }
     ensures wire { IfOk result (λ answer.
-        wire_of holdings.new ≡ wires.dev_write_at tag addr (bytes_of bytes.now) (ideal_of holdings.old) (wire_of holdings.old)) }
+        wire_of holdings.new ≡ wires.wire_dev_write_at tag addr (bytes_of bytes.now) (ideal_of holdings.old) (wire_of holdings.old)) }
     ensures script { holdings.new.script ≡ holdings.old.script }
     ensures memories { holdings.new.memories ≡ holdings.old.memories }
     ensures agenda { holdings.new.agenda ≡ holdings.old.agenda }

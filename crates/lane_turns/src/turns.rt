@@ -13,7 +13,7 @@ ghost use Rattle.lane_state.specs.declared.holdings.Holdings.{Holdings};
 ghost use Rattle.lane_turns.specs.declared.turn.Turn.{Turn};
 ghost use Rattle.lane_state.specs.Changes.{KeepsAgenda, KeepsPromises, KeepsState};
 ghost use Rattle.lane_state.specs.Doing.{IsAllowedBy, IsUndone};
-ghost use Rattle.lane_turns.specs.Turning.{IsTurnOf, IsReady, MayWant, has_step, is_held, turned};
+ghost use Rattle.lane_turns.specs.TakenTurns.{IsTurnOf, IsReady, MayWant, has_step, is_held, turn_taken};
 ghost use Rattle.lane_state.specs.Sends.{the_send};
 ghost use Rattle.lane_state.specs.Wire.{IsWired, wire_of};
 ghost use Rattle.lane_state.specs.Ideal.{ideal_of};
@@ -192,10 +192,10 @@ pub(crate) fn transfer_turn(holdings: &mut Holdings<'_>, alloc: Global) -> Resul
     requires wired { IsWired holdings.old }
     requires stands { Stands (ideal_of holdings.old) }
     ensures done { IfOk result (λ turn.
-        Gives (turned holdings.new turn) ≡ lane_step (ideal_of holdings.old) side.Transfer) }
+        Gives (turn_taken holdings.new turn) ≡ lane_step (ideal_of holdings.old) side.Transfer) }
     ensures unheld { IfOk result (λ turn. is_held turn ≡ false) }
     ensures wire { OnOk result (wire_of holdings.new
-        ≡ wires.lane_step (ideal_of holdings.old) side.Transfer (wire_of holdings.old)) }
+        ≡ wires.wire_lane_step (ideal_of holdings.old) side.Transfer (wire_of holdings.old)) }
     ensures script { holdings.new.script ≡ holdings.old.script }
     ensures memories { holdings.new.memories ≡ holdings.old.memories }
     ensures agenda { KeepsAgenda holdings.old holdings.new }

@@ -10,14 +10,15 @@ use Rattle.phys_memory.specs.declared.entries.Entries.{Entries}
 use Rattle.phys_memory.specs.declared.entries.Entries.TheVariants as walk
 use Rattle.phys_memory.specs.declared.walk.Walked.{Walked}
 use Rattle.phys_memory.specs.declared.walk.Walked.TheVariants.{Parts, Unmapped}
-use Rattle.busdma_rules.specs.Memory.Extents.{reached_addresses as reached}
+use Rattle.busdma_rules.specs.Memory.Extents.{reached_addresses}
 use Rattle.busdma_rules.specs.Memory.Translation.{physical_or_0}
-use Rattle.phys_memory.specs.Vector.{IfAll, spans_stream, spans_walk}
+use Rattle.phys_memory.specs.VectorStreams.{IfAll, spans_stream, spans_walk}
 use Rattle.phys_memory.specs.Walk.{walk_of, walked}
 use Rattle.phys_memory.proofs.Loads.{one_bytes, spans_load}
-use Rattle.phys_memory.proofs.Vectors.{past_entry, past_none, spans_one, stopped, walk_bytes, walk_entries, walk_have}
-use Rattle.phys_memory.proofs.Vectors.{walk_touches}
-use Rattle.phys_memory.proofs.Walks.{walked-run}
+use Rattle.phys_memory.proofs.VectorLaws.{past_entry, past_none, spans_one, stopped, walk_bytes, walk_entries}
+use Rattle.phys_memory.proofs.VectorLaws.{walk_have}
+use Rattle.phys_memory.proofs.VectorLaws.{walk_touches}
+use Rattle.phys_memory.proofs.WalkLaws.{walked-run}
 use Rattle.busdma_rules.specs.Memory.BioFrames.{AreFrames, in_frames}
 use Rattle.load_bio.specs.Frames.{LiesInOneOf}
 use Rattle.busdma_rules.proofs.Memory.InFrames.{IsInOneOf, frames_paged}
@@ -36,9 +37,9 @@ module _ (fs : List ℕ) (off n : ℕ) (w : Walked)
   abbrev here : Span
   here = record { va = record { 0 = off }; len = n }
 
-  from_stream : w ≡ walk_of (reached (in_frames fs) off n) n
+  from_stream : w ≡ walk_of (reached_addresses (in_frames fs) off n) n
   from_stream = h ∙ ap (walked []) (spans_one false (in_frames fs) off n)
-      ∙ walked-run (reached (in_frames fs) off n) n true false
+      ∙ walked-run (reached_addresses (in_frames fs) off n) n true false
 
   pub one_entry : (es : List Extent) → w ≡ Parts es → (es ≡ [] → false ≡ true) →
       walk.All (record { rounded = false; parts = es } ∷ []) ≡ spans_walk false (in_frames fs) (one_span off n)

@@ -5,7 +5,7 @@ use Rattle.std.specs.Prelude.{Some, slice_get}
 use Rattle.std.proofs.lemmas.Bool.{cases_lt}
 use Rattle.busdma_machine.specs.declared.machine.address.Extent.{Extent}
 use Rattle.busdma_machine.specs.declared.machine.chunk.Part.TheVariants as part
-use Rattle.busdma_rules.specs.Memory.Extents.{reached_addresses as reached, then_reached}
+use Rattle.busdma_rules.specs.Memory.Extents.{reached_addresses, then_reached}
 use Rattle.phys_memory.specs.Walk.{run_stream}
 use Rattle.phys_memory.proofs.Paged.{HasPage, next_in_page}
 use Rattle.phys_memory.proofs.Streams.{stream_next}
@@ -31,31 +31,31 @@ behind_first f fs k =
     ap (λ n. byte_of (slice_get (f ∷ fs) n) ((4096 + k) % 4096)) number ∙ ap (byte_of (slice_get fs (k / 4096))) place
 
 reached_behind : (f : ℕ) (fs : List ℕ) (k n : ℕ) →
-    reached (in_frames (f ∷ fs)) (4096 + k) n ≡ reached (in_frames fs) k n
+    reached_addresses (in_frames (f ∷ fs)) (4096 + k) n ≡ reached_addresses (in_frames fs) k n
 reached_behind f fs k zero = refl
 reached_behind f fs k (suc n) =
     let next : 4096 + k + 1 ≡ 4096 + (k + 1) = omega arith in
-    ap (λ o. then_reached o (reached (in_frames (f ∷ fs)) (4096 + k + 1) n)) (behind_first f fs k)
-    ∙ ap (then_reached (in_frames fs k)) (ap (λ a. reached (in_frames (f ∷ fs)) a n) next
+    ap (λ o. then_reached o (reached_addresses (in_frames (f ∷ fs)) (4096 + k + 1) n)) (behind_first f fs k)
+    ∙ ap (then_reached (in_frames fs k)) (ap (λ a. reached_addresses (in_frames (f ∷ fs)) a n) next
     ∙ reached_behind f fs (k + 1) n)
 
 -- what is left after the bytes that the first frame gave
 reached_next : (f : ℕ) (fs : List ℕ) (off n left : ℕ) → off < 4096 → n ≡ min (4096 - off) left →
-    reached (in_frames (f ∷ fs)) (off + n) (left - n) ≡ reached (in_frames fs) 0 (left - n)
+    reached_addresses (in_frames (f ∷ fs)) (off + n) (left - n) ≡ reached_addresses (in_frames fs) 0 (left - n)
 reached_next f fs off n left inside e = elim (cases_lt (4096 - off) left) [
   | inl h ↦
       let end : off + n ≡ 4096 + 0 = omega arith in
-      ap (λ a. reached (in_frames (f ∷ fs)) a (left - n)) end ∙ reached_behind f fs 0 (left - n)
+      ap (λ a. reached_addresses (in_frames (f ∷ fs)) a (left - n)) end ∙ reached_behind f fs 0 (left - n)
   | inr h ↦
       let none : left - n ≡ 0 = omega arith in
-      ap (reached (in_frames (f ∷ fs)) (off + n)) none ∙ ap (reached (in_frames fs) 0) (sym none)
+      ap (reached_addresses (in_frames (f ∷ fs)) (off + n)) none ∙ ap (reached_addresses (in_frames fs) 0) (sym none)
 ]
 
 -- the first part of a stream of frames, and what is left
 pub frames_stream : (f : ℕ) (fs : List ℕ) (off n left offset : ℕ) (opens : Bool) → f < 2 ^ 30 → off < 4096 → 0 < left →
-    n ≡ min (4096 - off) left → run_stream (reached (in_frames (f ∷ fs)) off left) left offset opens false
+    n ≡ min (4096 - off) left → run_stream (reached_addresses (in_frames (f ∷ fs)) off left) left offset opens false
     ≡ part.Of (record { pa = record { 0 = f * 4096 + off }; len = n }) opens false
-    ∷ run_stream (reached (in_frames fs) 0 (left - n)) (left - n) (offset + n) false false
+    ∷ run_stream (reached_addresses (in_frames fs) 0 (left - n)) (left - n) (offset + n) false false
 frames_stream f fs off n left offset opens below inside some e =
     let t = in_frames (f ∷ fs) in
     let page : off / 4096 ≡ 0 = omega arith in
@@ -66,6 +66,6 @@ frames_stream f fs off n left offset opens below inside some e =
     below (omega arith) some (omega arith) in
     stream_next t off left offset opens false (record { pa = record { 0 = f * 4096 + off % 4096 }; len = n }) is
     ∙ ap (λ a. part.Of (record { pa = record { 0 = f * 4096 + a }; len = n }) opens false
-    ∷ run_stream (reached t (off + n) (left - n)) (left - n) (offset + n) false false) place
+    ∷ run_stream (reached_addresses t (off + n) (left - n)) (left - n) (offset + n) false false) place
     ∙ ap (λ pas. part.Of first opens false ∷ run_stream pas (left - n) (offset + n) false false)
     (reached_next f fs off n left inside e)

@@ -6,9 +6,9 @@ ghost use Rattle.std.specs.List.{AllByRecursion};
 ghost use Rattle.busdma_machine.specs.Machine.Entry.{HasPart, IsEntry, IsStream, entries_addresses, parts_of};
 ghost use Rattle.busdma_machine.specs.Machine.Spans.{bio_spans, span_addresses, span_bytes};
 ghost use Rattle.busdma_machine.specs.declared.machine.bio.Bio.TheVariants.{Mapped, Unmapped, Vector};
-ghost use Rattle.phys_memory.specs.Memory.{IsMemory, physical};
+ghost use Rattle.phys_memory.specs.Memory.{IsMemory, memory_physical};
 ghost use Rattle.busdma_rules.specs.Memory.Translation.{Translation, physical_or_0};
-ghost use Rattle.phys_memory.specs.Vector.{IfAll};
+ghost use Rattle.phys_memory.specs.VectorStreams.{IfAll};
 ghost use Rattle.load_bio.specs.Bio.{IsBio, LiesInBio, bio_stream, bio_walk};
 ghost use Rattle.busdma_rules.specs.Memory.Bios.{bio_translation};
 ghost use Rattle.busdma_rules.specs.Memory.BioFrames.{AreFrames};
@@ -77,8 +77,8 @@ impl<'a> Iterator for BioParts<'a> {
 pub fn walk(alloc: Global, memory: &LanePages, bio: &Bio) -> Result<Entries, AllocError>
     requires bio { IsBio bio.now }
     requires bytes { span_bytes (bio_spans bio.now) < 2 ^ 64 }
-    ensures walk { IfOk result (λ w. w ≡ bio_walk (physical memory.now.memory) bio.now) }
-    ensures addresses { let t = bio_translation (physical memory.now.memory) bio.now in
+    ensures walk { IfOk result (λ w. w ≡ bio_walk (memory_physical memory.now.memory) bio.now) }
+    ensures addresses { let t = bio_translation (memory_physical memory.now.memory) bio.now in
         IfOk result
         (λ w. IfAll w (λ es. entries_addresses es ≡ map (physical_or_0 t) (span_addresses (bio_spans bio.now)))) }
     ensures entries { IfOk result (λ w. IfAll w (AllByRecursion IsEntry)) }
@@ -98,8 +98,8 @@ pub fn walk(alloc: Global, memory: &LanePages, bio: &Bio) -> Result<Entries, All
 pub fn parts<'a>(memory: &'a LanePages, bio: &'a Bio) -> BioParts<'a>
     requires bio { IsBio bio.now }
     requires bytes { span_bytes (bio_spans bio.now) < 2 ^ 64 }
-    ensures parts { result ≡ bio_stream (physical memory.now.memory) bio.now }
-    ensures walk { IfAll (bio_walk (physical memory.now.memory) bio.now) (λ es. result ≡ parts_of es) }
+    ensures parts { result ≡ bio_stream (memory_physical memory.now.memory) bio.now }
+    ensures walk { IfAll (bio_walk (memory_physical memory.now.memory) bio.now) (λ es. result ≡ parts_of es) }
 
     // Up to 2^20 bytes are the stream of a load, and so is each front of it.
     ensures stream { span_bytes (bio_spans bio.now) ≤ 2 ^ 20 → IsStream result }
@@ -114,8 +114,8 @@ pub fn parts<'a>(memory: &'a LanePages, bio: &'a Bio) -> BioParts<'a>
 
 /// Returns the parts of a span of a driver, which are those of a bio that is mapped there.
 pub fn parts_of_span(memory: &LanePages, span: Span) -> BioParts<'_>
-    ensures parts { result ≡ bio_stream (physical memory.now.memory) (Mapped span) }
-    ensures walk { IfAll (bio_walk (physical memory.now.memory) (Mapped span)) (λ es. result ≡ parts_of es) }
+    ensures parts { result ≡ bio_stream (memory_physical memory.now.memory) (Mapped span) }
+    ensures walk { IfAll (bio_walk (memory_physical memory.now.memory) (Mapped span)) (λ es. result ≡ parts_of es) }
     ensures sound { IsMemory memory.now.memory }
     ensures stream { span.len ≤ 2 ^ 20 → IsStream result }
     ensures along { span.len ≤ 2 ^ 20 → HoldsAlong (YieldsFirst (λ ps. ps)) result IsStream }
@@ -128,8 +128,8 @@ pub fn parts_of_span(memory: &LanePages, span: Span) -> BioParts<'_>
 /// Returns the parts of the spans of a driver, in order, which are those of a bio that is the vector of them.
 pub fn parts_of_spans<'a>(memory: &'a LanePages, spans: &'a [Span]) -> BioParts<'a>
     requires { span_bytes spans.now < 2 ^ 64 }
-    ensures parts { result ≡ bio_stream (physical memory.now.memory) (Vector spans.now) }
-    ensures walk { IfAll (bio_walk (physical memory.now.memory) (Vector spans.now)) (λ es. result ≡ parts_of es) }
+    ensures parts { result ≡ bio_stream (memory_physical memory.now.memory) (Vector spans.now) }
+    ensures walk { IfAll (bio_walk (memory_physical memory.now.memory) (Vector spans.now)) (λ es. result ≡ parts_of es) }
     ensures sound { IsMemory memory.now.memory }
     ensures stream { span_bytes spans.now ≤ 2 ^ 20 → IsStream result }
     ensures along { span_bytes spans.now ≤ 2 ^ 20 → HoldsAlong (YieldsFirst (λ ps. ps)) result IsStream }

@@ -2,7 +2,7 @@
 
 ghost use Rattle.std.specs.Prelude.{◌≡◌, ◌<◌, false, IfOk};
 ghost use Rattle.busdma_machine.specs.Machine.Spans.{one_span};
-ghost use Rattle.phys_memory.specs.Vector.{spans_walk};
+ghost use Rattle.phys_memory.specs.VectorStreams.{spans_walk};
 ghost use Rattle.busdma_rules.specs.Memory.BioFrames.{AreFrames, in_frames};
 
 use crate::frames::frame_parts;

@@ -4,7 +4,7 @@ ghost use Rattle.std.specs.Prelude.{◌≡◌, ℕ, ◌^◌, ◌<◌, ◌≤◌,
 ghost use Rattle.std.specs.Iterator.{YieldsFirst, item_count};
 ghost use Rattle.busdma_machine.specs.Machine.Entry.{IsStream};
 ghost use Rattle.busdma_machine.specs.Machine.Spans.{one_span};
-ghost use Rattle.phys_memory.specs.Vector.{spans_stream};
+ghost use Rattle.phys_memory.specs.VectorStreams.{spans_stream};
 ghost use Rattle.busdma_rules.specs.Memory.BioFrames.{AreFrames, in_frames};
 
 use busdma_machine::{Extent, Pa, Part};

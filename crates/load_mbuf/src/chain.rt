@@ -5,10 +5,10 @@ ghost use Rattle.std.specs.Iterator.{HoldsAlong, YieldsFirst};
 ghost use Rattle.std.specs.List.{AllByRecursion};
 ghost use Rattle.busdma_machine.specs.Machine.Entry.{HasPart, IsEntry, IsStream, entries_addresses, parts_of};
 ghost use Rattle.busdma_machine.specs.Machine.Spans.{span_addresses, span_bytes};
-ghost use Rattle.phys_memory.specs.Extents.{LiesIn};
-ghost use Rattle.phys_memory.specs.Memory.{IsMemory, physical};
+ghost use Rattle.phys_memory.specs.Extents.{LiesInFrames};
+ghost use Rattle.phys_memory.specs.Memory.{IsMemory, memory_physical};
 ghost use Rattle.busdma_rules.specs.Memory.Translation.{physical_or_0};
-ghost use Rattle.phys_memory.specs.Vector.{IfAll, vector, vector_walk};
+ghost use Rattle.phys_memory.specs.VectorStreams.{IfAll, vector, vector_walk};
 
 use busdma_machine::Mbuf;
 use phys_memory::{Entries, LanePages, VectorParts};
@@ -42,12 +42,12 @@ pub fn total(chain: &[Mbuf]) -> u128
 /// `AllocError` if memory runs out.
 pub fn walk(alloc: Global, memory: &LanePages, chain: &[Mbuf]) -> Result<Entries, AllocError>
     requires { span_bytes chain.now < 2 ^ 64 }
-    ensures walk { IfOk result (λ w. w ≡ vector_walk (physical memory.now.memory) chain.now) }
-    ensures addresses { let pas = map (physical_or_0 (physical memory.now.memory)) (span_addresses chain.now) in
+    ensures walk { IfOk result (λ w. w ≡ vector_walk (memory_physical memory.now.memory) chain.now) }
+    ensures addresses { let pas = map (physical_or_0 (memory_physical memory.now.memory)) (span_addresses chain.now) in
         IfOk result (λ w. IfAll w (λ es. entries_addresses es ≡ pas)) }
     ensures entries { IfOk result (λ w. IfAll w (AllByRecursion IsEntry)) }
     ensures some { IfOk result (λ w. IfAll w (AllByRecursion HasPart)) }
-    ensures frames { let lies = LiesIn memory.now.memory in
+    ensures frames { let lies = LiesInFrames memory.now.memory in
         IfOk result (λ w. IfAll w (AllByRecursion (λ e. AllByRecursion lies e.parts))) }
 {
     memory.walk_vector(alloc, chain)
@@ -57,8 +57,8 @@ pub fn walk(alloc: Global, memory: &LanePages, chain: &[Mbuf]) -> Result<Entries
 /// `walk`.
 pub fn parts<'a>(memory: &'a LanePages, chain: &'a [Mbuf]) -> MbufParts<'a>
     requires { span_bytes chain.now < 2 ^ 64 }
-    ensures parts { result ≡ vector (physical memory.now.memory) chain.now }
-    ensures walk { IfAll (vector_walk (physical memory.now.memory) chain.now) (λ es. result ≡ parts_of es) }
+    ensures parts { result ≡ vector (memory_physical memory.now.memory) chain.now }
+    ensures walk { IfAll (vector_walk (memory_physical memory.now.memory) chain.now) (λ es. result ≡ parts_of es) }
     ensures sound { IsMemory memory.now.memory }
 
     // Up to 2^20 bytes are the stream of a load, and so is each front of it.

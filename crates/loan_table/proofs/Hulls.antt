@@ -15,7 +15,7 @@ use Rattle.busdma_rules.specs.declared.position.Position.{Position}
 use Rattle.busdma_rules.specs.Lending.Loans.{addresses_of}
 use Rattle.loan_table.specs.Rows.{AreWithin, LiesFromTo}
 use Rattle.loan_table.proofs.Addresses.{no_extent}
-use Rattle.loan_table.proofs.Marking.{no_position}
+use Rattle.loan_table.proofs.MarkLaws.{no_position}
 
 -- what lies between two addresses lies between two that are farther apart
 pub loosened : (f e f' e' : ℕ) (x : Extent) → f' ≤ f → e ≤ e' → LiesFromTo f e x → LiesFromTo f' e' x

@@ -6,14 +6,14 @@ use Rattle.std.specs.Ordering.{nat_cmp}
 use Rattle.std.specs.Cmp.{nat_cmp_total, unsigned_tied, nat_eq_equiv}
 use Rattle.std.specs.FinMap.{FinMap, get, insert, get-insert}
 use Rattle.busdma_machine.specs.Runs.{run_of}
-use Rattle.run_set.specs.Edges.{in_run}
+use Rattle.run_set.specs.Edges.{is_inside_run}
 use Rattle.loan_table.specs.Table.{AreIn, AreNew, set_all}
 use Rattle.loan_table.proofs.RunMarks.{get-set_run}
 
-inside : (s n a : ℕ) → s ≤ a → a + 1 ≤ s + n → in_run s (s + n) a ≡ true
+inside : (s n a : ℕ) → s ≤ a → a + 1 ≤ s + n → is_inside_run s (s + n) a ≡ true
 inside s n a p q = grind (arith, nat_tests)
 
-outside : (s n a : ℕ) → s + n ≤ a → in_run s (s + n) a ≡ false
+outside : (s n a : ℕ) → s + n ≤ a → is_inside_run s (s + n) a ≡ false
 outside s n a p = grind (arith, nat_tests)
 
 module _ (m : FinMap nat_cmp Bool) (s n : ℕ) (v : Bool) where

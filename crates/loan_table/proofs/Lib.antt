@@ -6,7 +6,7 @@ pub mod Inside
 pub mod Judgement
 pub mod Keeping
 pub mod LoansInTree
-pub mod Marking
+pub mod MarkLaws
 pub mod Pieces
 pub mod PlacedBytes
 pub mod Places

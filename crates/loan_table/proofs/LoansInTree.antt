@@ -8,7 +8,7 @@ use Rattle.std.specs.FinMap.{insert}
 use Rattle.busdma_rules.specs.Lending.Loans.{Loan, Loans, loan_of, no_loan}
 use Rattle.busdma_machine.specs.Judging.{judged}
 use Rattle.busdma_machine.specs.Machine.Wire.{stretch}
-use Rattle.busdma_rules.specs.Lending.Syncing.{synced, marked_range, sync_answer, sync_refusal}
+use Rattle.busdma_rules.specs.Lending.SyncEffects.{synced, marked_range, sync_answer, sync_refusal}
 use Rattle.loan_table.specs.declared.slot.Slot.{Slot}
 use Rattle.loan_table.specs.Trees.{loans_in}
 use Rattle.loan_table.proofs.Trees.{get-loans_in, loan_at}

@@ -20,11 +20,11 @@ use Rattle.busdma_machine.specs.declared.report.Judged.TheVariants.{Refused}
 use Rattle.busdma_machine.specs.Judging.{judged, refused_or}
 use Rattle.busdma_machine.specs.Machine.Wire.{stretch}
 use Rattle.busdma_machine.specs.Runs.{run_of}
-use Rattle.run_set.specs.Edges.{in_run}
+use Rattle.run_set.specs.Edges.{is_inside_run}
 use Rattle.busdma_rules.specs.declared.position.Position.{Position}
 use Rattle.busdma_rules.specs.Lending.Loans.{addresses_of}
-use Rattle.busdma_rules.specs.Lending.Syncing.{marked}
-use Rattle.loan_table.specs.Counted.{places, places_in}
+use Rattle.busdma_rules.specs.Lending.SyncEffects.{marked}
+use Rattle.loan_table.specs.Counted.{counted_places, places_in}
 use Rattle.loan_table.specs.Rows.{alike, lent_like, stands, AreAlike}
 use Rattle.loan_table.proofs.Judgement.{length-run_of}
 use Rattle.loan_table.proofs.Places.{places-run}
@@ -143,7 +143,7 @@ more true k m = refl
 more false k m = omega arith
 
 pub places-like : (way : Position → Bool) (p : Position) (a : ℕ) (xs : List ℕ) →
-    ((x : ℕ) → way (lent_as p x) ≡ way p) → places way a (lent_like p xs) ≡ cond (way p) (stands a xs) 0
+    ((x : ℕ) → way (lent_as p x) ≡ way p) → counted_places way a (lent_like p xs) ≡ cond (way p) (stands a xs) 0
 places-like way p a [] same = none (way p)
   where
     none : (b : Bool) → ◌≡◌ {A = ℕ} 0 (cond b 0 0)
@@ -158,10 +158,10 @@ places-like way p a (x ∷ xs) same =
     ∙ ap (λ k. cond (way p) k 0) (sym (sum_by-cons (λ b. cond (b == a) 1 0) x xs))
 
 places-alike : (way : Position → Bool) (p : Position) (n a : ℕ) → ((x : ℕ) → way (lent_as p x) ≡ way p) →
-    places way a (alike p n) ≡ places_in p.pa n (way p) a
+    counted_places way a (alike p n) ≡ places_in p.pa n (way p) a
 places-alike way p n a same =
     places-like way p a (run_of p.pa n) same ∙ ap (λ k. cond (way p) k 0) (places-run a p.pa n)
-    ∙ sym (both (in_run p.pa (p.pa + n) a) (way p))
+    ∙ sym (both (is_inside_run p.pa (p.pa + n) a) (way p))
 
 -- the judgement passes over items of which none is refused
 pub none_refused : {X : Type 0} (f : X → Option ReportName) (g : ℕ → X) (at s m : ℕ) (ys : List X) →
@@ -188,27 +188,29 @@ same_way ToRead p a = refl
 -- at how many positions a byte is lent: those of a piece, and those after it
 pub places_ahead : (way : Way) (a at end n : ℕ) (p : Position) (ps : List Position) →
     stretch at (end - at) ps ≡ alike p n ++ stretch (at + n) (end - (at + n)) ps →
-    places (test_of way) a (stretch at (end - at) ps)
-    ≡ places_in p.pa n (test_of way p) a + places (test_of way) a (stretch (at + n) (end - (at + n)) ps)
+    counted_places (test_of way) a (stretch at (end - at) ps)
+    ≡ places_in p.pa n (test_of way p) a + counted_places (test_of way) a (stretch (at + n) (end - (at + n)) ps)
 places_ahead way a at end n p ps e =
     let rest = stretch (at + n) (end - (at + n)) ps in
-    ap (places (test_of way) a) e ∙ places-append (test_of way) a (alike p n) rest
-    ∙ ap (λ k. k + places (test_of way) a rest) (places-alike (test_of way) p n a (same_way way p))
+    ap (counted_places (test_of way) a) e ∙ places-append (test_of way) a (alike p n) rest
+    ∙ ap (λ k. k + counted_places (test_of way) a rest) (places-alike (test_of way) p n a (same_way way p))
 
 -- at how many positions a byte is lent, before and after a sync call: those of a span, and those after it
 module _ (way : Way) (a at end n : ℕ) (ps : List Position) (within : at + n ≤ end) where
-  pub span_places : places (test_of way) a (stretch at (end - at) ps)
-      ≡ places (test_of way) a (stretch at n ps) + places (test_of way) a (stretch (at + n) (end - (at + n)) ps)
+  pub span_places : counted_places (test_of way) a (stretch at (end - at) ps)
+      ≡ counted_places (test_of way) a (stretch at n ps) + counted_places (test_of way) a
+      (stretch (at + n) (end - (at + n)) ps)
   span_places =
-      ap (places (test_of way) a) (two_parts at n end ps within)
+      ap (counted_places (test_of way) a) (two_parts at n end ps within)
       ∙ places-append (test_of way) a (stretch at n ps) (stretch (at + n) (end - (at + n)) ps)
 
-  pub span_marked : (ops : ℕ) → places (test_of way) a (map (marked ops) (stretch at (end - at) ps))
-      ≡ places (test_of way) a (map (marked ops) (stretch at n ps))
-      + places (test_of way) a (map (marked ops) (stretch (at + n) (end - (at + n)) ps))
+  pub span_marked : (ops : ℕ) → counted_places (test_of way) a (map (marked ops) (stretch at (end - at) ps))
+      ≡ counted_places (test_of way) a (map (marked ops) (stretch at n ps))
+      + counted_places (test_of way) a (map (marked ops) (stretch (at + n) (end - (at + n)) ps))
   span_marked ops =
-      ap (λ xs. places (test_of way) a (map (marked ops) xs)) (two_parts at n end ps within)
-      ∙ ap (places (test_of way) a) (map-append (marked ops) (stretch at n ps) (stretch (at + n) (end - (at + n)) ps))
+      ap (λ xs. counted_places (test_of way) a (map (marked ops) xs)) (two_parts at n end ps within)
+      ∙ ap (counted_places (test_of way) a)
+      (map-append (marked ops) (stretch at n ps) (stretch (at + n) (end - (at + n)) ps))
       ∙ places-append (test_of way) a (map (marked ops) (stretch at n ps))
       (map (marked ops) (stretch (at + n) (end - (at + n)) ps))
 
@@ -221,15 +223,15 @@ span_bytes at end n ps within =
 
 -- at how many positions of a span a byte is lent, before a call and after it
 module _ (way : Way) (a : ℕ) (p : Position) (ps : List Position) (alike_all : AreAlike p ps) where
-  pub alike_places_of : places (test_of way) a ps ≡ cond (test_of way p) (stands a (addresses_of ps)) 0
+  pub alike_places_of : counted_places (test_of way) a ps ≡ cond (test_of way p) (stands a (addresses_of ps)) 0
   alike_places_of =
-      ap (places (test_of way) a) alike_all ∙ places-like (test_of way) p a (addresses_of ps) (same_way way p)
+      ap (counted_places (test_of way) a) alike_all ∙ places-like (test_of way) p a (addresses_of ps) (same_way way p)
 
-  pub alike_marked_of : (ops : ℕ) → places (test_of way) a (map (marked ops) ps)
+  pub alike_marked_of : (ops : ℕ) → counted_places (test_of way) a (map (marked ops) ps)
       ≡ cond (test_of way (marked ops p)) (stands a (addresses_of ps)) 0
   alike_marked_of ops =
-      ap (λ xs. places (test_of way) a (map (marked ops) xs)) alike_all
-      ∙ ap (places (test_of way) a) (marked-like ops p (addresses_of ps))
+      ap (λ xs. counted_places (test_of way) a (map (marked ops) xs)) alike_all
+      ∙ ap (counted_places (test_of way) a) (marked-like ops p (addresses_of ps))
       ∙ places-like (test_of way) (marked ops p) a (addresses_of ps) (same_way way (marked ops p))
 
 -- bytes of a piece are marked, and then those after it

@@ -11,12 +11,12 @@ use Rattle.busdma_machine.specs.Judging.{judged, refused_or}
 use Rattle.busdma_machine.specs.Machine.Wire.{stretch}
 use Rattle.busdma_machine.specs.Runs.{run_of}
 use Rattle.busdma_rules.specs.Tags.SyncOps.{preread, prewrite, postread, postwrite}
-use Rattle.run_set.specs.Edges.{in_run, member, NoneIn, Rises}
+use Rattle.run_set.specs.Edges.{is_inside_run, member, NoneIn, Rises}
 use Rattle.busdma_rules.specs.declared.position.Position.{Position}
 use Rattle.busdma_rules.specs.Lending.Loans.{Loan, addresses_of, new_loan}
-use Rattle.busdma_rules.specs.Lending.Loans.{stands_twice, to_write, unlent_positions as unlent}
+use Rattle.busdma_rules.specs.Lending.Loans.{stands_twice, to_write, unlent_positions}
 use Rattle.loan_table.specs.Kinds.{unlent_refusal}
-use Rattle.busdma_rules.specs.Lending.Syncing.{marked, marked_range}
+use Rattle.busdma_rules.specs.Lending.SyncEffects.{marked, marked_range}
 use Rattle.loan_table.specs.Rows.{alike, lent_like, placed, stands, AreAlike}
 use Rattle.busdma_rules.proofs.Lending.Marking.{three_parts}
 use Rattle.loan_table.proofs.Pieces.{two_parts}
@@ -99,16 +99,16 @@ span_alike r w bytes at n p f g =
     ∙ ap (lent_like p) (sym (bytes_between r w at n bytes))
 
 -- positions under the empty sets are lent in no way
-pub none_placed : (at : ℕ) (bytes : List ℕ) → placed (member []) (member []) at bytes ≡ unlent bytes
+pub none_placed : (at : ℕ) (bytes : List ℕ) → placed (member []) (member []) at bytes ≡ unlent_positions bytes
 none_placed at [] = refl
 none_placed at (a ∷ bytes) = ap (λ xs. position a false false ∷ xs) (none_placed (at + 1) bytes)
 
 pub none_among : (r w bytes : List ℕ) → r ≡ [] → w ≡ [] → placed (member r) (member w) 0 bytes
-    ≡ unlent (addresses_of (placed (member r) (member w) 0 bytes))
+    ≡ unlent_positions (addresses_of (placed (member r) (member w) 0 bytes))
 none_among r w bytes e f =
-    rw (e, f) (none_placed 0 bytes ∙ ap unlent (sym (addresses_of-placed (member []) (member []) 0 bytes)))
+    rw (e, f) (none_placed 0 bytes ∙ ap unlent_positions (sym (addresses_of-placed (member []) (member []) 0 bytes)))
 
-pub none_to_write : (bytes : List ℕ) → filter to_write (unlent bytes) ≡ []
+pub none_to_write : (bytes : List ℕ) → filter to_write (unlent_positions bytes) ≡ []
 none_to_write [] = refl
 none_to_write (a ∷ bytes) = none_to_write bytes
 
@@ -125,18 +125,18 @@ map-marked ops r w at [] = refl
 map-marked ops r w at (a ∷ bytes) =
     ap (λ xs. position a (read_after ops r at) (write_after ops w at) ∷ xs) (map-marked ops r w (at + 1) bytes)
 
-inside : (s e a : ℕ) → s ≤ a → a + 1 ≤ e → in_run s e a ≡ true
+inside : (s e a : ℕ) → s ≤ a → a + 1 ≤ e → is_inside_run s e a ≡ true
 inside s e a p q = grind (arith, nat_tests)
 
-before : (s e a : ℕ) → a + 1 ≤ s → in_run s e a ≡ false
+before : (s e a : ℕ) → a + 1 ≤ s → is_inside_run s e a ≡ false
 before s e a p = grind (arith, nat_tests)
 
-behind : (s e a : ℕ) → e ≤ a → in_run s e a ≡ false
+behind : (s e a : ℕ) → e ≤ a → is_inside_run s e a ≡ false
 behind s e a p = grind (arith, nat_tests)
 
 module _ (ops off len : ℕ) (r w s v : ℕ → Bool) (bytes : List ℕ)
-    (p : (n : ℕ) → s n ≡ (if in_run off (off + len) n then read_after ops r n else r n))
-    (q : (n : ℕ) → v n ≡ (if in_run off (off + len) n then write_after ops w n else w n)) where
+    (p : (n : ℕ) → s n ≡ (if is_inside_run off (off + len) n then read_after ops r n else r n))
+    (q : (n : ℕ) → v n ≡ (if is_inside_run off (off + len) n then write_after ops w n else w n)) where
   chosen : (f g : ℕ → Bool) (n : ℕ) (b c : Bool) → b ≡ c → (if b then f n else g n) ≡ (if c then f n else g n)
   chosen f g n b c e = ap (λ t. if t then f n else g n) e
 
@@ -233,7 +233,8 @@ none_unlent : (name : ReportName) (r w : ℕ → Bool) (place at : ℕ) (bytes :
     NoneIn w false at (at + length bytes) → judged (unlent_refusal name) place (placed r w at bytes) ≡ Fine
 none_unlent name r w place at [] none = refl
 none_unlent name r w place at (b ∷ bytes) none =
-    ap (λ t. refused_or (if t then None else Some name) place (judged (unlent_refusal name) (place + 1) (placed r w (at + 1) bytes)))
+    ap (λ t. refused_or (if t then None else Some name) place
+    (judged (unlent_refusal name) (place + 1) (placed r w (at + 1) bytes)))
     (none at (omega arith) (omega arith))
     ∙ none_unlent name r w (place + 1) (at + 1) bytes (λ n p q. none n (omega arith) (omega arith))
 
@@ -244,13 +245,15 @@ some_unlent name r w place at [] k short is none = absurd (omega arith)
 some_unlent name r w place at (b ∷ bytes) zero short is none =
     let here : at + zero ≡ at = omega arith in
     let first : place ≡ place + zero = omega arith in
-    ap (λ t. refused_or (if t then None else Some name) place (judged (unlent_refusal name) (place + 1) (placed r w (at + 1) bytes)))
+    ap (λ t. refused_or (if t then None else Some name) place
+    (judged (unlent_refusal name) (place + 1) (placed r w (at + 1) bytes)))
     (sym (ap w here) ∙ is)
     ∙ ap (λ n. Refused (record { name = name; at = n })) first
 some_unlent name r w place at (b ∷ bytes) (suc k) short is none =
     let on : at + suc k ≡ at + 1 + k = omega arith in
     let later : place + 1 + k ≡ place + suc k = omega arith in
-    ap (λ t. refused_or (if t then None else Some name) place (judged (unlent_refusal name) (place + 1) (placed r w (at + 1) bytes)))
+    ap (λ t. refused_or (if t then None else Some name) place
+    (judged (unlent_refusal name) (place + 1) (placed r w (at + 1) bytes)))
     (none at (omega arith) (omega arith))
     ∙ some_unlent name r w (place + 1) (at + 1) bytes k (omega arith) (sym (ap w on) ∙ is)
     (λ n p q. none n (omega arith) (omega arith))

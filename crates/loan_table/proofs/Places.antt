@@ -1,5 +1,6 @@
 -- At how many places of a list a byte is.
-use Rattle.std.proofs.Common.{◌≡◌, ℕ, zero, suc, ◌+◌, ◌-◌, ◌≤◌, ◌<◌, ◌^◌, ◌==◌, Bool, true, false, cond, List, [], ◌∷◌, ◌++◌, refl}
+use Rattle.std.proofs.Common.{◌≡◌, ℕ, zero, suc, ◌+◌, ◌-◌, ◌≤◌, ◌<◌, ◌^◌, ◌==◌, Bool, true, false, cond, List, [], ◌∷◌}
+use Rattle.std.proofs.Common.{◌++◌, refl}
 use Rattle.std.proofs.Common.{length, sym, ap, ◌∙◌, arith, Option, Some, None, nat_lt}
 use Rattle.std.proofs.lemmas.Bool.{le-ltb, ltb-true, ltb-false}
 use Rattle.std.proofs.lemmas.Bool.Decides.{nat_tests}
@@ -8,7 +9,7 @@ use Rattle.std.proofs.lemmas.List.Elements.{All-head, All-tail}
 use Rattle.std.proofs.lemmas.List.Sums.{sum_by-cons, sum_by-append}
 use Rattle.std.specs.List.{All}
 use Rattle.run_set.specs.Counts.{Counts, count, changed}
-use Rattle.run_set.specs.Edges.{in_run, NoneIn}
+use Rattle.run_set.specs.Edges.{is_inside_run, NoneIn}
 use Rattle.busdma_machine.specs.declared.machine.address.Extent.{Extent}
 use Rattle.busdma_machine.specs.Runs.{addresses, run_of}
 use Rattle.busdma_rules.specs.declared.position.Position.{Position}
@@ -20,21 +21,21 @@ use Rattle.loan_table.specs.Rows.{stands, AreCounted, CountsPlaces}
 places-cons : (a b : ℕ) (bs : List ℕ) → count_by (λ x. x == a) (b ∷ bs) ≡ cond (b == a) 1 0 + count_by (λ x. x == a) bs
 places-cons a b bs = sum_by-cons (λ x. cond (x == a) 1 0) b bs
 
-pub places-run : (a s n : ℕ) → count_by (λ x. x == a) (run_of s n) ≡ cond (in_run s (s + n) a) 1 0
-places-run a s zero = ap (λ b. cond b 1 0) (let x : false ≡ in_run s (s + 0) a = grind (arith, nat_tests) in x)
+pub places-run : (a s n : ℕ) → count_by (λ x. x == a) (run_of s n) ≡ cond (is_inside_run s (s + n) a) 1 0
+places-run a s zero = ap (λ b. cond b 1 0) (let x : false ≡ is_inside_run s (s + 0) a = grind (arith, nat_tests) in x)
 places-run a s (suc n) =
     places-cons a s (run_of (s + 1) n) ∙ ap (λ k. cond (s == a) 1 0 + k) (places-run a (s + 1) n)
-    ∙ joined a s n (s == a) (in_run (s + 1) (s + 1 + n) a) refl refl
+    ∙ joined a s n (s == a) (is_inside_run (s + 1) (s + 1 + n) a) refl refl
   where
-    joined : (a s n : ℕ) (b t : Bool) → (s == a) ≡ b → in_run (s + 1) (s + 1 + n) a ≡ t →
-        cond b 1 0 + cond t 1 0 ≡ cond (in_run s (s + suc n) a) 1 0
+    joined : (a s n : ℕ) (b t : Bool) → (s == a) ≡ b → is_inside_run (s + 1) (s + 1 + n) a ≡ t →
+        cond b 1 0 + cond t 1 0 ≡ cond (is_inside_run s (s + suc n) a) 1 0
     joined a s n true true e h = absurd (grind (arith, nat_tests))
     joined a s n true false e h =
-        ap (λ b. cond b 1 0) (let x : true ≡ in_run s (s + suc n) a = grind (arith, nat_tests) in x)
+        ap (λ b. cond b 1 0) (let x : true ≡ is_inside_run s (s + suc n) a = grind (arith, nat_tests) in x)
     joined a s n false true e h =
-        ap (λ b. cond b 1 0) (let x : true ≡ in_run s (s + suc n) a = grind (arith, nat_tests) in x)
+        ap (λ b. cond b 1 0) (let x : true ≡ is_inside_run s (s + suc n) a = grind (arith, nat_tests) in x)
     joined a s n false false e h =
-        ap (λ b. cond b 1 0) (let x : false ≡ in_run s (s + suc n) a = grind (arith, nat_tests) in x)
+        ap (λ b. cond b 1 0) (let x : false ≡ is_inside_run s (s + suc n) a = grind (arith, nat_tests) in x)
 
 more : (n : ℕ) (b : Bool) → n + cond b 1 0 ≡ changed true b n
 more n true = refl
@@ -42,12 +43,12 @@ more n false = omega arith
 
 -- a loop that counts the places of a list of bytes, at a run of them and at its end
 pub places_step : (old new : Counts) (all a s n : ℕ) (bytes rest : List ℕ) → bytes ≡ run_of s n ++ rest →
-    count new a ≡ changed true (in_run s (s + n) a) (count old a)
+    count new a ≡ changed true (is_inside_run s (s + n) a) (count old a)
     → count old a + count_by (λ x. x == a) bytes ≡ all → count new a + count_by (λ x. x == a) rest ≡ all
 places_step old new all a s n bytes rest e c h =
-    let here : count new a ≡ count old a + cond (in_run s (s + n) a) 1 0 =
-    c ∙ sym (more (count old a) (in_run s (s + n) a)) in
-    let run : count_by (λ x. x == a) (run_of s n) ≡ cond (in_run s (s + n) a) 1 0 = places-run a s n in
+    let here : count new a ≡ count old a + cond (is_inside_run s (s + n) a) 1 0 =
+    c ∙ sym (more (count old a) (is_inside_run s (s + n) a)) in
+    let run : count_by (λ x. x == a) (run_of s n) ≡ cond (is_inside_run s (s + n) a) 1 0 = places-run a s n in
     let parts : count_by (λ x. x == a) bytes ≡ count_by (λ x. x == a) (run_of s n) + count_by (λ x. x == a) rest =
     ap (λ xs. count_by (λ x. x == a) xs) e ∙ sum_by-append (λ x. cond (x == a) 1 0) (run_of s n) rest in
     omega arith
@@ -76,7 +77,7 @@ uncounted_at (Some p) bytes a e counted = absurd (cc)
 
 -- how often a byte is in a list that begins with a run
 pub stands_ahead : (a s n : ℕ) (bytes rest : List ℕ) → bytes ≡ run_of s n ++ rest →
-    count_by (λ x. x == a) bytes ≡ cond (in_run s (s + n) a) 1 0 + count_by (λ x. x == a) rest
+    count_by (λ x. x == a) bytes ≡ cond (is_inside_run s (s + n) a) 1 0 + count_by (λ x. x == a) rest
 stands_ahead a s n bytes rest e =
     ap (λ xs. count_by (λ x. x == a) xs) e ∙ sum_by-append (λ x. cond (x == a) 1 0) (run_of s n) rest
     ∙ ap (λ k. k + count_by (λ x. x == a) rest) (places-run a s n)
@@ -84,7 +85,8 @@ stands_ahead a s n bytes rest e =
 -- a byte is at most once in one stretch
 pub stands_once : (stretches : List Extent) (a : ℕ) → length stretches ≤ 1 → stands a (addresses stretches) ≤ 1
 stands_once [] a few = omega arith
-stands_once (e ∷ []) a few = omega (arith, stands_ahead a e.pa.0 e.len _ [] refl, one (in_run e.pa.0 (e.pa.0 + e.len) a))
+stands_once (e ∷ []) a few =
+    omega (arith, stands_ahead a e.pa.0 e.len _ [] refl, one (is_inside_run e.pa.0 (e.pa.0 + e.len) a))
   where
     one : (b : Bool) → ◌≤◌ (cond b 1 0) 1
     one true = omega arith
@@ -99,11 +101,11 @@ stands_past (e ∷ es) a ends p =
     omega (
       arith,
       stands_ahead a e.pa.0 e.len _ (addresses es) refl,
-      here (in_run e.pa.0 (e.pa.0 + e.len) a) refl,
+      here (is_inside_run e.pa.0 (e.pa.0 + e.len) a) refl,
       stands_past es a (All-tail Ends e es ends) p,
     )
   where
-    here : (b : Bool) → in_run e.pa.0 (e.pa.0 + e.len) a ≡ b → ◌≡◌ {A = ℕ} (cond b 1 0) 0
+    here : (b : Bool) → is_inside_run e.pa.0 (e.pa.0 + e.len) a ≡ b → ◌≡◌ {A = ℕ} (cond b 1 0) 0
     here false is = refl
     here true is =
         let from : e.pa.0 ≤ a = grind (arith, nat_tests) in
@@ -118,12 +120,14 @@ stand_once stretches places ends counts none a = by (nat_lt a (2 ^ 64 - 1)) refl
   where
     by : (b : Bool) → nat_lt a (2 ^ 64 - 1) ≡ b → stands a (addresses stretches) ≤ 1
     by true is =
-        let few : count places a ≤ 1 = ltb-false 1 (count places a) (none a (omega arith) (ltb-true a (2 ^ 64 - 1) is)) in
+        let few : count places a ≤ 1 =
+        ltb-false 1 (count places a) (none a (omega arith) (ltb-true a (2 ^ 64 - 1) is)) in
         omega (arith, few, counts a)
     by false is = omega (arith, stands_past stretches a ends (omega (arith, ltb-false a (2 ^ 64 - 1) is)))
 
-pub stands_here : (a s n : ℕ) → s ≤ a → a < s + n → ◌≡◌ {A = ℕ} (cond (in_run s (s + n) a) 1 0) 1
-stands_here a s n p q = let x : in_run s (s + n) a ≡ true = grind (arith, nat_tests) in ap {B = ℕ} (λ b. cond b 1 0) x
+pub stands_here : (a s n : ℕ) → s ≤ a → a < s + n → ◌≡◌ {A = ℕ} (cond (is_inside_run s (s + n) a) 1 0) 1
+stands_here a s n p q = let x : is_inside_run s (s + n) a ≡ true = grind (arith, nat_tests) in
+    ap {B = ℕ} (λ b. cond b 1 0) x
 
 -- a loop that adds 1 to the count of each byte of a list, or subtracts 1, at a run of them
 pub counted_on : (up here : Bool) (old new all bytes rest start : ℕ) → new ≡ changed up here old →

@@ -15,7 +15,7 @@ use Rattle.loan_table.specs.declared.lent.LentCounts.{LentCounts}
 use Rattle.loan_table.specs.Counted.{counts_of, HasChanges, HasCountRoom, UsesChanges}
 use Rattle.loan_table.specs.Kept.{HasRoom, position_count}
 use Rattle.busdma_machine.specs.Machine.Wire.{stretch}
-use Rattle.busdma_rules.specs.Lending.Syncing.{marked_range}
+use Rattle.busdma_rules.specs.Lending.SyncEffects.{marked_range}
 use Rattle.busdma_rules.specs.Lending.Loans.{Loan, loan_of, addresses_of}
 use Rattle.loan_table.specs.Marks.{Marks}
 use Rattle.loan_table.specs.Table.{extent_count}

@@ -11,13 +11,13 @@ use Rattle.std.specs.FinMap.{FinMap, get, insert, remove, get-insert, get-remove
 use Rattle.std.specs.FinMap.{nat_cmp-IsAntisymmetric}
 use Rattle.busdma_machine.specs.Runs.{run_of}
 use Rattle.loan_table.specs.Table.{AreIn, is_marked, set_all, without}
-use Rattle.run_set.specs.Edges.{member, differ, odd, in_run, IsKept}
+use Rattle.run_set.specs.Edges.{member, differ, odd, is_inside_run, IsKept}
 use Rattle.loan_table.specs.Marks.{with_option, tabulated, top, mark_of, marks}
 
-in_run_step : (s n a : ℕ) → in_run s (s + suc n) a ≡ (in_run (s + 1) (s + 1 + n) a || eqb a s)
+in_run_step : (s n a : ℕ) → is_inside_run s (s + suc n) a ≡ (is_inside_run (s + 1) (s + 1 + n) a || eqb a s)
 in_run_step s n a = grind (arith, nat_tests)
 
-in_run_none : (s a : ℕ) → in_run s (s + 0) a ≡ false
+in_run_none : (s a : ℕ) → is_inside_run s (s + 0) a ≡ false
 in_run_none s a = grind (arith, nat_tests)
 
 cond_or : {A : Type 0} (x y : Bool) (p o : A) → cond x p (cond y p o) ≡ cond (x || y) p o
@@ -74,17 +74,18 @@ get-marks there known kept a = get-tabulated (mark_of there known) (top there) a
         (sym (member_past there a (ltb-false a (top there) e) ∙ kept.finite))
 
 pub get-set_run : (m : FinMap nat_cmp Bool) (s n : ℕ) (v : Bool) (a : ℕ) →
-    get (set_all m (run_of s n) v) a ≡ cond (in_run s (s + n) a) (Some v) (get m a)
+    get (set_all m (run_of s n) v) a ≡ cond (is_inside_run s (s + n) a) (Some v) (get m a)
 get-set_run m s zero v a = ap (λ b. cond b (Some v) (get m a)) (sym (in_run_none s a))
 get-set_run m s (suc n) v a =
-    get-set_run (insert m s v) (s + 1) n v a ∙ ap (cond (in_run (s + 1) (s + 1 + n) a) (Some v)) (get_inserted m s v a)
-    ∙ cond_or (in_run (s + 1) (s + 1 + n) a) (eqb a s) (Some v) (get m a)
+    get-set_run (insert m s v) (s + 1) n v a ∙ ap (cond (is_inside_run (s + 1) (s + 1 + n) a) (Some v))
+    (get_inserted m s v a)
+    ∙ cond_or (is_inside_run (s + 1) (s + 1 + n) a) (eqb a s) (Some v) (get m a)
     ∙ ap (λ b. cond b (Some v) (get m a)) (sym (in_run_step s n a))
 
 -- a run of bytes is there and marked, as finite maps say
 module _ (there there' known known' : List ℕ) (s n : ℕ) (v : Bool) (kept : IsKept there) (kept' : IsKept there')
-    (added : (a : ℕ) → member there' a ≡ (if in_run s (s + n) a then true else member there a))
-    (set : (a : ℕ) → member known' a ≡ (if in_run s (s + n) a then v else member known a)) where
+    (added : (a : ℕ) → member there' a ≡ (if is_inside_run s (s + n) a then true else member there a))
+    (set : (a : ℕ) → member known' a ≡ (if is_inside_run s (s + n) a then v else member known a)) where
   one_mark : (a : ℕ) (b : Bool) → cond (if b then true else member there a) (Some (if b then v else member known a))
       None ≡ cond b (Some v) (mark_of there known a)
   one_mark a true = refl
@@ -92,24 +93,24 @@ module _ (there there' known known' : List ℕ) (s n : ℕ) (v : Bool) (kept : I
 
   pub marks_set : marks there' known' ≡ set_all (marks there known) (run_of s n) v
   marks_set = same_map nat_cmp_total nat_cmp-IsAntisymmetric _ _ (λ a.
-      get-marks there' known' kept' a ∙ rw (added a, set a) (one_mark a (in_run s (s + n) a))
+      get-marks there' known' kept' a ∙ rw (added a, set a) (one_mark a (is_inside_run s (s + n) a))
       ∙ sym (get-set_run (marks there known) s n v a
-      ∙ ap (cond (in_run s (s + n) a) (Some v)) (get-marks there known kept a)))
+      ∙ ap (cond (is_inside_run s (s + n) a) (Some v)) (get-marks there known kept a)))
 
 -- a run of bytes is gone, as finite maps say
 get_removed : (m : FinMap nat_cmp Bool) (k a : ℕ) → get (remove m k) a ≡ cond (eqb a k) None (get m a)
 get_removed m k a = get-remove nat_cmp_total m k a ∙ ap (λ b. cond b None (get m a)) (unsigned_tied a k)
 
 pub get-without_run : (m : FinMap nat_cmp Bool) (s n a : ℕ) →
-    get (without m (run_of s n)) a ≡ cond (in_run s (s + n) a) None (get m a)
+    get (without m (run_of s n)) a ≡ cond (is_inside_run s (s + n) a) None (get m a)
 get-without_run m s zero a = ap (λ b. cond b None (get m a)) (sym (in_run_none s a))
 get-without_run m s (suc n) a =
-    get-without_run (remove m s) (s + 1) n a ∙ ap (cond (in_run (s + 1) (s + 1 + n) a) None) (get_removed m s a)
-    ∙ cond_or (in_run (s + 1) (s + 1 + n) a) (eqb a s) None (get m a)
+    get-without_run (remove m s) (s + 1) n a ∙ ap (cond (is_inside_run (s + 1) (s + 1 + n) a) None) (get_removed m s a)
+    ∙ cond_or (is_inside_run (s + 1) (s + 1 + n) a) (eqb a s) None (get m a)
     ∙ ap (λ b. cond b None (get m a)) (sym (in_run_step s n a))
 
 module _ (there there' known : List ℕ) (s n : ℕ) (kept : IsKept there) (kept' : IsKept there')
-    (gone : (a : ℕ) → member there' a ≡ (if in_run s (s + n) a then false else member there a)) where
+    (gone : (a : ℕ) → member there' a ≡ (if is_inside_run s (s + n) a then false else member there a)) where
   no_mark : (a : ℕ) (b : Bool) → cond (if b then false else member there a) (Some (member known a)) None
       ≡ cond b None (mark_of there known a)
   no_mark a true = refl
@@ -117,9 +118,9 @@ module _ (there there' known : List ℕ) (s n : ℕ) (kept : IsKept there) (kept
 
   pub marks_without : marks there' known ≡ without (marks there known) (run_of s n)
   marks_without = same_map nat_cmp_total nat_cmp-IsAntisymmetric _ _ (λ a.
-      get-marks there' known kept' a ∙ rw (gone a) (no_mark a (in_run s (s + n) a))
+      get-marks there' known kept' a ∙ rw (gone a) (no_mark a (is_inside_run s (s + n) a))
       ∙ sym (get-without_run (marks there known) s n a
-      ∙ ap (cond (in_run s (s + n) a) None) (get-marks there known kept a)))
+      ∙ ap (cond (is_inside_run s (s + n) a) None) (get-marks there known kept a)))
 
 -- a byte is in the table exactly if the set of those that are there has it
 pub there_by_marks : (there known : List ℕ) → IsKept there → (a : ℕ) →
@@ -142,10 +143,10 @@ run_is_there there known kept s (suc n) h a p q =
     at_test false e rest = rest (let x : (a ≡ s → ⊥) = (λ is. grind (arith, nat_tests)) in omega arith) (omega arith)
 
 pub run_stays : (there known : List ℕ) → IsKept there → (s n : ℕ) → AreIn (marks there known) (run_of s n) → (a : ℕ) →
-    member there a ≡ (if in_run s (s + n) a then true else member there a)
-run_stays there known kept s n h a = at_test (in_run s (s + n) a) refl
+    member there a ≡ (if is_inside_run s (s + n) a then true else member there a)
+run_stays there known kept s n h a = at_test (is_inside_run s (s + n) a) refl
   where
-    at_test : (b : Bool) → in_run s (s + n) a ≡ b → member there a ≡ (if b then true else member there a)
+    at_test : (b : Bool) → is_inside_run s (s + n) a ≡ b → member there a ≡ (if b then true else member there a)
     at_test true e = run_is_there there known kept s n h a (grind (arith, nat_tests)) (grind (arith, nat_tests))
     at_test false e = refl
 

@@ -15,11 +15,12 @@ use Rattle.loan_table.specs.declared.row.Way.{Way}
 use Rattle.loan_table.specs.declared.row.Way.TheVariants.{ToWrite, ToRead}
 use Rattle.loan_table.specs.declared.access.Access.{Access}
 use Rattle.loan_table.specs.declared.access.Access.TheVariants.{Read, Write}
-use Rattle.loan_table.specs.Counted.{counts_of, places, lent_places, IsCounted, IsOf, IsPlaced, IsUnlent, Lender}
+use Rattle.loan_table.specs.Counted.{counts_of, counted_places, lent_places, IsCounted}
+use Rattle.loan_table.specs.Counted.{IsOf, IsCountPlaced, IsUnlent, Lender}
 use Rattle.loan_table.specs.Kinds.{cpu_refusal, dev_refusal, test_of}
 use Rattle.std.specs.Option.{option_or}
 use Rattle.busdma_rules.specs.Tags.SyncOps.{preread, prewrite, postread}
-use Rattle.busdma_rules.specs.Lending.Syncing.{postread_refusal, preread_refusal, prewrite_refusal, sync_refusal}
+use Rattle.busdma_rules.specs.Lending.SyncEffects.{postread_refusal, preread_refusal, prewrite_refusal, sync_refusal}
 use Rattle.busdma_rules.specs.Lending.Loans.{Loan, Loans, in_any_way, lent, lent_elsewhere, loan_of, stands_twice}
 use Rattle.busdma_rules.specs.Lending.Loans.{to_read, to_write}
 use Rattle.loan_table.proofs.Pieces.{lent_as, none_refused, same_way}
@@ -28,12 +29,12 @@ use Rattle.loan_table.proofs.Totals.{elsewhere_any, elsewhere_counted, lent_any,
 
 -- a sync call is refused alike at two bytes that are lent alike
 module _ (counts : LentCounts) (loan : Loan) (lender : Lender) (of : IsOf counts loan lender) (p : Position) (a : ℕ)
-    (here : IsPlaced loan (lent_as p p.pa)) (there : IsPlaced loan (lent_as p a))
+    (here : IsCountPlaced loan (lent_as p p.pa)) (there : IsCountPlaced loan (lent_as p a))
     (alone : stands_twice p.pa loan ≡ true → IsUnlent counts p.pa)
     (twice : stands_twice a loan ≡ stands_twice p.pa loan)
     (same : (way : Way) → count (counts_of counts way) a ≡ count (counts_of counts way) p.pa) where
   own : stands_twice p.pa loan ≡ false → (way : Way) →
-      places (test_of way) a loan.positions ≡ places (test_of way) p.pa loan.positions
+      counted_places (test_of way) a loan.positions ≡ counted_places (test_of way) p.pa loan.positions
   own once way =
       there (twice ∙ once) way
       ∙ ap (λ b. cond b 1 0) (same_way way p a ∙ sym (same_way way p p.pa)) ∙ sym (here once way)
@@ -43,12 +44,14 @@ module _ (counts : LentCounts) (loan : Loan) (lender : Lender) (of : IsOf counts
       ≡ lent_elsewhere (test_of way) lender.map p.pa lender.loans
   elsewhere once way =
       elsewhere_counted (test_of way) a lender.loans lender.map
-      ∙ ap (λ n. nat_lt (places (test_of way) a (loan_of lender.loans lender.map).positions) n)
+      ∙ ap (λ n. nat_lt (counted_places (test_of way) a (loan_of lender.loans lender.map).positions) n)
       (sym (of.0 way a) ∙ same way ∙ of.0 way p.pa)
-      ∙ ap (λ (l : Loan). nat_lt (places (test_of way) a l.positions) (lent_places (test_of way) p.pa lender.loans))
+      ∙ ap (λ (l : Loan). nat_lt (counted_places (test_of way) a l.positions)
+      (lent_places (test_of way) p.pa lender.loans))
       (sym of.1)
       ∙ ap (λ n. nat_lt n (lent_places (test_of way) p.pa lender.loans)) (own once way)
-      ∙ ap (λ (l : Loan). nat_lt (places (test_of way) p.pa l.positions) (lent_places (test_of way) p.pa lender.loans))
+      ∙ ap (λ (l : Loan). nat_lt (counted_places (test_of way) p.pa l.positions)
+      (lent_places (test_of way) p.pa lender.loans))
       of.1
       ∙ sym (elsewhere_counted (test_of way) p.pa lender.loans lender.map)
 
@@ -59,7 +62,7 @@ module _ (counts : LentCounts) (loan : Loan) (lender : Lender) (of : IsOf counts
       lent_elsewhere (test_of way) lender.map b lender.loans ≡ false
   unlent b none way =
       elsewhere_counted (test_of way) b lender.loans lender.map
-      ∙ none_above (places (test_of way) b (loan_of lender.loans lender.map).positions)
+      ∙ none_above (counted_places (test_of way) b (loan_of lender.loans lender.map).positions)
       (lent_places (test_of way) b lender.loans) (sym (of.0 way b) ∙ none way)
 
   either : (t : Bool) → stands_twice p.pa loan ≡ t → (way : Way) →
@@ -145,6 +148,7 @@ met_by_ends loans m ops b p e f g =
     ∙ ap (λ z. option_or (if b then postread_refusal p else None) (if z then preread_refusal loans m p else None)) g
     ∙ left b
   where
-    left : (c : Bool) → option_or (if c then postread_refusal p else None) None ≡ (if c then postread_refusal p else None)
+    left : (c : Bool) → option_or (if c then postread_refusal p else None) None
+        ≡ (if c then postread_refusal p else None)
     left true = alone (postread_refusal p)
     left false = refl

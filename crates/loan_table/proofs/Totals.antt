@@ -15,7 +15,7 @@ use Rattle.std.specs.FinMap.{same_map, nat_cmp-IsAntisymmetric}
 use Rattle.busdma_rules.specs.declared.position.Position.{Position}
 use Rattle.busdma_rules.specs.Lending.Loans.{Loan, Loans, loan_of, no_loan, in_any_way, is_at, lends, lent}
 use Rattle.busdma_rules.specs.Lending.Loans.{lent_elsewhere, to_read, to_write}
-use Rattle.loan_table.specs.Counted.{places, lent_places}
+use Rattle.loan_table.specs.Counted.{counted_places, lent_places}
 use Rattle.busdma_rules.proofs.Lending.Marking.{loan_of-insert}
 
 -- a test of a list holds if and only if a sum over the list is not 0
@@ -33,7 +33,7 @@ one true = refl
 one false = refl
 
 pub lends_places : (way : Position → Bool) (a : ℕ) (loan : Loan) → lends way a loan ≡ nat_lt 0
-    (places way a loan.positions)
+    (counted_places way a loan.positions)
 lends_places way a loan = any_sum (λ p. is_at a p && way p) (λ p. cond (is_at a p && way p) 1 0)
     (λ p. one (is_at a p && way p)) loan.positions
 
@@ -118,14 +118,16 @@ entries-remove loans m =
     ∙ entries-from_sorted nat_cmp es sorted
 
 module _ (way : Position → Bool) (a : ℕ) (loans : Loans) (m : ℕ) where
-  pub places-remove : lent_places way a (remove loans m) + places way a (loan_of loans m).positions
+  pub places-remove : lent_places way a (remove loans m) + counted_places way a (loan_of loans m).positions
       ≡ lent_places way a loans
   places-remove =
-      ap (λ es. sum_by (λ (e : ℕ × Loan). places way a e.1.positions) es + places way a (loan_of loans m).positions)
+      ap (λ es. sum_by (λ (e : ℕ × Loan). counted_places way a e.1.positions) es
+      + counted_places way a (loan_of loans m).positions)
       (entries-remove loans m)
-      ∙ ap (λ o. sum_by (λ (e : ℕ × Loan). places way a e.1.positions) (where_key nat_cmp (others m) (entries loans))
-      + places way a (unwrap_or o no_loan).positions) (get-entries loans m)
-      ∙ taken (λ l. places way a l.positions) refl m (entries loans) (entries_sorted loans)
+      ∙ ap (λ o. sum_by (λ (e : ℕ × Loan). counted_places way a e.1.positions)
+      (where_key nat_cmp (others m) (entries loans))
+      + counted_places way a (unwrap_or o no_loan).positions) (get-entries loans m)
+      ∙ taken (λ l. counted_places way a l.positions) refl m (entries loans) (entries_sorted loans)
 
   back : (new : Loan) → remove (insert loans m new) m ≡ remove loans m
   back new = same_map nat_cmp_total nat_cmp-IsAntisymmetric _ _ (λ q.
@@ -142,13 +144,13 @@ module _ (way : Position → Bool) (a : ℕ) (loans : Loans) (m : ℕ) where
       ∙ ap (λ b. cond b new (loan_of loans m)) (unsigned_tied m m ∙ nat_eq_equiv.refl m)
 
 pub places-insert : (way : Position → Bool) (a : ℕ) (loans : Loans) (m : ℕ) (new : Loan) →
-    lent_places way a (insert loans m new) + places way a (loan_of loans m).positions
-    ≡ lent_places way a loans + places way a new.positions
+    lent_places way a (insert loans m new) + counted_places way a (loan_of loans m).positions
+    ≡ lent_places way a loans + counted_places way a new.positions
 places-insert way a loans m new =
-    let put : lent_places way a (remove loans m) + places way a new.positions ≡ lent_places way a
+    let put : lent_places way a (remove loans m) + counted_places way a new.positions ≡ lent_places way a
     (insert loans m new) =
-    ap (λ ls. lent_places way a ls + places way a new.positions) (sym (back way a loans m new))
-    ∙ ap (λ l. lent_places way a (remove (insert loans m new) m) + places way a l.positions)
+    ap (λ ls. lent_places way a ls + counted_places way a new.positions) (sym (back way a loans m new))
+    ∙ ap (λ l. lent_places way a (remove (insert loans m new) m) + counted_places way a l.positions)
     (sym (here way a loans m new))
     ∙ places-remove way a (insert loans m new) m in
     omega (arith, put, places-remove way a loans m)
@@ -156,7 +158,7 @@ places-insert way a loans m new =
 -- a byte is lent exactly if it is counted, and lent elsewhere exactly if it is counted more often than here
 pub lent_counted : (way : Position → Bool) (a : ℕ) (loans : Loans) → lent way a loans ≡ nat_lt 0
     (lent_places way a loans)
-lent_counted way a loans = any_sum (λ e. lends way a e.1) (λ e. places way a e.1.positions)
+lent_counted way a loans = any_sum (λ e. lends way a e.1) (λ e. counted_places way a e.1.positions)
     (λ e. lends_places way a e.1) (entries loans)
 
 pub is_lent : (way : Position → Bool) (a : ℕ) (loans : Loans) (n : ℕ) → n ≡ lent_places way a loans → 0 < n →
@@ -189,7 +191,7 @@ less : (a b c : ℕ) → a + b ≡ c → nat_lt 0 a ≡ nat_lt b c
 less a b c e = grind (arith, nat_tests)
 
 pub elsewhere_counted : (way : Position → Bool) (a : ℕ) (loans : Loans) (m : ℕ) →
-    lent_elsewhere way m a loans ≡ nat_lt (places way a (loan_of loans m).positions) (lent_places way a loans)
+    lent_elsewhere way m a loans ≡ nat_lt (counted_places way a (loan_of loans m).positions) (lent_places way a loans)
 elsewhere_counted way a loans m =
     any_where (lends way a) m (entries loans)
     ∙ ap (list_any (λ e. lends way a e.1)) (sym (entries-remove loans m))

@@ -1,5 +1,6 @@
 -- Bytes that no map lends.
-use Rattle.std.proofs.Common.{◌≡◌, ℕ, zero, suc, ◌+◌, ◌-◌, ◌≤◌, ◌<◌, ◌&&◌, ◌||◌, not, ◌==◌, Bool, true, false, cond, if◌then◌else◌}
+use Rattle.std.proofs.Common.{◌≡◌, ℕ, zero, suc, ◌+◌, ◌-◌, ◌≤◌, ◌<◌, ◌&&◌, ◌||◌, not, ◌==◌, Bool, true, false, cond}
+use Rattle.std.proofs.Common.{if◌then◌else◌}
 use Rattle.std.proofs.Common.{List, [], ◌∷◌, ◌++◌, length, take, drop, get_or, nat_lt, Option, Some, None}
 use Rattle.std.proofs.Common.{refl, sym, ap, ◌∙◌, subst, arith}
 use Rattle.std.proofs.lemmas.Bool.Decides.{nat_tests}
@@ -19,15 +20,16 @@ use Rattle.loan_table.specs.declared.lent.LentCounts.{LentCounts}
 use Rattle.loan_table.specs.declared.row.Way.{Way}
 use Rattle.loan_table.specs.declared.row.Way.TheVariants.{ToWrite, ToRead}
 use Rattle.loan_table.specs.declared.access.Access.TheVariants.{Write}
-use Rattle.loan_table.specs.Counted.{places, lent_places, AreUnlent, IsCounted, IsOf, Lender, MeetsNothing}
+use Rattle.loan_table.specs.Counted.{counted_places, lent_places, AreUnlent}
+use Rattle.loan_table.specs.Counted.{IsCounted, IsOf, Lender, MeetsNothing}
 use Rattle.loan_table.specs.Kinds.{cpu_refusal, test_of}
-use Rattle.busdma_rules.specs.Lending.Syncing.{postread_refusal, preread_refusal, prewrite_refusal, sync_refusal}
+use Rattle.busdma_rules.specs.Lending.SyncEffects.{postread_refusal, preread_refusal, prewrite_refusal, sync_refusal}
 use Rattle.busdma_rules.specs.Lending.Loans.{Loan, Loans, addresses_of, in_any_way, lent, lent_elsewhere, loan_of}
 use Rattle.busdma_rules.specs.Lending.Loans.{stands_twice}
 use Rattle.busdma_rules.specs.Lending.Loans.{to_write}
 use Rattle.loan_table.proofs.Addresses.{run_none}
 use Rattle.loan_table.proofs.Judgement.{length-run_of}
-use Rattle.loan_table.proofs.Marking.{no_position}
+use Rattle.loan_table.proofs.MarkLaws.{no_position}
 use Rattle.loan_table.proofs.Pieces.{two_parts}
 use Rattle.loan_table.proofs.Recounting.{places-cons}
 use Rattle.loan_table.proofs.SameRefusals.{run_passed}
@@ -61,11 +63,11 @@ same_byte : (n : ℕ) → (n == n) ≡ true
 same_byte n = grind (arith, nat_tests)
 
 counted_at : (way : Position → Bool) (ps : List Position) (i : ℕ) → i < length ps →
-    cond (way (get_or ps i no_position)) 1 0 ≤ places way (get_or ps i no_position).pa ps
+    cond (way (get_or ps i no_position)) 1 0 ≤ counted_places way (get_or ps i no_position).pa ps
 counted_at way [] i lt = absurd (omega arith)
 counted_at way (p ∷ ps) zero lt =
-    let first : places way p.pa (p ∷ ps) ≡ cond (way p) 1 0 + places way p.pa ps =
-    places-cons way p.pa p ps ∙ ap (λ b. cond (b && way p) 1 0 + places way p.pa ps) (same_byte p.pa) in
+    let first : counted_places way p.pa (p ∷ ps) ≡ cond (way p) 1 0 + counted_places way p.pa ps =
+    places-cons way p.pa p ps ∙ ap (λ b. cond (b && way p) 1 0 + counted_places way p.pa ps) (same_byte p.pa) in
     omega (arith, first)
 counted_at way (p ∷ ps) (suc i) lt =
     omega (arith, places-cons way (get_or ps i no_position).pa p ps, counted_at way ps i (omega arith))
@@ -103,7 +105,7 @@ module _ (counts : LentCounts) (loan : Loan) (lender : Lender) (of : IsOf counts
 
     not_lent_here : (way : Way) → test_of way p ≡ false
     not_lent_here way =
-        let own = ap (λ (l : Loan). places (test_of way) p.pa l.positions) of.1 in
+        let own = ap (λ (l : Loan). counted_places (test_of way) p.pa l.positions) of.1 in
         not_one (test_of way p) (omega (
           arith,
           own,
@@ -115,7 +117,7 @@ module _ (counts : LentCounts) (loan : Loan) (lender : Lender) (of : IsOf counts
     elsewhere : (way : Way) → lent_elsewhere (test_of way) lender.map p.pa lender.loans ≡ false
     elsewhere way =
         elsewhere_counted (test_of way) p.pa lender.loans lender.map
-        ∙ none_above (places (test_of way) p.pa (loan_of lender.loans lender.map).positions)
+        ∙ none_above (counted_places (test_of way) p.pa (loan_of lender.loans lender.map).positions)
         (lent_places (test_of way) p.pa lender.loans) (none way)
 
     any : lent_elsewhere in_any_way lender.map p.pa lender.loans ≡ false

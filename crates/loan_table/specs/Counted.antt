@@ -3,13 +3,13 @@ use Rattle.std.specs.Prelude.{◌≡◌, ℕ, ◌+◌, ◌≤◌, ◌<◌, ◌&&
 use Rattle.std.specs.List.{All}
 use Rattle.std.specs.FinMap.{entries}
 use Rattle.run_set.specs.Counts.{Counts, count}
-use Rattle.run_set.specs.Edges.{in_run}
+use Rattle.run_set.specs.Edges.{is_inside_run}
 use Rattle.busdma_rules.specs.declared.position.Position.{Position}
 use Rattle.loan_table.specs.declared.lent.LentCounts.{LentCounts}
 use Rattle.loan_table.specs.declared.row.Way.{Way}
 use Rattle.loan_table.specs.declared.row.Way.TheVariants.{ToWrite, ToRead}
 use Rattle.loan_table.specs.Kinds.{test_of}
-use Rattle.busdma_rules.specs.Lending.Syncing.{sync_refusal}
+use Rattle.busdma_rules.specs.Lending.SyncEffects.{sync_refusal}
 use Rattle.busdma_rules.specs.Lending.Loans.{Loan, Loans, loan_of, is_at, stands_twice}
 
 -- the number of a map, and the loans of its driver
@@ -18,26 +18,26 @@ pub record Lender : Type 0 where
   pub map : ℕ
 
 -- at how many positions of a list the byte at an address is lent in a given way
-abbrev pub places : (Position → Bool) → ℕ → List Position → ℕ
-places way a ps = count_by (λ p. is_at a p && way p) ps
+abbrev pub counted_places : (Position → Bool) → ℕ → List Position → ℕ
+counted_places way a ps = count_by (λ p. is_at a p && way p) ps
 
 -- at how many positions of a run of consecutive bytes the byte at an address is lent, if all of them or none
 -- is lent
 abbrev pub places_in : ℕ → ℕ → Bool → ℕ → ℕ
-places_in start len is_lent a = if in_run start (start + len) a && is_lent then 1 else 0
+places_in start len is_lent a = if is_inside_run start (start + len) a && is_lent then 1 else 0
 
 -- at how many positions of all maps the byte at an address is lent in a given way
 abbrev pub lent_places : (Position → Bool) → ℕ → Loans → ℕ
-lent_places way a loans = sum_by (λ e. places way a e.1.positions) (entries loans)
+lent_places way a loans = sum_by (λ e. counted_places way a e.1.positions) (entries loans)
 
 -- these positions lend no byte in any way
 abbrev pub LendsNothing : List Position → Type 0
-LendsNothing ps = (way : Way) (a : ℕ) → places (test_of way) a ps ≡ 0
+LendsNothing ps = (way : Way) (a : ℕ) → counted_places (test_of way) a ps ≡ 0
 
 -- if the byte of a position is only once in the loan, the loan lends it at this position or not at all
-abbrev pub IsPlaced : Loan → Position → Type 0
-IsPlaced loan p =
-    stands_twice p.pa loan ≡ false → (way : Way) → places (test_of way) p.pa loan.positions
+abbrev pub IsCountPlaced : Loan → Position → Type 0
+IsCountPlaced loan p =
+    stands_twice p.pa loan ≡ false → (way : Way) → counted_places (test_of way) p.pa loan.positions
     ≡ (if test_of way p then 1 else 0)
 
 -- the counts for a given way of lending
@@ -54,14 +54,14 @@ abbrev pub IsOf : LentCounts → Loan → Lender → Type 0
 IsOf lent loan lender = IsCounted lent lender.loans × (loan ≡ loan_of lender.loans lender.map)
 
 -- the counts are at least what the positions lend
-abbrev pub Holds : LentCounts → List Position → Type 0
-Holds lent ps = (way : Way) (a : ℕ) → places (test_of way) a ps ≤ count (counts_of lent way) a
+abbrev pub HoldsCount : LentCounts → List Position → Type 0
+HoldsCount lent ps = (way : Way) (a : ℕ) → counted_places (test_of way) a ps ≤ count (counts_of lent way) a
 
 -- the new counts differ from the old ones as if the first positions had been replaced by the second
 abbrev pub IsRecounted : LentCounts → LentCounts → List Position → List Position → Type 0
 IsRecounted old new ps qs =
-    (way : Way) (a : ℕ) → count (counts_of new way) a + places (test_of way) a ps
-    ≡ count (counts_of old way) a + places (test_of way) a qs
+    (way : Way) (a : ℕ) → count (counts_of new way) a + counted_places (test_of way) a ps
+    ≡ count (counts_of old way) a + counted_places (test_of way) a qs
 
 -- two values of the counts agree on each way and byte
 abbrev pub IsAlike : LentCounts → LentCounts → Type 0

@@ -9,7 +9,7 @@ use Rattle.loan_table.specs.declared.losing.Losing.TheVariants.{Call, Forgetting
 use Rattle.loan_table.specs.declared.access.Access.{Access}
 use Rattle.loan_table.specs.declared.access.Access.TheVariants.{Read, Write}
 use Rattle.busdma_rules.specs.Lending.Loans.{Loans, to_read, to_write}
-use Rattle.busdma_rules.specs.Lending.Syncing.{loses}
+use Rattle.busdma_rules.specs.Lending.SyncEffects.{loses}
 use Rattle.busdma_rules.specs.Lending.Access.{cpu_read_refusal, cpu_write_refusal, dev_read_refusal, dev_write_refusal}
 
 -- whether a position is lent in a given way

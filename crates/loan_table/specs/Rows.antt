@@ -60,7 +60,7 @@ pub record IsRoomy (set : Edges) (n : ℕ) : Type 0 where
   pub room : n + 3 ≤ length set.edges + set.room
 
 -- the invariant of each row over its fields
-pub record IsRow (to_read to_write : Edges) (buffer : List ℕ) (extents : ℕ) : Type 0 where
+pub record IsLoanRow (to_read to_write : Edges) (buffer : List ℕ) (extents : ℕ) : Type 0 where
   pub read : IsRoomy to_read (length buffer)
   pub write : IsRoomy to_write (length buffer)
   pub small : length buffer < 2 ^ 64

@@ -8,7 +8,7 @@ use Rattle.busdma_machine.specs.declared.report.Judged.{Judged}
 use Rattle.busdma_machine.specs.declared.report.Judged.TheVariants.{Fine, Refused}
 use Rattle.busdma_rules.specs.declared.position.Position.{Position}
 use Rattle.busdma_rules.specs.Lending.Loans.{Loans, loan_of}
-use Rattle.busdma_rules.specs.Lending.Syncing.{synced, lost}
+use Rattle.busdma_rules.specs.Lending.SyncEffects.{synced, lost}
 
 -- the driver's bytes by physical address, each Known or not; the loans of its loaded maps; the loans that are
 -- prepared for maps to come; and for how many extents there is room to change
@@ -23,8 +23,8 @@ abbrev pub is_marked : FinMap nat_cmp Bool → ℕ → Bool
 is_marked bytes a = unwrap_or (get bytes a) false
 
 -- the byte at an address is Known
-abbrev pub is_known : Table → ℕ → Bool
-is_known t a = is_marked t.bytes a
+abbrev pub is_marked_known : Table → ℕ → Bool
+is_marked_known t a = is_marked t.bytes a
 
 -- the map is in the table and open
 abbrev pub HasMap : Table → ℕ → Type 0

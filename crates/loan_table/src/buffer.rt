@@ -7,7 +7,7 @@ ghost use Rattle.busdma_machine.specs.Runs.{run_of, addresses, byte_count};
 ghost use Rattle.loan_table.specs.Ends.{Ends};
 ghost use Rattle.loan_table.specs.Rows.{stands, starts_from, AreCounted, AreWithin, CountsPlaces, LiesFromTo};
 ghost use Rattle.run_set.specs.Counts.{changed, count};
-ghost use Rattle.run_set.specs.Edges.{in_run};
+ghost use Rattle.run_set.specs.Edges.{is_inside_run};
 
 use busdma_machine::{Extent, Pa};
 use run_set::numbers::count_near;
@@ -327,7 +327,7 @@ fn count_run(places: &mut RunCounts, run: &Extent)
     requires ends { Ends run.now }
     requires room { 1 ≤ places.old.room }
     ensures counts { (a : ℕ) → count places.new a
-        ≡ changed true (in_run run.now.pa.0 (run.now.pa.0 + run.now.len) a) (count places.old a) }
+        ≡ changed true (is_inside_run run.now.pa.0 (run.now.pa.0 + run.now.len) a) (count places.old a) }
     ensures room { places.old.room ≤ places.new.room + 1 }
 {
     places.change(run.pa.0, run.pa.0 + run.len, true);

@@ -4,7 +4,7 @@ ghost use Rattle.std.specs.Prelude.{◌≡◌, ◌+◌, ◌≤◌, ◌<◌, ◌^
 ghost use Rattle.std.specs.List.{All};
 ghost use Rattle.busdma_machine.specs.Runs.{addresses, byte_count};
 ghost use Rattle.loan_table.specs.Ends.{Ends};
-ghost use Rattle.busdma_rules.specs.Lending.Syncing.{marked_range};
+ghost use Rattle.busdma_rules.specs.Lending.SyncEffects.{marked_range};
 ghost use Rattle.busdma_rules.specs.Lending.Loans.{new_loan};
 
 use crate::row::LoanRow;

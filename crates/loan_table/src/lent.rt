@@ -5,12 +5,13 @@ ghost use Rattle.std.specs.List.{All};
 ghost use Rattle.busdma_machine.specs.Machine.Wire.{stretch};
 ghost use Rattle.busdma_machine.specs.Runs.{addresses};
 ghost use Rattle.run_set.specs.Counts.{changed, count};
-ghost use Rattle.run_set.specs.Edges.{in_run};
+ghost use Rattle.run_set.specs.Edges.{is_inside_run};
 ghost use Rattle.loan_table.specs.Ends.{Ends};
-ghost use Rattle.loan_table.specs.Counted.{counts_of, places, HasChanges, Holds, IsAlike, IsRecounted};
+ghost use Rattle.loan_table.specs.Counted.{counts_of, counted_places as places, HasChanges};
+ghost use Rattle.loan_table.specs.Counted.{HoldsCount, IsAlike, IsRecounted};
 ghost use Rattle.loan_table.specs.Counted.{AreUnlent, IsUnlent, UsesChanges};
 ghost use Rattle.loan_table.specs.Kinds.{test_of};
-ghost use Rattle.busdma_rules.specs.Lending.Syncing.{marked};
+ghost use Rattle.busdma_rules.specs.Lending.SyncEffects.{marked};
 ghost use Rattle.busdma_rules.specs.Lending.Loans.{addresses_of};
 ghost use Rattle.loan_table.specs.Rows.{stands, AreAlike};
 
@@ -173,7 +174,7 @@ impl LentCounts {
     /// Counts the positions of a range of a map as a sync call leaves them.
     pub fn mark(&mut self, row: &LoanRow, off: u64, len: u64, ops: SyncOps)
         requires range { off + len ≤ length row.now.positions }
-        requires held { Holds self.old (stretch off len row.now.positions) }
+        requires held { HoldsCount self.old (stretch off len row.now.positions) }
         requires room { HasChanges self.old len }
         ensures counts { let range = stretch off len row.now.positions in
             IsRecounted self.old self.new range (map (marked ops.0) range) }
@@ -193,7 +194,7 @@ impl LentCounts {
     fn recount(&mut self, row: &LoanRow, at: u64, span: &Span, ops: SyncOps)
         requires range { at + span.now.len ≤ length row.now.positions }
         requires alike { AreAlike span.now.first (stretch at span.now.len row.now.positions) }
-        requires held { Holds self.old (stretch at span.now.len row.now.positions) }
+        requires held { HoldsCount self.old (stretch at span.now.len row.now.positions) }
         requires room { HasChanges self.old span.now.len }
         ensures counts { let range = stretch at span.now.len row.now.positions in
             IsRecounted self.old self.new range (map (marked ops.0) range) }
@@ -205,7 +206,7 @@ impl LentCounts {
 
     /// Removes the positions of a map from the counts.
     pub fn forget(&mut self, row: &LoanRow)
-        requires held { Holds self.old row.now.positions }
+        requires held { HoldsCount self.old row.now.positions }
         requires room { HasChanges self.old (length row.now.positions) }
         ensures counts { IsRecounted self.old self.new row.now.positions [] }
         ensures room { UsesChanges self.old self.new (length row.now.positions) }
@@ -277,7 +278,7 @@ fn count_extent(counts: &mut RunCounts, extent: &Extent, up: bool)
     requires held { up ≡ false → (a : ℕ) → extent.now.pa.0 ≤ a → a < extent.now.pa.0 + extent.now.len → 0 < count counts.old a }
     requires room { 1 ≤ counts.old.room }
     ensures counts { (a : ℕ) → count counts.new a
-        ≡ changed up (in_run extent.now.pa.0 (extent.now.pa.0 + extent.now.len) a) (count counts.old a) }
+        ≡ changed up (is_inside_run extent.now.pa.0 (extent.now.pa.0 + extent.now.len) a) (count counts.old a) }
     ensures room { counts.old.room ≤ counts.new.room + 1 }
 {
     counts.change(extent.pa.0, extent.pa.0 + extent.len, up);

@@ -4,7 +4,7 @@ ghost use Rattle.std.specs.Prelude.{◌≡◌, ◌+◌, ◌≤◌, length, false
 ghost use Rattle.std.specs.List.{filter};
 ghost use Rattle.busdma_machine.specs.Machine.Wire.{stretch};
 ghost use Rattle.loan_table.specs.Kinds.{losing_test};
-ghost use Rattle.busdma_rules.specs.Lending.Syncing.{loses};
+ghost use Rattle.busdma_rules.specs.Lending.SyncEffects.{loses};
 ghost use Rattle.busdma_rules.specs.Lending.Loans.{addresses_of};
 ghost use Rattle.loan_table.specs.Rows.{AreAlike};
 ghost use Rattle.loan_table.specs.Table.{AreIn, set_all};

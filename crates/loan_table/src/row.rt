@@ -6,14 +6,15 @@ ghost use Rattle.std.specs.List.{All, filter};
 ghost use Rattle.busdma_machine.specs.Machine.Wire.{stretch};
 ghost use Rattle.busdma_machine.specs.Judging.{judged};
 ghost use Rattle.busdma_machine.specs.Runs.{addresses, byte_count, run_of};
-ghost use Rattle.loan_table.specs.Counted.{places, places_in, HasChanges, Holds, IsPlaced, IsRecounted, UsesChanges};
+ghost use Rattle.loan_table.specs.Counted.{counted_places as places, places_in, HasChanges};
+ghost use Rattle.loan_table.specs.Counted.{HoldsCount, IsCountPlaced, IsRecounted, UsesChanges};
 ghost use Rattle.loan_table.specs.Ends.{Ends};
 ghost use Rattle.loan_table.specs.Kinds.{test_of, unlent_refusal};
-ghost use Rattle.busdma_rules.specs.Lending.Syncing.{marked, marked_range};
+ghost use Rattle.busdma_rules.specs.Lending.SyncEffects.{marked, marked_range};
 ghost use Rattle.busdma_rules.specs.Lending.Loans.{stands_twice, addresses_of, to_write, new_loan, unlent_positions};
 ghost use Rattle.loan_table.specs.Rows.{alike, AreAlike, AreWithin, IsRoomy};
 ghost use Rattle.loan_table.specs.Table.{extent_count, AreIn, set_all};
-ghost use Rattle.run_set.specs.Edges.{in_run, member};
+ghost use Rattle.run_set.specs.Edges.{is_inside_run, member};
 
 use crate::buffer::{Buffer, len_of};
 use crate::extents::extent_count;
@@ -62,7 +63,7 @@ pub struct LoanRow {
 impl Model for LoanRow {
     ghost use Rattle.run_set.specs.Edges.{member};
     ghost use Rattle.busdma_rules.specs.Lending.Loans.{Loan};
-    ghost use Rattle.loan_table.specs.Rows.{loan_code, placed, IsRow};
+    ghost use Rattle.loan_table.specs.Rows.{loan_code, placed, IsLoanRow};
 
     ghost Value = { Loan };
 
@@ -73,7 +74,7 @@ impl Model for LoanRow {
       positions = placed (member r.to_read.edges) (member r.to_write.edges) 0 r.buffer;
     } };
 
-    ghost invariant = { λ r. IsRow r.to_read r.to_write r.buffer r.extents };
+    ghost invariant = { λ r. IsLoanRow r.to_read r.to_write r.buffer r.extents };
 }
 
 impl LoanRow {
@@ -276,7 +277,7 @@ impl LoanRow {
 
     /// Returns at how many of its positions the map lends the byte of a position.
     pub fn lent_places(&self, way: Way, position: Position, near: &mut Near) -> u64
-        requires { IsPlaced self.now position }
+        requires { IsCountPlaced self.now position }
         ensures { result ≡ places (test_of way) position.pa self.now.positions }
     {
         if self.stands_twice(position.pa, near) {
@@ -297,7 +298,7 @@ impl LoanRow {
 
     /// Removes the map's positions from the counts of lent bytes.
     pub fn uncount(&self, lent: &mut LentCounts)
-        requires held { Holds lent.old self.now.positions }
+        requires held { HoldsCount lent.old self.now.positions }
         requires room { HasChanges lent.old (length self.now.positions) }
         ensures counts { IsRecounted lent.old lent.new self.now.positions [] }
         ensures room { UsesChanges lent.old lent.new (length self.now.positions) }
@@ -447,7 +448,7 @@ fn places_among(alloc: Global, len: u64, used: RunSet) -> Result<RunSet, AllocEr
 fn mark_places(places: &mut RunSet, len: u64, start: u64, end: u64, begins: bool, ends: bool)
     requires within { end ≤ len }
     requires room { IsRoomy places.old len }
-    ensures members { (n : ℕ) → member places.new.edges n ≡ (if in_run start end n
+    ensures members { (n : ℕ) → member places.new.edges n ≡ (if is_inside_run start end n
         then not ends && (begins || member places.old.edges n) else member places.old.edges n) }
     ensures room { IsRoomy places.new len }
 {

@@ -9,11 +9,11 @@ ghost use Rattle.busdma_machine.specs.Judging.{judged};
 ghost use Rattle.busdma_machine.specs.declared.report.Judged.TheVariants.{Refused};
 ghost use Rattle.busdma_machine.specs.Machine.Wire.{stretch};
 ghost use Rattle.run_set.specs.Counts.{count};
-ghost use Rattle.busdma_rules.specs.Lending.Syncing.{lost, synced, sync_answer, sync_refusal, prewrite_refusal};
-ghost use Rattle.busdma_rules.specs.Lending.Syncing.{preread_refusal};
-ghost use Rattle.busdma_rules.specs.Lending.Syncing.{postread_refusal};
+ghost use Rattle.busdma_rules.specs.Lending.SyncEffects.{lost, synced, sync_answer, sync_refusal, prewrite_refusal};
+ghost use Rattle.busdma_rules.specs.Lending.SyncEffects.{preread_refusal};
+ghost use Rattle.busdma_rules.specs.Lending.SyncEffects.{postread_refusal};
 ghost use Rattle.loan_table.specs.Counted.{counts_of, AreUnlent, HasChanges, IsCounted, IsUnlent, IsOf};
-ghost use Rattle.loan_table.specs.Counted.{IsPlaced, Lender, MeetsNothing, UsesChanges};
+ghost use Rattle.loan_table.specs.Counted.{IsCountPlaced, Lender, MeetsNothing, UsesChanges};
 ghost use Rattle.loan_table.specs.Kept.{position_count};
 ghost use Rattle.loan_table.specs.Kinds.{test_of};
 ghost use Rattle.busdma_rules.specs.Tags.SyncOps.{preread, prewrite};
@@ -63,7 +63,7 @@ fn lent_elsewhere(
     position: Position,
     looks: &mut Looks,
 ) -> bool
-    requires placed { IsPlaced row.now position }
+    requires placed { IsCountPlaced row.now position }
     ensures { (lender : Lender) → IsOf lent.now row.now lender →
         result ≡ lent_elsewhere (test_of way) lender.map position.pa lender.loans }
 {
@@ -81,7 +81,7 @@ fn lent_in_any_way_elsewhere(
     position: Position,
     looks: &mut Looks,
 ) -> bool
-    requires placed { IsPlaced row.now position }
+    requires placed { IsCountPlaced row.now position }
     ensures { (lender : Lender) → IsOf lent.now row.now lender →
         result ≡ lent_elsewhere in_any_way lender.map position.pa lender.loans }
 {
@@ -98,7 +98,7 @@ fn prewrite_refusal(
     position: Position,
     looks: &mut Looks,
 ) -> Option<ReportName>
-    requires placed { IsPlaced row.now position }
+    requires placed { IsCountPlaced row.now position }
     ensures { (lender : Lender) → IsOf lent.now row.now lender →
         result ≡ prewrite_refusal lender.loans lender.map position }
 {
@@ -118,7 +118,7 @@ fn preread_refusal(
     position: Position,
     looks: &mut Looks,
 ) -> Option<ReportName>
-    requires placed { IsPlaced row.now position }
+    requires placed { IsCountPlaced row.now position }
     ensures { (lender : Lender) → IsOf lent.now row.now lender →
         result ≡ preread_refusal lender.loans lender.map position }
 {
@@ -149,7 +149,7 @@ fn sync_refusal(
     position: Position,
     looks: &mut Looks,
 ) -> Option<ReportName>
-    requires placed { IsPlaced row.now position }
+    requires placed { IsCountPlaced row.now position }
     ensures { (lender : Lender) → IsOf lent.now row.now lender →
         result ≡ sync_refusal lender.loans lender.map ops.0 position }
 {

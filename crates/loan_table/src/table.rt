@@ -10,9 +10,10 @@ ghost use Rattle.busdma_rules.specs.Tags.SyncOps.{has_pre, has_post};
 ghost use Rattle.busdma_rules.specs.Lending.Access.{cpu_read_answer, cpu_write_answer, dev_read_answer};
 ghost use Rattle.busdma_rules.specs.Lending.Access.{dev_read_refusal};
 ghost use Rattle.busdma_rules.specs.Lending.Access.{dev_write_answer, dev_write_refusal};
-ghost use Rattle.busdma_rules.specs.Lending.Syncing.{sync_answer, lost, lost_by_forgetting};
+ghost use Rattle.busdma_rules.specs.Lending.SyncEffects.{sync_answer, lost, lost_by_forgetting};
 ghost use Rattle.busdma_rules.specs.Lending.Loans.{loan_of, load_bytes, addresses_of, new_loan};
-ghost use Rattle.loan_table.specs.Table.{HasMap, buffer_of, is_known, AreFree, AreIn, AreNew, set_all};
+ghost use Rattle.loan_table.specs.Table.{HasMap, buffer_of, is_marked_known as is_known};
+ghost use Rattle.loan_table.specs.Table.{AreFree, AreIn, AreNew, set_all};
 ghost use Rattle.loan_table.specs.Table.{without, IsPrepared, IsSame, IsSynced, OnFine, OnRefused, extent_count};
 ghost use Rattle.loan_table.specs.Trees.{with_value};
 

@@ -10,7 +10,7 @@ use Rattle.busdma_machine.specs.declared.machine.address.Extent.{Extent}
 use Rattle.busdma_machine.specs.Machine.Page.{FrameBytes, overwritten}
 use Rattle.busdma_machine.specs.Machine.Wire.{Wire, put, with_bytes_of}
 use Rattle.busdma_machine.specs.Runs.{addresses, byte_count, run_of}
-use Rattle.phys_memory.specs.Memory.{written}
+use Rattle.phys_memory.specs.Memory.{memory_written}
 use Rattle.phys_memory.proofs.PageBytes.{page_written}
 use Rattle.phys_memory.proofs.Writing.{written_run}
 use Rattle.busdma_rules.proofs.Segments.Places.{run_length}
@@ -128,7 +128,7 @@ two_written f from to later until bus e r o old now new is begin end h k =
 
 -- ---- what is written into the memory
 pub copied_extent : (f w now : ℕ → ℕ) (from to bus pa n : ℕ) (bs : List ℕ) →
-    bs ≡ map f (run_of (bus + from) (min to n - from)) → now ≡ written (pa + from) bs w
+    bs ≡ map f (run_of (bus + from) (min to n - from)) → now ≡ memory_written (pa + from) bs w
     → now ≡ put (part from to (run_of pa n)) (map f (part from to (run_of bus n))) w
 copied_extent f w now from to bus pa n bs e is =
     let count : length bs ≡ min to n - from = ap length e ∙ length-map (run_of (bus + from) (min to n - from)) f

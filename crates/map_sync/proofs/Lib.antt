@@ -2,4 +2,4 @@ pub mod Extents
 pub mod Parts
 pub mod Placing
 pub mod Stepping
-pub mod Traced
+pub mod TraceLaws

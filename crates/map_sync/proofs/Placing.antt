@@ -10,12 +10,12 @@ use Rattle.busdma_machine.specs.declared.machine.address.Pa.{Pa}
 use Rattle.busdma_machine.specs.declared.machine.chunk.Chunk.{Chunk}
 use Rattle.busdma_machine.specs.Machine.Wire.{Placed, Wire, buffers, buses, is_bounced, stretch}
 use Rattle.busdma_machine.specs.Runs.{IsExtent, addresses, byte_count, run_of}
-use Rattle.phys_memory.specs.Extents.{LiesIn}
+use Rattle.phys_memory.specs.Extents.{LiesInFrames}
 use Rattle.phys_memory.specs.Frames.{Lie}
-use Rattle.phys_memory.specs.Memory.{Memory, has_frame}
+use Rattle.phys_memory.specs.Memory.{FrameMemory, memory_has_frame}
 use Rattle.busdma_rules.specs.Segments.Trace.{bus_addresses, bus_extent, bus_from, chunk_extents, chunk_len}
 use Rattle.map_sync.specs.Copying.{part}
-use Rattle.map_sync.specs.Held.{IsHeld}
+use Rattle.map_sync.specs.Held.{IsPageHeld}
 use Rattle.map_sync.specs.Ranges.{chunk_range}
 use Rattle.busdma_rules.specs.Syncs.Positions.{placed_at, positions_of}
 use Rattle.busdma_rules.proofs.Segments.Counting.{addresses_length}
@@ -84,13 +84,13 @@ range_buses off len c =
     ∙ ap (part (off - c.at) (off + len - c.at)) (buses_of _ _ (as_many c c.page))
 
 -- ---- which positions are bounced
-all_bounced : (m : Memory) (f : ℕ) → has_frame m f ≡ false → (xs ys : List ℕ) →
-    AllByRecursion (λ a. has_frame m (a / 4096) ≡ true) xs → AllByRecursion (λ b. b / 4096 ≡ f) ys →
+all_bounced : (m : FrameMemory) (f : ℕ) → memory_has_frame m f ≡ false → (xs ys : List ℕ) →
+    AllByRecursion (λ a. memory_has_frame m (a / 4096) ≡ true) xs → AllByRecursion (λ b. b / 4096 ≡ f) ys →
     AllByRecursion (λ p. is_bounced p ≡ true) (placed_at xs ys)
 all_bounced m f away [] ys h k = tt
 all_bounced m f away (x ∷ xs) [] h k = tt
 all_bounced m f away (x ∷ xs) (y ∷ ys) h k = (
-  ap not (ne_eqb y x (λ e. false≢true (sym away ∙ (ap (has_frame m) (sym k.0 ∙ ap (λ b. b / 4096) e) ∙ h.0)))),
+  ap not (ne_eqb y x (λ e. false≢true (sym away ∙ (ap (memory_has_frame m) (sym k.0 ∙ ap (λ b. b / 4096) e) ∙ h.0)))),
   all_bounced m f away xs ys h.1 k.1,
 )
 
@@ -99,16 +99,16 @@ none_bounced [] = tt
 none_bounced (x ∷ xs) = (ap not (eq-eqb x x refl), none_bounced xs)
 
 -- the bytes of extents lie in frames of the memory
-pub in_frames : (m : Memory) (es : List Extent) → AllByRecursion IsExtent es → AllByRecursion (LiesIn m) es →
-    AllByRecursion (λ a. has_frame m (a / 4096) ≡ true) (addresses es)
+pub in_frames : (m : FrameMemory) (es : List Extent) → AllByRecursion IsExtent es → AllByRecursion (LiesInFrames m) es →
+    AllByRecursion (λ a. memory_has_frame m (a / 4096) ≡ true) (addresses es)
 in_frames m [] h k = tt
 in_frames m (e ∷ es) h k =
     let here = run_in_frame e.len e.pa.0 (e.pa.0 / 4096) (omega arith) (omega (arith, h.0.in_frame)) in
     all_append _ (run_of e.pa.0 e.len) (addresses es)
-    (all_imply _ _ (λ b q. ap (has_frame m) q ∙ k.0) (run_of e.pa.0 e.len) here) (in_frames m es h.1 k.1)
+    (all_imply _ _ (λ b q. ap (memory_has_frame m) q ∙ k.0) (run_of e.pa.0 e.len) here) (in_frames m es h.1 k.1)
 
 -- the bus bytes of a chunk lie in the frame of its page
-pub bus_frame : (m : Memory) (c : Chunk) (bus : Pa) (f : ℕ) → c.page ≡ Some bus → IsHeld m c f →
+pub bus_frame : (m : FrameMemory) (c : Chunk) (bus : Pa) (f : ℕ) → c.page ≡ Some bus → IsPageHeld m c f →
     AllByRecursion (λ b. b / 4096 ≡ f) (bus_addresses c)
 bus_frame m c bus f e h =
     subst (λ (o : Option Pa). AllByRecursion (λ b. b / 4096 ≡ f) (bus_from o c)) (sym e)
@@ -121,8 +121,9 @@ bus_frame m c bus f e h =
         run_in_frame (chunk_len c) bus.0 f (omega (arith, same)) (omega (arith, same))
 
 -- each position of a chunk that has a page is bounced, and none of another chunk
-pub bounced_range : (m : Memory) (off len : ℕ) (c : Chunk) (bus : Pa) (f : ℕ) → c.page ≡ Some bus → IsHeld m c f →
-    has_frame m f ≡ false → filter is_bounced (chunk_range off len c) ≡ chunk_range off len c
+pub bounced_range : (m : FrameMemory) (off len : ℕ) (c : Chunk) (bus : Pa) (f : ℕ) → c.page ≡ Some bus →
+    IsPageHeld m c f →
+    memory_has_frame m f ≡ false → filter is_bounced (chunk_range off len c) ≡ chunk_range off len c
 bounced_range m off len c bus f e h away =
     filter_all (chunk_range off len c) (all_stretch _ (off - c.at) _ (positions_of c)
     (all_bounced m f away _ _ (in_frames m (chunk_extents c) h.buffer.extents h.buffer.frames)

@@ -11,17 +11,17 @@ use Rattle.std.proofs.lemmas.List.Elements.{filter-append}
 use Rattle.busdma_machine.specs.declared.machine.address.Pa.{Pa}
 use Rattle.busdma_machine.specs.declared.machine.chunk.Chunk.{Chunk}
 use Rattle.busdma_machine.specs.Machine.Page.{FrameBytes}
-use Rattle.busdma_machine.specs.Machine.PageList.{frames_of}
+use Rattle.busdma_machine.specs.Machine.PageList.{page_frames}
 use Rattle.busdma_machine.specs.Machine.Wire.{Placed, Wire, buffers, buses, is_bounced, page_byte, put, with_bytes_of}
 use Rattle.busdma_machine.specs.Runs.{addresses, run_of}
 use Rattle.phys_memory.specs.Frames.{AreApart}
-use Rattle.phys_memory.specs.Memory.{Memory, has_frame, wire}
+use Rattle.phys_memory.specs.Memory.{FrameMemory, memory_has_frame, wire}
 use Rattle.phys_memory.proofs.PageBytes.{no_page, no_page_at, none_apart, page_at, page_replaced, page_shown}
 use Rattle.phys_memory.proofs.PageBytes.{put_under}
 use Rattle.phys_memory.proofs.RunParts.{all_imply, same_reads}
 use Rattle.busdma_rules.specs.Segments.Trace.{bus_addresses, bus_extent, bus_from, chunk_extents, chunk_len}
 use Rattle.map_sync.specs.Copying.{IsWritten, part}
-use Rattle.map_sync.specs.Held.{IsHeld, paged}
+use Rattle.map_sync.specs.Held.{IsPageHeld, paged}
 use Rattle.map_sync.specs.Ranges.{chunk_range, range_of_chunks}
 use Rattle.map_sync.proofs.Placing.{all_part, bounced_range, bus_frame, in_frames, range_buffers, range_buses}
 use Rattle.map_sync.proofs.Placing.{unbounced_range}
@@ -69,39 +69,40 @@ none_copied key from f w off len c e =
     sym (ap (λ ps. put (map key ps) (map f (map from ps)) w) (unbounced_range off len c e))
 
 -- ---- which chunk has which page
-pub held_next : (m : Memory) (cs : List Chunk) (i : ℕ) (d : Chunk) (fs : List ℕ) (next : ℕ) (bus : Pa) →
-    i < length cs → (get_or cs i d).page ≡ Some bus → AllZip (IsHeld m) (paged (drop i cs)) (drop next fs)
-    → (next < length fs) × IsHeld m (get_or cs i d) (get_or fs next 0)
-    × AllZip (IsHeld m) (paged (drop (i + 1) cs)) (drop (next + 1) fs)
+pub held_next : (m : FrameMemory) (cs : List Chunk) (i : ℕ) (d : Chunk) (fs : List ℕ) (next : ℕ) (bus : Pa) →
+    i < length cs → (get_or cs i d).page ≡ Some bus → AllZip (IsPageHeld m) (paged (drop i cs)) (drop next fs)
+    → (next < length fs) × IsPageHeld m (get_or cs i d) (get_or fs next 0)
+    × AllZip (IsPageHeld m) (paged (drop (i + 1) cs)) (drop (next + 1) fs)
 held_next m cs i d fs next bus h e held =
     first (get_or cs i d) (drop (i + 1) cs) e
-    (subst (λ xs. AllZip (IsHeld m) (paged xs) (drop next fs)) (drop_more cs i d h) held)
+    (subst (λ xs. AllZip (IsPageHeld m) (paged xs) (drop next fs)) (drop_more cs i d h) held)
   where
-    split : (c : Chunk) (xs : List Chunk) → AllZip (IsHeld m) (c ∷ xs) (drop next fs) →
-        (next < length fs) × IsHeld m c (get_or fs next 0) × AllZip (IsHeld m) xs (drop (next + 1) fs)
+    split : (c : Chunk) (xs : List Chunk) → AllZip (IsPageHeld m) (c ∷ xs) (drop next fs) →
+        (next < length fs) × IsPageHeld m c (get_or fs next 0) × AllZip (IsPageHeld m) xs (drop (next + 1) fs)
     split c xs z = elim (cases_lt next (length fs)) [
-      | inl l ↦ let zip = subst (AllZip (IsHeld m) (c ∷ xs)) (drop_more fs next 0 l) z in (l, zip.0, zip.1)
-      | inr l ↦ absurd (subst (AllZip (IsHeld m) (c ∷ xs)) (drop_all next fs l) z)
+      | inl l ↦ let zip = subst (AllZip (IsPageHeld m) (c ∷ xs)) (drop_more fs next 0 l) z in (l, zip.0, zip.1)
+      | inr l ↦ absurd (subst (AllZip (IsPageHeld m) (c ∷ xs)) (drop_all next fs l) z)
     ]
 
-    first : (c : Chunk) (xs : List Chunk) → c.page ≡ Some bus → AllZip (IsHeld m) (paged (c ∷ xs)) (drop next fs) →
-        (next < length fs) × IsHeld m c (get_or fs next 0) × AllZip (IsHeld m) (paged xs) (drop (next + 1) fs)
+    first : (c : Chunk) (xs : List Chunk) → c.page ≡ Some bus → AllZip (IsPageHeld m) (paged (c ∷ xs)) (drop next fs) →
+        (next < length fs) × IsPageHeld m c (get_or fs next 0) × AllZip (IsPageHeld m) (paged xs) (drop (next + 1) fs)
     first c xs q z = split c (paged xs) (rw (ap is_some q) at z)
 
-pub held_skip : (m : Memory) (cs : List Chunk) (i : ℕ) (d : Chunk) (fs : List ℕ) → i < length cs →
-    (get_or cs i d).page ≡ None → AllZip (IsHeld m) (paged (drop i cs)) fs →
-    AllZip (IsHeld m) (paged (drop (i + 1) cs)) fs
+pub held_skip : (m : FrameMemory) (cs : List Chunk) (i : ℕ) (d : Chunk) (fs : List ℕ) → i < length cs →
+    (get_or cs i d).page ≡ None → AllZip (IsPageHeld m) (paged (drop i cs)) fs →
+    AllZip (IsPageHeld m) (paged (drop (i + 1) cs)) fs
 held_skip m cs i d fs h e held =
-    first (get_or cs i d) (drop (i + 1) cs) e (subst (λ xs. AllZip (IsHeld m) (paged xs) fs) (drop_more cs i d h) held)
+    first (get_or cs i d) (drop (i + 1) cs) e (subst (λ xs. AllZip (IsPageHeld m) (paged xs) fs) (drop_more cs i d h)
+    held)
   where
     first : (c : Chunk) (xs : List Chunk) → c.page ≡ None →
-        AllZip (IsHeld m) (paged (c ∷ xs)) fs → AllZip (IsHeld m) (paged xs) fs
+        AllZip (IsPageHeld m) (paged (c ∷ xs)) fs → AllZip (IsPageHeld m) (paged xs) fs
     first c xs q z = rw (ap is_some q) at z
 
 -- ---- the page of a chunk, among the others
 -- the frames of pages of which only the bytes changed
-pub still_differ : (now old : List FrameBytes) → frames_of now ≡ frames_of old →
-    AllPairs (λ f g. f ≢ g) (frames_of old) → AllPairs (λ f g. f ≢ g) (frames_of now)
+pub still_differ : (now old : List FrameBytes) → page_frames now ≡ page_frames old →
+    AllPairs (λ f g. f ≢ g) (page_frames old) → AllPairs (λ f g. f ≢ g) (page_frames now)
 still_differ now old e h = subst (AllPairs (λ f g. f ≢ g)) (sym e) h
 
 -- the bus addresses of a chunk that has a page
@@ -109,23 +110,23 @@ bus_run : (c : Chunk) (bus : Pa) → c.page ≡ Some bus → bus_addresses c ≡
 bus_run c bus e = ap (λ (o : Option Pa). bus_from o c) e
 
 -- the bytes of a chunk are those of the memory, whatever pages lie beside it
-buffer_bytes : (m : Memory) (pages : List FrameBytes) (from to : ℕ) (c : Chunk) (f : ℕ) →
-    AreApart m (frames_of pages) → IsHeld m c f
+buffer_bytes : (m : FrameMemory) (pages : List FrameBytes) (from to : ℕ) (c : Chunk) (f : ℕ) →
+    AreApart m (page_frames pages) → IsPageHeld m c f
     → map (wire m) (part from to (addresses (chunk_extents c)))
     ≡ map (with_bytes_of pages (wire m)) (part from to (addresses (chunk_extents c)))
 buffer_bytes m pages from to c f apart held =
     same_reads (part from to (addresses (chunk_extents c))) (wire m) (with_bytes_of pages (wire m))
-    (all_imply (λ a. has_frame m (a / 4096) ≡ true) _
+    (all_imply (λ a. memory_has_frame m (a / 4096) ≡ true) _
     (λ a q. sym (no_page_at pages (wire m) a (none_apart m pages (a / 4096) apart.away q)))
     (part from to (addresses (chunk_extents c)))
-    (all_part (λ a. has_frame m (a / 4096) ≡ true) from to _
+    (all_part (λ a. memory_has_frame m (a / 4096) ≡ true) from to _
     (in_frames m (chunk_extents c) held.buffer.extents held.buffer.frames)))
 
 -- a chunk is copied into its page
-pub chunk_in : (m : Memory) (old now : List FrameBytes) (k : ℕ) (new : FrameBytes)
+pub chunk_in : (m : FrameMemory) (old now : List FrameBytes) (k : ℕ) (new : FrameBytes)
     (off len : ℕ) (c : Chunk) (bus : Pa) (f : ℕ)
-    → AreApart m (frames_of old) → frames_of now ≡ frames_of old → k < length now →
-    new.frame ≡ (get_or now k no_page).frame → c.page ≡ Some bus → IsHeld m c f → has_frame m f ≡ false
+    → AreApart m (page_frames old) → page_frames now ≡ page_frames old → k < length now →
+    new.frame ≡ (get_or now k no_page).frame → c.page ≡ Some bus → IsPageHeld m c f → memory_has_frame m f ≡ false
     → (let from = off - c.at in let to = off + len - c.at in
     IsWritten (get_or now k no_page) new (part from to (run_of bus.0 (chunk_len c)))
     (map (wire m) (part from to (addresses (chunk_extents c)))))
@@ -153,54 +154,55 @@ chunk_in m old now k new off len c bus f apart same h frame paged held away is =
     (sym (bounced_range m off len c bus f paged held away))
 
 -- the bus addresses of a chunk begin in the frame of its page
-bus_begin : (m : Memory) (c : Chunk) (bus : Pa) (f : ℕ) → c.page ≡ Some bus → IsHeld m c f → bus.0 / 4096 ≡ f
+bus_begin : (m : FrameMemory) (c : Chunk) (bus : Pa) (f : ℕ) → c.page ≡ Some bus → IsPageHeld m c f → bus.0 / 4096 ≡ f
 bus_begin m c bus f e held = sym (ap (λ (o : Option Pa). (unwrap_or o c.first.pa).0 / 4096) e) ∙ held.page
 
 -- the page of the next chunk that has one
-same_count : (now old : List FrameBytes) → frames_of now ≡ frames_of old → length now ≡ length (frames_of old)
+same_count : (now old : List FrameBytes) → page_frames now ≡ page_frames old → length now ≡ length (page_frames old)
 same_count now old e = sym (length-map now (λ (p : FrameBytes). p.frame)) ∙ ap length e
 
-frame_at : (now : List FrameBytes) (fs : List ℕ) (k : ℕ) (d : FrameBytes) → frames_of now ≡ fs →
+frame_at : (now : List FrameBytes) (fs : List ℕ) (k : ℕ) (d : FrameBytes) → page_frames now ≡ fs →
     k < length now → get_or fs k 0 ≡ (get_or now k d).frame
 frame_at now fs k d e h = sym (ap (λ xs. get_or xs k 0) e) ∙ get_or-map (λ (p : FrameBytes). p.frame) now k d 0 h
 
 -- what is known of the next chunk that has a page: the page, that the chunk is held there, and that no frame of the
 -- memory is the page's
-pub record IsNext (m : Memory) (old now : List FrameBytes) (cs : List Chunk) (i : ℕ) (c : Chunk) (next : ℕ)
+pub record IsNext (m : FrameMemory) (old now : List FrameBytes) (cs : List Chunk) (i : ℕ) (c : Chunk) (next : ℕ)
     (bus : Pa) (d : FrameBytes) : Type 0 where
   pub inside : next < length now
-  pub held : IsHeld m c (get_or now next d).frame
-  pub away : has_frame m (get_or now next d).frame ≡ false
+  pub held : IsPageHeld m c (get_or now next d).frame
+  pub away : memory_has_frame m (get_or now next d).frame ≡ false
   pub frame : bus.0 / 4096 ≡ (get_or now next d).frame
-  pub rest : AllZip (IsHeld m) (paged (drop (i + 1) cs)) (drop (next + 1) (frames_of old))
+  pub rest : AllZip (IsPageHeld m) (paged (drop (i + 1) cs)) (drop (next + 1) (page_frames old))
 
-pub next_page : (m : Memory) (old now : List FrameBytes) (cs : List Chunk) (i : ℕ) (d : Chunk) (next : ℕ) (bus : Pa)
-    (e : FrameBytes) → AreApart m (frames_of old) → frames_of now ≡ frames_of old →
+pub next_page : (m : FrameMemory) (old now : List FrameBytes) (cs : List Chunk) (i : ℕ) (d : Chunk) (next : ℕ)
+    (bus : Pa)
+    (e : FrameBytes) → AreApart m (page_frames old) → page_frames now ≡ page_frames old →
     i < length cs → (get_or cs i d).page ≡ Some bus
-    → AllZip (IsHeld m) (paged (drop i cs)) (drop next (frames_of old)) →
+    → AllZip (IsPageHeld m) (paged (drop i cs)) (drop next (page_frames old)) →
     IsNext m old now cs i (get_or cs i d) next bus e
 next_page m old now cs i d next bus e apart same h q held =
-    let t = held_next m cs i d (frames_of old) next bus h q held in
+    let t = held_next m cs i d (page_frames old) next bus h q held in
     let inside : next < length now = omega (arith, t.0, same_count now old same) in
-    let at = frame_at now (frames_of old) next e same inside in
-    let here : IsHeld m (get_or cs i d) (get_or now next e).frame = subst (IsHeld m (get_or cs i d)) at t.1 in
+    let at = frame_at now (page_frames old) next e same inside in
+    let here : IsPageHeld m (get_or cs i d) (get_or now next e).frame = subst (IsPageHeld m (get_or cs i d)) at t.1 in
     record {
       inside = inside;
       held = here;
-      away = ap (has_frame m) (sym at) ∙ apart.away next 0 t.0;
+      away = ap (memory_has_frame m) (sym at) ∙ apart.away next 0 t.0;
       frame = bus_begin m (get_or cs i d) bus (get_or now next e).frame q here;
       rest = t.2;
     }
 
 -- frames after one of the pages was written
-pub frames_written : (now old : List FrameBytes) (k : ℕ) (new d : FrameBytes) → frames_of now ≡ frames_of old →
-    new.frame ≡ (get_or now k d).frame → frames_of (set now k new) ≡ frames_of old
+pub frames_written : (now old : List FrameBytes) (k : ℕ) (new d : FrameBytes) → page_frames now ≡ page_frames old →
+    new.frame ≡ (get_or now k d).frame → page_frames (set now k new) ≡ page_frames old
 frames_written now old k new d same e = map-set_same (λ (p : FrameBytes). p.frame) now k new d e ∙ same
 
 -- a chunk is copied into the next page
-pub step_in : (m : Memory) (old now : List FrameBytes) (cs : List Chunk) (i : ℕ) (c : Chunk) (next : ℕ) (bus : Pa)
-    (e new : FrameBytes) (off len from to : ℕ) → AreApart m (frames_of old) →
-    frames_of now ≡ frames_of old → c.page ≡ Some bus
+pub step_in : (m : FrameMemory) (old now : List FrameBytes) (cs : List Chunk) (i : ℕ) (c : Chunk) (next : ℕ) (bus : Pa)
+    (e new : FrameBytes) (off len from to : ℕ) → AreApart m (page_frames old) →
+    page_frames now ≡ page_frames old → c.page ≡ Some bus
     → IsNext m old now cs i c next bus e → from ≡ off - c.at → to ≡ off + len - c.at →
     new.frame ≡ (get_or now next e).frame
     → IsWritten (get_or now next e) new (part from to (run_of bus.0 (chunk_len c)))
@@ -220,16 +222,19 @@ step_in m old now cs i c next bus e new off len from to apart same q at h k fram
     (map (wire m) (part n to (addresses (chunk_extents c))))) h is)))
 
 -- ---- a chunk is copied out of its page
-page_bytes : (pages : List FrameBytes) (k : ℕ) (w : Wire) (keys : List ℕ) → AllPairs (λ f g. f ≢ g) (frames_of pages) →
+page_bytes : (pages : List FrameBytes) (k : ℕ) (w : Wire) (keys : List ℕ) →
+    AllPairs (λ f g. f ≢ g) (page_frames pages) →
     k < length pages → AllByRecursion (λ b. b / 4096 ≡ (get_or pages k no_page).frame) keys
     → map (page_byte (get_or pages k no_page)) keys ≡ map (with_bytes_of pages w) keys
 page_bytes pages k w keys differ h at =
     same_reads keys (page_byte (get_or pages k no_page)) (with_bytes_of pages w)
     (all_imply _ _ (λ b q. sym (page_at pages k w b differ h q)) keys at)
 
-pub chunk_out : (m : Memory) (pages : List FrameBytes) (w0 now new : Wire) (k : ℕ) (off len : ℕ) (c : Chunk) (bus : Pa)
-    → AreApart m (frames_of pages) → k < length pages → c.page ≡ Some bus → IsHeld m c (get_or pages k no_page).frame →
-    has_frame m (get_or pages k no_page).frame ≡ false
+pub chunk_out : (m : FrameMemory) (pages : List FrameBytes) (w0 now new : Wire) (k : ℕ) (off len : ℕ) (c : Chunk)
+    (bus : Pa)
+    → AreApart m (page_frames pages) → k < length pages → c.page ≡ Some bus →
+    IsPageHeld m c (get_or pages k no_page).frame →
+    memory_has_frame m (get_or pages k no_page).frame ≡ false
     → (let from = off - c.at in let to = off + len - c.at in
     new ≡ put (part from to (addresses (chunk_extents c)))
     (map (page_byte (get_or pages k no_page)) (part from to (run_of bus.0 (chunk_len c)))) now)
@@ -244,9 +249,9 @@ chunk_out m pages w0 now new k off len c bus apart h paged held away is =
     page_bytes pages k w0 (part from to (bus_addresses c)) apart.differ h
     (all_part _ from to (bus_addresses c) at) in
     ap (with_bytes_of pages) is
-    ∙ put_under pages keys _ now (all_imply (λ a. has_frame m (a / 4096) ≡ true) _
+    ∙ put_under pages keys _ now (all_imply (λ a. memory_has_frame m (a / 4096) ≡ true) _
     (λ a q. none_apart m pages (a / 4096) apart.away q) keys
-    (all_part (λ a. has_frame m (a / 4096) ≡ true) from to _
+    (all_part (λ a. memory_has_frame m (a / 4096) ≡ true) from to _
     (in_frames m (chunk_extents c) held.buffer.extents held.buffer.frames)))
     ∙ ap (λ xs. put keys (map (page_byte (get_or pages k no_page)) (part from to xs)) (with_bytes_of pages now))
     (sym (bus_run c bus paged))
@@ -258,9 +263,9 @@ chunk_out m pages w0 now new k off len c bus apart h paged held away is =
     (sym (bounced_range m off len c bus _ paged held away))
 
 -- a chunk is copied out of the next page
-pub step_out : (m : Memory) (pages : List FrameBytes) (w0 now new : Wire) (cs : List Chunk) (i : ℕ) (c : Chunk)
+pub step_out : (m : FrameMemory) (pages : List FrameBytes) (w0 now new : Wire) (cs : List Chunk) (i : ℕ) (c : Chunk)
     (next : ℕ) (bus : Pa) (e page : FrameBytes) (off len from to : ℕ) → page ≡ get_or pages next e →
-    AreApart m (frames_of pages) → c.page ≡ Some bus
+    AreApart m (page_frames pages) → c.page ≡ Some bus
     → IsNext m pages pages cs i c next bus e → from ≡ off - c.at → to ≡ off + len - c.at
     → new ≡ put (part from to (addresses (chunk_extents c)))
     (map (page_byte page) (part from to (run_of bus.0 (chunk_len c)))) now
@@ -269,8 +274,8 @@ pub step_out : (m : Memory) (pages : List FrameBytes) (w0 now new : Wire) (cs : 
 step_out m pages w0 now new cs i c next bus e shown off len from to there apart q at h k is =
     let page : get_or pages next e ≡ get_or pages next no_page = get_or_default pages next e no_page at.inside in
     chunk_out m pages w0 now new next off len c bus apart at.inside q
-    (subst (λ (p : FrameBytes). IsHeld m c p.frame) page at.held)
-    (ap (λ (p : FrameBytes). has_frame m p.frame) (sym page) ∙ at.away)
+    (subst (λ (p : FrameBytes). IsPageHeld m c p.frame) page at.held)
+    (ap (λ (p : FrameBytes). memory_has_frame m p.frame) (sym page) ∙ at.away)
     (is
     ∙ ap (λ (p : FrameBytes). put (part from to (addresses (chunk_extents c)))
     (map (page_byte p) (part from to (run_of bus.0 (chunk_len c)))) now) there

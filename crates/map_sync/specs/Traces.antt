@@ -3,7 +3,7 @@ use Rattle.std.specs.Prelude.{◌≡◌, ℕ, List}
 use Rattle.busdma_machine.specs.declared.machine.chunk.Chunk.{Chunk}
 use Rattle.busdma_machine.specs.Machine.Wire.{Placed, Wire, copied_in, copied_out, stretch}
 use Rattle.map_sync.specs.Ranges.{range_of_chunks}
-use Rattle.busdma_rules.specs.Syncs.Traces.{HasChunks}
+use Rattle.busdma_rules.specs.Syncs.ChunkTraces.{HasChunks}
 
 -- a sync of a range of a trace copies what a sync of that range of its chunks copies
 pub record CopiesAlike (off len : ℕ) (chunks : List Chunk) (trace : List Placed) (w : Wire) : Type 0 where

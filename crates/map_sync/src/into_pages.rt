@@ -3,14 +3,14 @@
 ghost use Rattle.std.specs.Prelude.{◌≡◌, ◌+◌, ◌/◌, ◌%◌, ◌^◌, ◌<◌, ◌≤◌, map};
 ghost use Rattle.std.specs.List.{AllZip};
 ghost use Rattle.busdma_machine.specs.Runs.{IsExtent, addresses, run_of};
-ghost use Rattle.busdma_machine.specs.Machine.PageList.{frames_of};
+ghost use Rattle.busdma_machine.specs.Machine.PageList.{page_frames};
 ghost use Rattle.busdma_machine.specs.Machine.Wire.{copied_in, with_bytes_of};
-ghost use Rattle.phys_memory.specs.Extents.{LiesIn};
+ghost use Rattle.phys_memory.specs.Extents.{LiesInFrames};
 ghost use Rattle.phys_memory.specs.Frames.{AreApart, Lie};
 ghost use Rattle.phys_memory.specs.Memory.{wire};
 ghost use Rattle.busdma_rules.specs.Segments.Trace.{bus_addresses, bus_extent, chunk_extents};
 ghost use Rattle.map_sync.specs.Copying.{IsWritten, part};
-ghost use Rattle.map_sync.specs.Held.{IsHeld, paged};
+ghost use Rattle.map_sync.specs.Held.{IsPageHeld, paged};
 ghost use Rattle.map_sync.specs.Ranges.{range_of_chunks};
 
 use busdma_machine::{Chunk, Extent, Pa, Page};
@@ -23,12 +23,12 @@ use phys_memory::LanePages;
 /// `pages`, and its bytes begin there at the bus address that the chunk names. After `bus_dmamap_sync(9)`;
 /// the range is this project's own.
 pub fn copy_in(chunks: &[Chunk], off: u64, len: u64, memory: &LanePages, pages: &mut [Page])
-    requires held { AllZip (IsHeld memory.now.memory) (paged chunks.now) (frames_of pages.old) }
-    requires apart { AreApart memory.now.memory (frames_of pages.old) }
+    requires held { AllZip (IsPageHeld memory.now.memory) (paged chunks.now) (page_frames pages.old) }
+    requires apart { AreApart memory.now.memory (page_frames pages.old) }
     requires range { off + len < 2 ^ 64 }
     ensures wire { with_bytes_of pages.new (wire memory.now.memory)
         ≡ copied_in (range_of_chunks off len chunks.now) (with_bytes_of pages.old (wire memory.now.memory)) }
-    ensures frames { frames_of pages.new ≡ frames_of pages.old }
+    ensures frames { page_frames pages.new ≡ page_frames pages.old }
 {
     let end = off + len;
     let mut next = 0;
@@ -67,7 +67,7 @@ fn copy_chunk_in(chunk: &Chunk, bus: Pa, from: u64, to: u64, memory: &LanePages,
 /// is the bus address of the extent's first byte.
 fn copy_extent_in(extent: Extent, bus: Pa, from: u64, to: u64, memory: &LanePages, page: &mut Page)
     requires extent { IsExtent extent }
-    requires there { LiesIn memory.now.memory extent }
+    requires there { LiesInFrames memory.now.memory extent }
     requires page { bus.0 / 4096 ≡ page.old.frame }
     requires inside { bus.0 % 4096 + extent.len ≤ 4096 }
     ensures bytes { let bytes = part from to (run_of extent.pa.0 extent.len) in

@@ -3,14 +3,14 @@
 ghost use Rattle.std.specs.Prelude.{◌≡◌, ◌+◌, ◌/◌, ◌%◌, ◌^◌, ◌<◌, ◌≤◌, map};
 ghost use Rattle.std.specs.List.{AllZip};
 ghost use Rattle.busdma_machine.specs.Runs.{IsExtent, addresses, run_of};
-ghost use Rattle.busdma_machine.specs.Machine.PageList.{frames_of};
+ghost use Rattle.busdma_machine.specs.Machine.PageList.{page_frames};
 ghost use Rattle.busdma_machine.specs.Machine.Wire.{copied_out, page_byte, put, with_bytes_of};
-ghost use Rattle.phys_memory.specs.Extents.{LiesIn};
+ghost use Rattle.phys_memory.specs.Extents.{LiesInFrames};
 ghost use Rattle.phys_memory.specs.Frames.{AreApart, Lie, SamePages};
 ghost use Rattle.phys_memory.specs.Memory.{wire};
 ghost use Rattle.busdma_rules.specs.Segments.Trace.{bus_extent, chunk_extents};
 ghost use Rattle.map_sync.specs.Copying.{part};
-ghost use Rattle.map_sync.specs.Held.{IsHeld, paged};
+ghost use Rattle.map_sync.specs.Held.{IsPageHeld, paged};
 ghost use Rattle.map_sync.specs.Ranges.{range_of_chunks};
 
 use busdma_machine::{Chunk, Extent, Pa, Page};
@@ -24,8 +24,8 @@ use phys_memory::LanePages;
 /// `pages`, and its bytes begin there at the bus address that the chunk names. After `bus_dmamap_sync(9)`;
 /// the range is this project's own.
 pub fn copy_out(chunks: &[Chunk], off: u64, len: u64, memory: &mut LanePages, pages: &[Page])
-    requires held { AllZip (IsHeld memory.old.memory) (paged chunks.now) (frames_of pages.now) }
-    requires apart { AreApart memory.old.memory (frames_of pages.now) }
+    requires held { AllZip (IsPageHeld memory.old.memory) (paged chunks.now) (page_frames pages.now) }
+    requires apart { AreApart memory.old.memory (page_frames pages.now) }
     requires range { off + len < 2 ^ 64 }
     ensures wire { with_bytes_of pages.now (wire memory.new.memory)
         ≡ copied_out (range_of_chunks off len chunks.now) (with_bytes_of pages.now (wire memory.old.memory)) }
@@ -70,7 +70,7 @@ fn copy_chunk_out(chunk: &Chunk, bus: Pa, from: u64, to: u64, memory: &mut LaneP
 /// `bus` is the bus address of the extent's first byte.
 fn copy_extent_out(extent: Extent, bus: Pa, from: u64, to: u64, memory: &mut LanePages, page: &Page)
     requires extent { IsExtent extent }
-    requires there { LiesIn memory.old.memory extent }
+    requires there { LiesInFrames memory.old.memory extent }
     requires inside { bus.0 % 4096 + extent.len ≤ 4096 }
     ensures wire { let bytes = map (page_byte page.now) (part from to (run_of bus.0 extent.len)) in
         wire memory.new.memory ≡ put (part from to (run_of extent.pa.0 extent.len)) bytes (wire memory.old.memory) }

@@ -6,13 +6,13 @@ use Rattle.std.specs.List.{AllByRecursion, list_any}
 use Rattle.busdma_machine.specs.declared.machine.address.Extent.{Extent}
 use Rattle.busdma_machine.specs.Machine.Wire.{Wire, put}
 use Rattle.busdma_machine.specs.Runs.{IsExtent, addresses, byte_count, run_of}
-use Rattle.phys_memory.specs.Extents.{LiesIn}
-use Rattle.phys_memory.specs.Memory.{Memory, has_frame}
+use Rattle.phys_memory.specs.Extents.{LiesInFrames}
+use Rattle.phys_memory.specs.Memory.{FrameMemory, memory_has_frame}
 use Rattle.phys_memory.proofs.Extents.{length-run_of}
 use Rattle.phys_memory.proofs.RunParts.{all_append, all_imply, run_in_frame, same_reads, take_append}
 use Rattle.std.proofs.lemmas.List.Sums.{sum_by-cons}
 use Rattle.mbuf_defrag.specs.Copying.{IsAway}
-use Rattle.mbuf_defrag.specs.Walking.{BeginsLow, IsThere}
+use Rattle.mbuf_defrag.specs.CopySteps.{BeginsLow, IsThere}
 
 -- ---- addresses that are none of others
 neither : (b c : Bool) → b || c ≡ false → (b ≡ false) × (c ≡ false)
@@ -87,22 +87,23 @@ pub first_of_run : (P : ℕ → Type 0) (a n : ℕ) (ys : List ℕ) → 0 < n �
 first_of_run P a zero ys h k = absurd (omega (arith, h))
 first_of_run P a (suc n) ys h k = k.0
 
-pub begins_low : (m : Memory) (xs : List ℕ) → AllByRecursion (IsThere m) xs → BeginsLow xs
+pub begins_low : (m : FrameMemory) (xs : List ℕ) → AllByRecursion (IsThere m) xs → BeginsLow xs
 begins_low m [] k = tt
 begins_low m (x ∷ xs) k = k.0.numbered
 
 -- ---- the bytes of extents of the memory are there
-run_there : (m : Memory) (e : Extent) → IsExtent e → LiesIn m e → AllByRecursion (IsThere m) (run_of e.pa.0 e.len)
+run_there : (m : FrameMemory) (e : Extent) → IsExtent e → LiesInFrames m e →
+    AllByRecursion (IsThere m) (run_of e.pa.0 e.len)
 run_there m e x h =
     all_imply (λ b. b / 4096 ≡ e.pa.0 / 4096) (IsThere m)
     (λ b q. record {
       numbered = let n = x.numbered in omega (arith, q, n);
-      found = ap (has_frame m) q ∙ h;
+      found = ap (memory_has_frame m) q ∙ h;
     })
     (run_of e.pa.0 e.len)
     (let f = x.in_frame in run_in_frame e.len e.pa.0 (e.pa.0 / 4096) (omega (arith, f)) (omega (arith, f)))
 
-pub all_there : (m : Memory) (es : List Extent) → AllByRecursion IsExtent es → AllByRecursion (LiesIn m) es →
+pub all_there : (m : FrameMemory) (es : List Extent) → AllByRecursion IsExtent es → AllByRecursion (LiesInFrames m) es →
     AllByRecursion (IsThere m) (addresses es)
 all_there m [] x h = tt
 all_there m (e ∷ es) x h =

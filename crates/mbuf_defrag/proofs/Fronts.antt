@@ -1,12 +1,13 @@
 -- How many bytes the front of clusters has.
-use Rattle.std.proofs.Common.{nat_lt, unwrap_or, ◌≡◌, ℕ, ◌+◌, ◌-◌, ◌*◌, ◌≤◌, ◌==◌, min, Bool, true, false, if◌then◌else◌, List, [], ◌∷◌, length}
+use Rattle.std.proofs.Common.{nat_lt, unwrap_or, ◌≡◌, ℕ, ◌+◌, ◌-◌, ◌*◌, ◌≤◌, ◌==◌, min, Bool, true, false}
+use Rattle.std.proofs.Common.{if◌then◌else◌, List, [], ◌∷◌, length}
 use Rattle.std.proofs.Common.{refl, ap, sym, ◌∙◌, arith, Some, None}
 use Rattle.std.proofs.lemmas.Bool.{eqb-true, le-ltb, ltb-false}
 use Rattle.std.proofs.lemmas.List.Sums.{sum_by-cons}
 use Rattle.busdma_machine.specs.declared.machine.address.Span.{Span}
 use Rattle.busdma_machine.specs.declared.machine.address.Va.{Va}
 use Rattle.busdma_machine.specs.Machine.Spans.{span_bytes}
-use Rattle.mbuf_defrag.specs.Plan.{front_of, plan}
+use Rattle.busdma_rules.specs.Memory.Clusters.{front_of, plan}
 
 -- the front of no byte is empty
 pub front_none : (cs : List Va) → front_of 0 cs ≡ []
@@ -38,7 +39,8 @@ pub plan_bytes : (chain : List Span) (clusters : List Va) (spans : List Span) �
 plan_bytes chain clusters spans e = by (nat_lt (4096 * length clusters) (span_bytes chain)) refl e
   where
     by : (b : Bool) → nat_lt (4096 * length clusters) (span_bytes chain) ≡ b →
-        (if b then None else Some (front_of (span_bytes chain) clusters)) ≡ Some spans → span_bytes spans ≡ span_bytes chain
+        (if b then None else Some (front_of (span_bytes chain) clusters)) ≡ Some spans → span_bytes spans
+        ≡ span_bytes chain
     by true t e = absurd (cc)
     by false t e =
         let is : front_of (span_bytes chain) clusters ≡ spans = ap (λ o. unwrap_or o []) e in

@@ -7,7 +7,7 @@ use Rattle.busdma_machine.specs.declared.machine.address.Extent.{Extent}
 use Rattle.busdma_machine.specs.Runs.{addresses, run_of}
 use Rattle.phys_memory.proofs.Extents.{length-run_of}
 use Rattle.phys_memory.proofs.RunParts.{drop_append, drop_run, run_append}
-use Rattle.mbuf_defrag.specs.Walking.{BeginsLow, rest_from}
+use Rattle.mbuf_defrag.specs.CopySteps.{BeginsLow, rest_from}
 
 -- the extent that is read at a place outside the list
 abbrev pub no_extent : Extent
@@ -15,7 +15,8 @@ no_extent = record { pa = record { 0 = 0 }; len = 0 }
 
 -- the bytes of an extent, and of the extents after it
 bytes_more : (es : List Extent) (i : ℕ) → i < length es
-    → addresses (drop i es) ≡ run_of (get_or es i no_extent).pa.0 (get_or es i no_extent).len ++ addresses (drop (i + 1) es)
+    → addresses (drop i es) ≡ run_of (get_or es i no_extent).pa.0 (get_or es i no_extent).len
+    ++ addresses (drop (i + 1) es)
 bytes_more es i h = ap addresses (drop_more es i no_extent h)
 
 nothing_dropped : (k : ℕ) (xs : List ℕ) → xs ≡ [] → length (drop k xs) ≡ 0

@@ -14,5 +14,5 @@ abbrev pub ShareNone : List Extent → List Extent → Type 0
 ShareNone from to = AllByRecursion (IsAway (addresses to)) (addresses from)
 
 -- the wire after the bytes of the second extents become those of the first, in order
-abbrev pub copied : List Extent → List Extent → Wire → Wire
-copied from to w = put (addresses to) (map w (addresses from)) w
+abbrev pub extents_copied : List Extent → List Extent → Wire → Wire
+extents_copied from to w = put (addresses to) (map w (addresses from)) w

@@ -4,11 +4,11 @@ ghost use Rattle.std.specs.Prelude.{◌≡◌, ◌≤◌, length, take, drop, ma
 ghost use Rattle.std.specs.List.{AllByRecursion};
 ghost use Rattle.busdma_machine.specs.Machine.Wire.{put};
 ghost use Rattle.busdma_machine.specs.Runs.{IsExtent, byte_count, run_of};
-ghost use Rattle.phys_memory.specs.Extents.{LiesIn};
+ghost use Rattle.phys_memory.specs.Extents.{LiesInFrames};
 ghost use Rattle.phys_memory.specs.Frames.{Lie, SamePages};
 ghost use Rattle.phys_memory.specs.Memory.{wire};
-ghost use Rattle.mbuf_defrag.specs.Copying.{IsAway, ShareNone, copied};
-ghost use Rattle.mbuf_defrag.specs.Walking.{IsThere, rest_of};
+ghost use Rattle.mbuf_defrag.specs.Copying.{IsAway, ShareNone, extents_copied};
+ghost use Rattle.mbuf_defrag.specs.CopySteps.{IsThere, rest_of};
 
 use crate::cursor::Cursor;
 use busdma_machine::{Extent, Pa};
@@ -22,7 +22,7 @@ pub fn copy(from: &[Extent], to: &[Extent], memory: &mut LanePages)
     requires to { Lie memory.old.memory to.now }
     requires alike { byte_count from.now ≡ byte_count to.now }
     requires apart { ShareNone from.now to.now }
-    ensures wire { wire memory.new.memory ≡ copied from.now to.now (wire memory.old.memory) }
+    ensures wire { wire memory.new.memory ≡ extents_copied from.now to.now (wire memory.old.memory) }
     ensures same { SamePages memory.old.memory memory.new.memory }
     ensures spare { memory.new.spare ≡ memory.old.spare }
 {
@@ -35,7 +35,7 @@ pub fn copy(from: &[Extent], to: &[Extent], memory: &mut LanePages)
 /// Copies the next bytes of a source into an extent, until the extent is full.
 fn copy_into(source: &mut Cursor<'_>, target: Extent, memory: &mut LanePages)
     requires target { IsExtent target }
-    requires lies { LiesIn memory.old.memory target }
+    requires lies { LiesInFrames memory.old.memory target }
     requires enough { target.len ≤ length (rest_of source.old) }
     requires there { AllByRecursion (IsThere memory.old.memory) (rest_of source.old) }
     requires apart { AllByRecursion (IsAway (run_of target.pa.0 target.len)) (rest_of source.old) }

@@ -2,7 +2,7 @@
 
 ghost use Rattle.std.specs.Prelude.{◌≡◌, ◌<◌, ◌≤◌, ◌++◌, length};
 ghost use Rattle.busdma_machine.specs.Runs.{IsExtent, addresses, run_of};
-ghost use Rattle.mbuf_defrag.specs.Walking.{BeginsLow, rest_of};
+ghost use Rattle.mbuf_defrag.specs.CopySteps.{BeginsLow, rest_of};
 
 use busdma_machine::{Extent, Pa};
 

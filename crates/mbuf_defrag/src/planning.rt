@@ -2,7 +2,7 @@
 
 ghost use Rattle.std.specs.Prelude.{◌≡◌, IfOk, IfSome};
 ghost use Rattle.busdma_machine.specs.Machine.Spans.{span_bytes};
-ghost use Rattle.mbuf_defrag.specs.Plan.{plan};
+ghost use Rattle.busdma_rules.specs.Memory.Clusters.{plan};
 
 use busdma_machine::{Mbuf, Span, SpanList, Va};
 use load_mbuf::total;

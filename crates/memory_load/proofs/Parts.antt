@@ -6,13 +6,14 @@ use Rattle.std.proofs.lemmas.Bool.{cases_lt, eq-eqb, lt-ltb, ltb-true}
 use Rattle.busdma_machine.specs.declared.machine.address.Extent.{Extent}
 use Rattle.busdma_machine.specs.declared.machine.chunk.Part.{Part}
 use Rattle.busdma_machine.specs.declared.machine.chunk.Part.TheVariants as part
-use Rattle.busdma_machine.specs.Machine.Entry.{IsStream, entries_of, extent_parts, others_of, unmapped_of}
+use Rattle.busdma_machine.specs.Machine.Entry.{IsStream, stream_entries}
+use Rattle.busdma_machine.specs.Machine.Entry.{extent_parts, others_of, unmapped_of}
 use Rattle.busdma_machine.specs.Machine.Spans.{one_span}
 use Rattle.busdma_machine.specs.Runs.{run_of}
 use Rattle.phys_memory.specs.Extents.{BeginsFrame}
-use Rattle.busdma_rules.specs.Memory.Extents.{extents_of, reached_addresses as reached, then_reached}
+use Rattle.busdma_rules.specs.Memory.Extents.{extents_of, reached_addresses, then_reached}
 use Rattle.busdma_rules.specs.Memory.Translation.{Translation}
-use Rattle.phys_memory.specs.Vector.{spans_stream}
+use Rattle.phys_memory.specs.VectorStreams.{spans_stream}
 use Rattle.busdma_rules.specs.Memory.Vectors.{with_entry}
 use Rattle.phys_memory.specs.Walk.{run_stream}
 use Rattle.busdma_rules.proofs.Memory.Extents.{Begins, begins}
@@ -20,7 +21,7 @@ use Rattle.phys_memory.proofs.Extents.{extents_of-run, length-run_of}
 use Rattle.phys_memory.proofs.Loads.{one_bytes, spans_load}
 use Rattle.busdma_rules.proofs.Memory.Paged.{IsPaged}
 use Rattle.phys_memory.proofs.RunParts.{run_append}
-use Rattle.phys_memory.proofs.Vectors.{spans_one}
+use Rattle.phys_memory.proofs.VectorLaws.{spans_one}
 use Rattle.memory_load.specs.MemoryLoad.{run_entries, run_parts}
 
 -- ---- one part after the other
@@ -46,24 +47,24 @@ others_all : (es : List Extent) → others_of (extent_parts false true es) ≡ e
 others_all [] = refl
 others_all (e ∷ es) = ap (λ xs. e ∷ xs) (others_all es)
 
-no_entries : (es : List Extent) → entries_of (extent_parts false true es) ≡ []
+no_entries : (es : List Extent) → stream_entries (extent_parts false true es) ≡ []
 no_entries [] = refl
 no_entries (e ∷ es) = no_entries es
 
 one_entry : (e : Extent) (es : List Extent) →
-    entries_of (extent_parts true true (e ∷ es)) ≡ record { rounded = true; parts = e ∷ es } ∷ []
+    stream_entries (extent_parts true true (e ∷ es)) ≡ record { rounded = true; parts = e ∷ es } ∷ []
 one_entry e es =
-    ap (λ xs. record { rounded = true; parts = e ∷ xs } ∷ entries_of (extent_parts false true es)) (others_all es)
+    ap (λ xs. record { rounded = true; parts = e ∷ xs } ∷ stream_entries (extent_parts false true es)) (others_all es)
     ∙ ap (λ xs. record { rounded = true; parts = e ∷ es } ∷ xs) (no_entries es)
 
-entries_are : (pas : List ℕ) → entries_of (extent_parts true true (extents_of pas)) ≡ with_entry true pas []
+entries_are : (pas : List ℕ) → stream_entries (extent_parts true true (extents_of pas)) ≡ with_entry true pas []
 entries_are [] = refl
 entries_are (pa ∷ pas) =
     let b = begins pa (extents_of pas) in
-    ap (λ es. entries_of (extent_parts true true es)) b.are ∙ one_entry b.first b.others
+    ap (λ es. stream_entries (extent_parts true true es)) b.are ∙ one_entry b.first b.others
     ∙ ap (λ es. record { rounded = true; parts = es } ∷ []) (sym b.are)
 
-pub run_entries_are : (first len : ℕ) → entries_of (run_parts true first len) ≡ run_entries first len
+pub run_entries_are : (first len : ℕ) → stream_entries (run_parts true first len) ≡ run_entries first len
 run_entries_are first len = entries_are (run_of first len)
 
 all_mapped : (opens : Bool) (es : List Extent) → unmapped_of (extent_parts opens true es) ≡ None
@@ -98,11 +99,11 @@ paged = record {
   has = λ va p e. tt;
 }
 
-reached_run : (va n : ℕ) → va + n ≤ 2 ^ 42 → reached itself va n ≡ run_of va n
+reached_run : (va n : ℕ) → va + n ≤ 2 ^ 42 → reached_addresses itself va n ≡ run_of va n
 reached_run va zero h = refl
 reached_run va (suc n) h =
     let here : itself va ≡ Some va = ap (λ b. cond b (Some va) None) (lt-ltb va (2 ^ 42) (omega arith)) in
-    ap (λ o. then_reached o (reached itself (va + 1) n)) here
+    ap (λ o. then_reached o (reached_addresses itself (va + 1) n)) here
     ∙ ap (λ pas. va ∷ pas) (reached_run (va + 1) n (omega arith))
 
 stream_is : (first len : ℕ) → first + len ≤ 2 ^ 42 →

@@ -10,13 +10,14 @@ use Rattle.busdma_rules.specs.Segments.Chunks.{bounced_of, chunks_of, need_of}
 use Rattle.busdma_rules.specs.Segments.Segmentation.{joint, may_join, segmentation, segments_from}
 use Rattle.segment_build.specs.Streams.{stream_chunks}
 use Rattle.segment_build.proofs.Cuts.{one_segmentation}
-use Rattle.memory_load.specs.MemoryLoad.{run_entries, run_parts, run_pieces, run_segments, unaligned}
+use Rattle.memory_load.specs.MemoryLoad.{run_entries, run_parts, memory_pieces, run_segments, unaligned}
 use Rattle.memory_load.proofs.Parts.{run_entries_are}
 use Rattle.memory_load.proofs.Unbounced.{none_bounced, stay_placed, unbounced}
 
 -- the pieces of the stream
 pub pieces_are : (t : TagLimits) (first len : ℕ) →
-    placed_pieces (unaligned t) (stream_chunks (unaligned t) 0 (run_parts true first len)) [] ≡ run_pieces t first len
+    placed_pieces (unaligned t) (stream_chunks (unaligned t) 0 (run_parts true first len)) []
+    ≡ memory_pieces t first len
 pieces_are t first len =
     ap (λ (es : List Entry). placed_pieces t (chunks_of (unaligned t) 0 es) []) (run_entries_are first len)
 

@@ -11,7 +11,7 @@ use Rattle.busdma_machine.specs.Machine.Entry.{entry_addresses}
 use Rattle.busdma_machine.specs.Runs.{byte_count}
 use Rattle.busdma_machine.specs.Tags.Tag.{excluded, needs_bounce}
 use Rattle.busdma_rules.specs.Segments.Chunks.{bounced_of, chunk_limit, chunks_from, chunks_of_bytes, chunks_within}
-use Rattle.busdma_rules.specs.Segments.Trace.{in_page, first_page, chunks_in_pages as placed}
+use Rattle.busdma_rules.specs.Segments.Trace.{in_page, first_page, chunks_in_pages}
 use Rattle.busdma_rules.proofs.Segments.Sound.{all_append}
 use Rattle.memory_load.specs.MemoryLoad.{unaligned}
 
@@ -47,9 +47,10 @@ none_bounced (c ∷ cs) h = let own = h.0 in rw own (none_bounced cs h.1)
 
 -- unbounced chunks need no page
 pub stay_placed : (keep : Bool) (cs : List Chunk) (pages : List Pa) → AllByRecursion IsUnbounced cs →
-    placed keep cs pages ≡ cs
+    chunks_in_pages keep cs pages ≡ cs
 stay_placed keep [] pages h = refl
 stay_placed keep (c ∷ cs) pages h =
     let own = h.0 in
-    ap (λ b. cond b (in_page keep (first_page pages) c ∷ placed keep cs (drop 1 pages)) (c ∷ placed keep cs pages)) own
+    ap (λ b. cond b (in_page keep (first_page pages) c ∷ chunks_in_pages keep cs (drop 1 pages))
+    (c ∷ chunks_in_pages keep cs pages)) own
     ∙ ap (λ xs. c ∷ xs) (stay_placed keep cs pages h.1)

@@ -27,12 +27,12 @@ abbrev pub run_chunks : TagLimits → ℕ → ℕ → List Chunk
 run_chunks t first len = chunks_of (unaligned t) 0 (run_entries first len)
 
 -- the pieces of a memory's load, by the tag's own limits
-abbrev pub run_pieces : TagLimits → ℕ → ℕ → List Segment
-run_pieces t first len = placed_pieces t (run_chunks t first len) []
+abbrev pub memory_pieces : TagLimits → ℕ → ℕ → List Segment
+memory_pieces t first len = placed_pieces t (run_chunks t first len) []
 
 -- the segments of a memory's load
 abbrev pub run_segments : TagLimits → ℕ → ℕ → List Segment
-run_segments t first len = segmentation t (run_pieces t first len)
+run_segments t first len = segmentation t (memory_pieces t first len)
 
 -- What the private steps of the code do; no public clause cites it: the parts of the `len` bytes from a physical
 -- address on, of which the first opens an entry or does not

@@ -3,7 +3,7 @@
 ghost use Rattle.std.specs.Prelude.{◌≡◌, ◌+◌, ◌^◌, ◌<◌, ◌≤◌, [], length, min, true, false};
 ghost use Rattle.busdma_rules.specs.Segments.Building.{tag_placed};
 ghost use Rattle.busdma_rules.specs.Segments.Chunks.{bounced_of, need_of};
-ghost use Rattle.memory_load.specs.MemoryLoad.{run_chunks, run_pieces, run_segments};
+ghost use Rattle.memory_load.specs.MemoryLoad.{run_chunks, memory_pieces as run_pieces, run_segments};
 
 use crate::run_parts::run_parts;
 use crate::unaligned::unaligned;

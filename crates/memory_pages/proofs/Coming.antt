@@ -14,7 +14,8 @@ use Rattle.busdma_machine.specs.Machine.VirtualPages.{pages_end}
 use Rattle.busdma_machine.specs.Machine.Wire.{Wire, page_byte, with_bytes_of}
 use Rattle.busdma_rules.specs.Memory.Memories.{virtual_of}
 use Rattle.phys_memory.specs.declared.reach.Reach.{Reach}
-use Rattle.phys_memory.specs.Memory.{Memory, byte_in, has_frame, has_page, wire, with_page}
+use Rattle.phys_memory.specs.Memory.{FrameMemory, byte_in, memory_has_frame}
+use Rattle.phys_memory.specs.Memory.{memory_has_page, wire, with_page}
 use Rattle.phys_memory.proofs.PageBytes.{IsNone, first_page, no_page_at, other_pages}
 use Rattle.phys_memory.proofs.Tables.{get_inserted, is_some-inserted}
 use Rattle.memory_pages.specs.Bytes.{all_filled, filled}
@@ -31,8 +32,8 @@ pub page_number : (f : ℕ) → virtual_of (4096 * f) / 4096 ≡ pages_end / 409
 page_number f = omega arith
 
 -- if a frame is not there, its page is not there
-pub no_page : (m : Memory) (f : ℕ) → AreAtTheirFrames m → has_frame m f ≡ false →
-    has_page m (virtual_of (4096 * f)) ≡ false
+pub no_page : (m : FrameMemory) (f : ℕ) → AreAtTheirFrames m → memory_has_frame m f ≡ false →
+    memory_has_page m (virtual_of (4096 * f)) ≡ false
 no_page m f placed h = ap (λ v. is_some (get m.table v)) (page_number f)
     ∙ at (get m.table (pages_end / 4096 + f)) refl
   where
@@ -42,10 +43,11 @@ no_page m f placed h = ap (λ v. is_some (get m.table v)) (page_number f)
         let is = placed (pages_end / 4096 + f) r e (omega arith) in
         let own : pages_end / 4096 + f ≡ pages_end / 4096 + r.frame = is.own in
         let same : r.frame ≡ f = omega arith in
-        absurd (false≢true (sym h ∙ ap (has_frame m) (sym same) ∙ is.there))
+        absurd (false≢true (sym h ∙ ap (memory_has_frame m) (sym same) ∙ is.there))
 
 -- what was put and what is left to put are all pages of a memory, and there is room for what is left
-pub record IsPart (old new : Memory) (first len : ℕ) (clear : Bool) (all rest : List FrameBytes) (remains spare : ℕ)
+pub record IsPart (old new : FrameMemory) (first len : ℕ) (clear : Bool) (all rest : List FrameBytes)
+    (remains spare : ℕ)
     : Type 0 where
   pub done : ℕ
   pub total : done + length rest ≡ length all
@@ -59,7 +61,7 @@ pub record IsPart (old new : Memory) (first len : ℕ) (clear : Bool) (all rest 
   pub room : length rest ≤ spare
 
 -- nothing was put yet
-pub none_put : (m : Memory) (first len : ℕ) (clear : Bool) (all : List FrameBytes) (spare : ℕ) →
+pub none_put : (m : FrameMemory) (first len : ℕ) (clear : Bool) (all : List FrameBytes) (spare : ℕ) →
     page_addresses all ≡ frames_from (length all) first → length all ≤ spare →
     IsPart m m first len clear all all len spare
 none_put m first len clear all spare row room = record {
@@ -72,7 +74,7 @@ none_put m first len clear all spare row room = record {
   comes = record {
     rows = λ v. sym (ap (λ b. cond b (Some (row_of first len v)) (get m.table v))
         (in_run_none (virtual_of first) (4096 * v)));
-    frames = λ f. sym (ap (λ b. b || has_frame m f) (in_run_none first (4096 * f)));
+    frames = λ f. sym (ap (λ b. b || memory_has_frame m f) (in_run_none first (4096 * f)));
   };
   bytes = λ a. refl;
   room = room;
@@ -94,7 +96,7 @@ behind clear (p ∷ ps) address f row lt =
     tail e = cc
 
 -- one more page
-module _ (old new : Memory) (first len : ℕ) (clear : Bool) (all : List FrameBytes) (p : FrameBytes)
+module _ (old new : FrameMemory) (first len : ℕ) (clear : Bool) (all : List FrameBytes) (p : FrameBytes)
     (ps : List FrameBytes) (left spare : ℕ) (part : IsPart old new first len clear all (p ∷ ps) left spare) where
   address : 4096 * p.frame ≡ first + 4096 * part.done
   address = ap (λ xs. get_or xs 0 0) part.row
@@ -107,7 +109,7 @@ module _ (old new : Memory) (first len : ℕ) (clear : Bool) (all : List FrameBy
       tail e = cc
 
   -- the frame of the next page is not there
-  pub next_fresh : IsWithout old first (length all) → has_frame new p.frame ≡ false
+  pub next_fresh : IsWithout old first (length all) → memory_has_frame new p.frame ≡ false
   next_fresh without =
       let at = address in
       let total : part.done + suc (length ps) ≡ length all = part.total in
@@ -115,7 +117,7 @@ module _ (old new : Memory) (first len : ℕ) (clear : Bool) (all : List FrameBy
       in_run_end first part.done (4096 * p.frame) (omega arith) in
       let own : is_frame first (length all) p.frame ≡ true =
       in_run_is first (length all) (4096 * p.frame) (omega arith) (omega arith) in
-      part.comes.frames p.frame ∙ ap (λ b. b || has_frame old p.frame) not_put ∙ without p.frame own
+      part.comes.frames p.frame ∙ ap (λ b. b || memory_has_frame old p.frame) not_put ∙ without p.frame own
 
   wire_with : (a : ℕ) → wire (with_page new (virtual_of (4096 * p.frame)) (filled clear p) (min left 4096)) a
       ≡ cond (a / 4096 == (filled clear p).frame) (page_byte (filled clear p) a) (wire new a)
@@ -144,7 +146,7 @@ module _ (old new : Memory) (first len : ℕ) (clear : Bool) (all : List FrameBy
         ∙ sym (other_pages (filled clear p) (all_filled clear ps) (wire new) a t.1)
   ]
     where
-      more : Memory
+      more : FrameMemory
       more = with_page new (virtual_of (4096 * p.frame)) (filled clear p) (min left 4096)
 
       alike : (qs : List FrameBytes) → wire more a ≡ wire new a →
@@ -178,10 +180,10 @@ module _ (old new : Memory) (first len : ℕ) (clear : Bool) (all : List FrameBy
               (both frame reach);
           frames = λ f. is_some-inserted new.frames (filled clear p).frame (filled clear p).bytes f
               ∙ ap (cond (nat_eq f (filled clear p).frame) true) (part.comes.frames f
-              ∙ or_is (is_frame first part.done f) (has_frame old f))
-              ∙ extend first part.done (filled clear p).frame f true (λ w. true) (has_frame old f)
+              ∙ or_is (is_frame first part.done f) (memory_has_frame old f))
+              ∙ extend first part.done (filled clear p).frame f true (λ w. true) (memory_has_frame old f)
               (ap (λ g. 4096 * g) (filled_frame clear p) ∙ at) refl
-              ∙ sym (or_is (is_frame first (part.done + 1) f) (has_frame old f));
+              ∙ sym (or_is (is_frame first (part.done + 1) f) (memory_has_frame old f));
         };
         bytes = λ a. bytes_with a ∙ part.bytes a;
         room = let r : suc (length ps) ≤ spare = part.room in omega arith;
@@ -192,7 +194,7 @@ module _ (old new : Memory) (first len : ℕ) (clear : Bool) (all : List FrameBy
       both e h = cc
 
 -- each page where memories lie still has its own frame
-pub still_placed : (old new : Memory) (first n len : ℕ) → (0 < n → first % 4096 ≡ 0) → Comes old new first n len →
+pub still_placed : (old new : FrameMemory) (first n len : ℕ) → (0 < n → first % 4096 ≡ 0) → Comes old new first n len →
     AreAtTheirFrames old → AreAtTheirFrames new
 still_placed old new first n len whole comes placed v r e high = at (is_page first n v) refl
   where
@@ -206,7 +208,7 @@ still_placed old new first n len whole comes placed v r e high = at (is_page fir
         let own : v ≡ pages_end / 4096 + r.frame = omega arith in
         record {
           own = own;
-          there = comes.frames r.frame ∙ ap (λ b. b || has_frame old r.frame)
+          there = comes.frames r.frame ∙ ap (λ b. b || memory_has_frame old r.frame)
               (in_run_is first n (4096 * r.frame) (omega arith) (omega arith));
         }
       where
@@ -229,7 +231,7 @@ still_placed old new first n len whole comes placed v r e high = at (is_page fir
         any_true false = refl
 
 -- no virtual page has a row at which new frames come
-pub no_row : (m : Memory) (first n v : ℕ) → (0 < n → first % 4096 ≡ 0) → AreAtTheirFrames m → IsWithout m first n →
+pub no_row : (m : FrameMemory) (first n v : ℕ) → (0 < n → first % 4096 ≡ 0) → AreAtTheirFrames m → IsWithout m first n →
     is_page first n v ≡ true → get m.table v ≡ None
 no_row m first n v whole placed without h = at (get m.table v) refl
   where
@@ -301,13 +303,13 @@ zeros_come (p ∷ ps) first w a row h = elim (eqb_tells (a / 4096) p.frame) [
         in_run_is (first + 4096) (length ps) a past (omega arith)
 
 -- all pages were put
-pub record IsWhole (old new : Memory) (first len : ℕ) (clear : Bool) (all : List FrameBytes) : Type 0 where
+pub record IsWhole (old new : FrameMemory) (first len : ℕ) (clear : Bool) (all : List FrameBytes) : Type 0 where
   pub whole : 0 < length all → first % 4096 ≡ 0
   pub below : 0 < length all → first + 4096 * length all ≤ 2 ^ 42
   pub comes : Comes old new first (length all) len
   pub bytes : (a : ℕ) → wire new a ≡ with_bytes_of (all_filled clear all) (wire old) a
 
-pub all_put : (old new : Memory) (first len : ℕ) (clear : Bool) (all rest : List FrameBytes) (left spare : ℕ) →
+pub all_put : (old new : FrameMemory) (first len : ℕ) (clear : Bool) (all rest : List FrameBytes) (left spare : ℕ) →
     IsPart old new first len clear all rest left spare → length rest ≡ 0 → IsWhole old new first len clear all
 all_put old new first len clear all [] left spare part e =
     let done : part.done ≡ length all = let t : part.done + 0 ≡ length all = part.total in omega arith in

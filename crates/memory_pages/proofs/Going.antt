@@ -14,9 +14,10 @@ use Rattle.busdma_machine.specs.Machine.VirtualPages.{pages_end}
 use Rattle.busdma_rules.specs.Memory.Memories.{virtual_of}
 use Rattle.phys_memory.specs.declared.reach.Reach.{Reach}
 use Rattle.phys_memory.specs.Memory as memory
-use Rattle.phys_memory.specs.Memory.{Memory, byte_in, has_frame, page_at, wire, without_page}
+use Rattle.phys_memory.specs.Memory.{FrameMemory, byte_in, memory_has_frame}
+use Rattle.phys_memory.specs.Memory.{page_at, wire, without_page}
 use Rattle.phys_memory.proofs.Tables.{get_removed}
-use Rattle.memory_pages.specs.Bytes.{page_of, pages_of}
+use Rattle.memory_pages.specs.Bytes.{page_of, memory_pages_of}
 use Rattle.memory_pages.specs.Placed.{AreAtTheirFrames, Goes, HasFrames, IsAtItsFrame, frame_of, is_frame, is_page}
 use Rattle.memory_pages.proofs.Runs.{extend, in_run_end, in_run_hi, in_run_is, in_run_lo, in_run_none, in_run_page}
 
@@ -34,14 +35,14 @@ map_push f [] x = refl
 map_push f (y ∷ xs) x = ap (λ ys. f y ∷ ys) (map_push f xs x)
 
 -- nothing is gone yet
-pub none_gone : (m : Memory) (first : ℕ) → Goes m m first 0
+pub none_gone : (m : FrameMemory) (first : ℕ) → Goes m m first 0
 none_gone m first = record {
   rows = λ v. sym (ap (λ b. cond b None (get m.table v)) (in_run_none (virtual_of first) (4096 * v)));
   frames = λ f. sym (ap (λ b. cond b None (get m.frames f)) (in_run_none first (4096 * f)));
 }
 
 -- the next page, and the memory without it
-module _ (old new : Memory) (first n i : ℕ) (whole : first % 4096 ≡ 0) (lt : i < n) (there : HasFrames old first n)
+module _ (old new : FrameMemory) (first n i : ℕ) (whole : first % 4096 ≡ 0) (lt : i < n) (there : HasFrames old first n)
     (goes : Goes old new first i) where
   number : virtual_of (first + 4096 * i) / 4096 ≡ pages_end / 4096 + (first + 4096 * i) / 4096
   number = omega arith
@@ -127,7 +128,7 @@ module _ (old new : Memory) (first n i : ℕ) (whole : first % 4096 ≡ 0) (lt :
           only q = cc
 
 -- the bytes of what is left
-pub left_bytes : (old new : Memory) (first n a : ℕ) → first % 4096 ≡ 0 → Goes old new first n →
+pub left_bytes : (old new : FrameMemory) (first n a : ℕ) → first % 4096 ≡ 0 → Goes old new first n →
     wire new a ≡ cond (in_run first n a) 0 (wire old a)
 left_bytes old new first n a whole goes =
     ap (λ o. byte_in o (a % 4096)) (goes.frames (a / 4096)) ∙ at (is_frame first n (a / 4096))
@@ -138,7 +139,7 @@ left_bytes old new first n a whole goes =
     at false = refl
 
 -- each page where memories lie still has its own frame
-pub left_placed : (old new : Memory) (first n : ℕ) → first % 4096 ≡ 0 → Goes old new first n →
+pub left_placed : (old new : FrameMemory) (first n : ℕ) → first % 4096 ≡ 0 → Goes old new first n →
     AreAtTheirFrames old → AreAtTheirFrames new
 left_placed old new first n whole goes placed v r e high = at (is_page first n v) refl
   where
@@ -164,20 +165,20 @@ left_placed old new first n whole goes placed v r e high = at (is_page first n v
         out own false q = refl
 
 -- the addresses of pages that are taken
-pub taken_addresses : (m : Memory) (n first : ℕ) → first % 4096 ≡ 0 →
-    page_addresses (pages_of m (frames_from n first)) ≡ frames_from n first
+pub taken_addresses : (m : FrameMemory) (n first : ℕ) → first % 4096 ≡ 0 →
+    page_addresses (memory_pages_of m (frames_from n first)) ≡ frames_from n first
 taken_addresses m zero first whole = refl
 taken_addresses m (suc n) first whole =
     let here : 4096 * (first / 4096) ≡ first = omega arith in
-    ap (λ a. a ∷ page_addresses (pages_of m (frames_from n (first + 4096)))) here
+    ap (λ a. a ∷ page_addresses (memory_pages_of m (frames_from n (first + 4096)))) here
     ∙ ap (λ xs. first ∷ xs) (taken_addresses m n (first + 4096) (omega arith))
 
 -- one more page is taken
-pub taken_more : (m : Memory) (i first : ℕ) (old : List FrameBytes) →
-    (old ++ pages_of m (frames_from i first)) ++ page_of m (first + 4096 * i) ∷ []
-    ≡ old ++ pages_of m (frames_from (i + 1) first)
+pub taken_more : (m : FrameMemory) (i first : ℕ) (old : List FrameBytes) →
+    (old ++ memory_pages_of m (frames_from i first)) ++ page_of m (first + 4096 * i) ∷ []
+    ≡ old ++ memory_pages_of m (frames_from (i + 1) first)
 taken_more m i first old =
-    append_assoc old (pages_of m (frames_from i first)) (page_of m (first + 4096 * i) ∷ [])
+    append_assoc old (memory_pages_of m (frames_from i first)) (page_of m (first + 4096 * i) ∷ [])
     ∙ ap (λ xs. old ++ xs) (sym (ap (map (page_of m)) (frames_more i first)
     ∙ map_push (page_of m) (frames_from i first) (first + 4096 * i)))
 
@@ -186,14 +187,14 @@ pub length-frames : (n first : ℕ) → length (frames_from n first) ≡ n
 length-frames zero first = refl
 length-frames (suc n) first = ap suc (length-frames n (first + 4096))
 
-pub length-taken : (m : Memory) (n first : ℕ) (old : List FrameBytes) →
-    length (old ++ pages_of m (frames_from n first)) ≡ length old + n
+pub length-taken : (m : FrameMemory) (n first : ℕ) (old : List FrameBytes) →
+    length (old ++ memory_pages_of m (frames_from n first)) ≡ length old + n
 length-taken m n first old =
-    length-append old (pages_of m (frames_from n first))
+    length-append old (memory_pages_of m (frames_from n first))
     ∙ ap (λ k. length old + k) (length-map (frames_from n first) (page_of m) ∙ length-frames n first)
 
 -- the addresses of pages, in two parts
-pub addresses_taken : (m : Memory) (n first : ℕ) (old : List FrameBytes) → first % 4096 ≡ 0 →
-    page_addresses (old ++ pages_of m (frames_from n first)) ≡ page_addresses old ++ frames_from n first
+pub addresses_taken : (m : FrameMemory) (n first : ℕ) (old : List FrameBytes) → first % 4096 ≡ 0 →
+    page_addresses (old ++ memory_pages_of m (frames_from n first)) ≡ page_addresses old ++ frames_from n first
 addresses_taken m n first [] whole = taken_addresses m n first whole
 addresses_taken m n first (p ∷ old) whole = ap (λ xs. page_address p ∷ xs) (addresses_taken m n first old whole)

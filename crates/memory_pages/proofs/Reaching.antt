@@ -7,7 +7,7 @@ use Rattle.busdma_machine.specs.Bounce.MemoryRuns.{in_run}
 use Rattle.busdma_machine.specs.Machine.VirtualPages.{pages_end}
 use Rattle.busdma_rules.specs.Memory.Memories.{virtual_of}
 use Rattle.phys_memory.specs.declared.reach.Reach.{Reach}
-use Rattle.phys_memory.specs.Memory.{Memory, physical, reached_in}
+use Rattle.phys_memory.specs.Memory.{FrameMemory, memory_physical, reached_in}
 use Rattle.memory_pages.specs.Placed.{Comes, Goes, is_byte, is_page, row_of}
 use Rattle.memory_pages.proofs.Runs.{same_tests, in_run_is, in_run_lo, in_run_hi, in_run_page}
 
@@ -58,19 +58,19 @@ module _ (first n : ℕ) (whole : 0 < n → first % 4096 ≡ 0) (below : 0 < n �
       grind (arith, nat_tests))
 
   -- the bytes of a memory that came
-  pub come_reached : (old new : Memory) (len va : ℕ) → len ≤ 4096 * n → Comes old new first n len →
+  pub come_reached : (old new : FrameMemory) (len va : ℕ) → len ≤ 4096 * n → Comes old new first n len →
       ((v : ℕ) → is_page first n v ≡ true → get old.table v ≡ None) →
-      physical new va ≡ cond (is_byte first len va) (Some (va - pages_end)) (physical old va)
+      memory_physical new va ≡ cond (is_byte first len va) (Some (va - pages_end)) (memory_physical old va)
   come_reached old new len va all comes free = at (is_page first n (va / 4096)) refl
     where
       at : (b : Bool) → is_page first n (va / 4096) ≡ b →
-          physical new va ≡ cond (is_byte first len va) (Some (va - pages_end)) (physical old va)
+          memory_physical new va ≡ cond (is_byte first len va) (Some (va - pages_end)) (memory_physical old va)
       at true e =
           let inside : in_run (virtual_of first) n va ≡ true = sym (page_of va) ∙ e in
           let lo : virtual_of first ≤ va = in_run_lo (virtual_of first) n va inside in
           let hi = in_run_hi (virtual_of first) n va inside in
           let w : first % 4096 ≡ 0 = whole (omega arith) in
-          let none : physical old va ≡ None =
+          let none : memory_physical old va ≡ None =
           ap (λ o. reached_in (cond (nat_lt va (2 ^ 64)) o None) (va % 4096)) (free (va / 4096) e)
           ∙ unreached (nat_lt va (2 ^ 64)) (va % 4096) in
           ap (λ o. reached_in (cond (nat_lt va (2 ^ 64)) o None) (va % 4096)) (comes.rows (va / 4096)
@@ -81,7 +81,8 @@ module _ (first n : ℕ) (whole : 0 < n → first % 4096 ≡ 0) (below : 0 < n �
       at false e =
           ap (λ o. reached_in (cond (nat_lt va (2 ^ 64)) o None) (va % 4096)) (comes.rows (va / 4096)
           ∙ ap (λ t. cond t (Some (row_of first len (va / 4096))) (get old.table (va / 4096))) e)
-          ∙ sym (ap (λ t. cond t (Some (va - pages_end)) (physical old va)) (outside (is_byte first len va) refl))
+          ∙ sym (ap (λ t. cond t (Some (va - pages_end)) (memory_physical old va))
+          (outside (is_byte first len va) refl))
         where
           outside : (t : Bool) → is_byte first len va ≡ t → t ≡ false
           outside true h =
@@ -92,14 +93,14 @@ module _ (first n : ℕ) (whole : 0 < n → first % 4096 ≡ 0) (below : 0 < n �
           outside false h = refl
 
   -- the pages of a memory that went
-  pub go_reached : (old new : Memory) (va : ℕ) → Goes old new first n →
-      physical new va ≡ cond (in_run (virtual_of first) n va) None (physical old va)
+  pub go_reached : (old new : FrameMemory) (va : ℕ) → Goes old new first n →
+      memory_physical new va ≡ cond (in_run (virtual_of first) n va) None (memory_physical old va)
   go_reached old new va goes =
       ap (λ o. reached_in (cond (nat_lt va (2 ^ 64)) o None) (va % 4096)) (goes.rows (va / 4096))
-      ∙ at (is_page first n (va / 4096)) ∙ ap (λ t. cond t None (physical old va)) (page_of va)
+      ∙ at (is_page first n (va / 4096)) ∙ ap (λ t. cond t None (memory_physical old va)) (page_of va)
     where
       at : (b : Bool) →
           reached_in (cond (nat_lt va (2 ^ 64)) (cond b None (get old.table (va / 4096))) None) (va % 4096)
-          ≡ cond b None (physical old va)
+          ≡ cond b None (memory_physical old va)
       at true = unreached (nat_lt va (2 ^ 64)) (va % 4096)
       at false = refl

@@ -8,7 +8,7 @@ use Rattle.busdma_machine.specs.Bounce.MemoryRuns.{in_run}
 use Rattle.busdma_machine.specs.Machine.VirtualPages.{pages_end}
 use Rattle.busdma_rules.specs.Memory.Memories.{virtual_of}
 use Rattle.phys_memory.specs.declared.reach.Reach.{Reach}
-use Rattle.phys_memory.specs.Memory.{Memory, has_frame}
+use Rattle.phys_memory.specs.Memory.{FrameMemory, memory_has_frame}
 
 -- a virtual page, by its number, is one of the pages of the n frames from a physical address on
 abbrev pub is_page : ℕ → ℕ → ℕ → Bool
@@ -31,36 +31,36 @@ abbrev pub row_of : ℕ → ℕ → ℕ → Reach
 row_of first len v = record { frame = frame_of v; reach = min 4096 (len - (4096 * v - virtual_of first)) }
 
 -- the n frames from a physical address on are at the virtual addresses of a memory of `len` bytes
-abbrev pub IsPlaced : Memory → ℕ → ℕ → ℕ → Type 0
-IsPlaced m first n len = (v : ℕ) → is_page first n v ≡ true → get m.table v ≡ Some (row_of first len v)
+abbrev pub IsMemoryPlaced : FrameMemory → ℕ → ℕ → ℕ → Type 0
+IsMemoryPlaced m first n len = (v : ℕ) → is_page first n v ≡ true → get m.table v ≡ Some (row_of first len v)
 
 -- the frame of a virtual page, if the page has one
-abbrev pub frame_at : Memory → ℕ → Option ℕ
+abbrev pub frame_at : FrameMemory → ℕ → Option ℕ
 frame_at m v = option_map (λ r. r.frame) (get m.table v)
 
 -- the virtual page of each of the n frames from a physical address on has that frame
-abbrev pub HasFrames : Memory → ℕ → ℕ → Type 0
+abbrev pub HasFrames : FrameMemory → ℕ → ℕ → Type 0
 HasFrames m first n = (v : ℕ) → is_page first n v ≡ true → frame_at m v ≡ Some (frame_of v)
 
 -- the row of a virtual page has the page's own frame, and the memory has that frame
-pub record IsAtItsFrame (m : Memory) (v : ℕ) (r : Reach) : Type 0 where
+pub record IsAtItsFrame (m : FrameMemory) (v : ℕ) (r : Reach) : Type 0 where
   pub own : v ≡ pages_end / 4096 + r.frame
-  pub there : has_frame m r.frame ≡ true
+  pub there : memory_has_frame m r.frame ≡ true
 
 -- each virtual page in the range of dmamem memories has its own frame, and the memory has that frame
-abbrev pub AreAtTheirFrames : Memory → Type 0
+abbrev pub AreAtTheirFrames : FrameMemory → Type 0
 AreAtTheirFrames m = (v : ℕ) (r : Reach) → get m.table v ≡ Some r → pages_end / 4096 ≤ v → IsAtItsFrame m v r
 
 -- the memory has none of the n frames from a physical address on
-abbrev pub IsWithout : Memory → ℕ → ℕ → Type 0
-IsWithout m first n = (f : ℕ) → is_frame first n f ≡ true → has_frame m f ≡ false
+abbrev pub IsWithout : FrameMemory → ℕ → ℕ → Type 0
+IsWithout m first n = (f : ℕ) → is_frame first n f ≡ true → memory_has_frame m f ≡ false
 
 -- the n frames from a physical address on came as those of a memory of `len` bytes, and no other frame came or went
-pub record Comes (old new : Memory) (first n len : ℕ) : Type 0 where
+pub record Comes (old new : FrameMemory) (first n len : ℕ) : Type 0 where
   pub rows : (v : ℕ) → get new.table v ≡ (if is_page first n v then Some (row_of first len v) else get old.table v)
-  pub frames : (f : ℕ) → has_frame new f ≡ (is_frame first n f || has_frame old f)
+  pub frames : (f : ℕ) → memory_has_frame new f ≡ (is_frame first n f || memory_has_frame old f)
 
 -- the n frames from a physical address on went with their virtual pages, and all other frames and pages stayed
-pub record Goes (old new : Memory) (first n : ℕ) : Type 0 where
+pub record Goes (old new : FrameMemory) (first n : ℕ) : Type 0 where
   pub rows : (v : ℕ) → get new.table v ≡ (if is_page first n v then None else get old.table v)
   pub frames : (f : ℕ) → get new.frames f ≡ (if is_frame first n f then None else get old.frames f)

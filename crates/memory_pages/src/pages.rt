@@ -8,9 +8,10 @@ ghost use Rattle.busdma_machine.specs.Machine.PageList.{page_addresses};
 ghost use Rattle.busdma_machine.specs.Machine.VirtualPages.{pages_end};
 ghost use Rattle.busdma_machine.specs.Machine.Wire.{with_bytes_of};
 ghost use Rattle.busdma_rules.specs.Memory.Memories.{virtual_of};
-ghost use Rattle.phys_memory.specs.Memory.{has_frame, physical, wire, with_page};
-ghost use Rattle.memory_pages.specs.Bytes.{all_filled, filled, pages_of};
-ghost use Rattle.memory_pages.specs.Placed.{AreAtTheirFrames, Comes, Goes, HasFrames, IsPlaced, IsWithout, is_byte};
+ghost use Rattle.phys_memory.specs.Memory.{memory_has_frame, memory_physical, wire, with_page};
+ghost use Rattle.memory_pages.specs.Bytes.{all_filled, filled, memory_pages_of as pages_of};
+ghost use Rattle.memory_pages.specs.Placed.{AreAtTheirFrames, Comes, Goes};
+ghost use Rattle.memory_pages.specs.Placed.{HasFrames, IsMemoryPlaced, IsWithout, is_byte};
 
 use busdma_machine::{Pa, Page, PageList};
 use dmamem::va_of;
@@ -39,8 +40,8 @@ pub fn put(memory: &mut LanePages, first: Pa, pages: PageList, len: u64, clear: 
     requires without { IsWithout memory.old.memory first.0 (length pages.items) }
     requires placed { AreAtTheirFrames memory.old.memory }
     ensures come { Comes memory.old.memory memory.new.memory first.0 (length pages.items) len }
-    ensures reached { (va : ℕ) → physical memory.new.memory va
-        ≡ (if is_byte first.0 len va then Some (va - pages_end) else physical memory.old.memory va) }
+    ensures reached { (va : ℕ) → memory_physical memory.new.memory va
+        ≡ (if is_byte first.0 len va then Some (va - pages_end) else memory_physical memory.old.memory va) }
     ensures bytes { (a : ℕ) → wire memory.new.memory a
         ≡ with_bytes_of (all_filled clear pages.items) (wire memory.old.memory) a }
     ensures others { (a : ℕ) → in_run first.0 (length pages.items) a ≡ false →
@@ -61,7 +62,7 @@ pub fn put(memory: &mut LanePages, first: Pa, pages: PageList, len: u64, clear: 
 fn put_page(memory: &mut LanePages, mut page: Page, reach: u64, clear: bool)
     requires room { 0 < memory.old.spare }
     requires reach { reach ≤ 4096 }
-    requires fresh { has_frame memory.old.memory page.frame ≡ false }
+    requires fresh { memory_has_frame memory.old.memory page.frame ≡ false }
     requires placed { AreAtTheirFrames memory.old.memory }
     ensures memory { memory.new.memory
         ≡ with_page memory.old.memory (virtual_of (4096 * page.frame)) (filled clear page) reach }
@@ -96,8 +97,8 @@ pub fn take(memory: &mut LanePages, first: Pa, count: u32, pages: &mut PageList)
     } }
     ensures addresses { page_addresses pages.new.items ≡ page_addresses pages.old.items ++ frames_from count first.0 }
     ensures go { Goes memory.old.memory memory.new.memory first.0 count }
-    ensures reached { (va : ℕ) → physical memory.new.memory va
-        ≡ (if in_run (virtual_of first.0) count va then None else physical memory.old.memory va) }
+    ensures reached { (va : ℕ) → memory_physical memory.new.memory va
+        ≡ (if in_run (virtual_of first.0) count va then None else memory_physical memory.old.memory va) }
     ensures bytes { (a : ℕ) → wire memory.new.memory a
         ≡ (if in_run first.0 count a then 0 else wire memory.old.memory a) }
     ensures placed { AreAtTheirFrames memory.new.memory }

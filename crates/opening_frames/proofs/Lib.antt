@@ -1,4 +1,4 @@
-mod Counted
-pub mod Counts
+pub mod FrameCounts
+mod ListCounts
 pub mod Rising
 pub mod Runs

@@ -8,10 +8,10 @@ use Rattle.std.proofs.lemmas.List.Kept.{AllPairs-cons}
 use Rattle.busdma_machine.specs.Bounce.History.{IsRising}
 use Rattle.busdma_machine.specs.Bounce.Places.{times}
 use Rattle.busdma_machine.specs.Machine.Page.{FrameBytes}
-use Rattle.busdma_machine.specs.Machine.PageList.{frames_of}
+use Rattle.busdma_machine.specs.Machine.PageList.{page_frames}
 use Rattle.busdma_machine.proofs.Accounts.Rising.{above_first}
 use Rattle.frame_bank.specs.FrameBank.{fresh_page, put_pages}
-use Rattle.opening_frames.proofs.Counted.{weight, count_by-cons, count_by-map}
+use Rattle.opening_frames.proofs.ListCounts.{weight, count_by-cons, count_by-map}
 use Rattle.frame_bank.proofs.Placing.{All-put_page, count_by-put_pages, put_page-rising}
 use Rattle.frame_bank.proofs.Rising.{AreRising}
 
@@ -104,7 +104,7 @@ put-rises (f ∷ fs) one =
     (omega (arith, times-fresh f fs, one f, times-cons f f fs, weight-same f f refl))
 
 -- their frames rise
-frames-rise : (ps : List FrameBytes) → AreRising ps → IsRising (frames_of ps)
+frames-rise : (ps : List FrameBytes) → AreRising ps → IsRising (page_frames ps)
 frames-rise [] h = tt
 frames-rise (p ∷ []) h = tt
 frames-rise (p ∷ q ∷ qs) h =
@@ -119,7 +119,7 @@ put-fresh [] = All-nil IsFresh
 put-fresh (f ∷ fs) =
     All-put_page IsFresh (fresh_page f) (put_pages (map fresh_page fs) []) refl (put-fresh fs)
 
-are-fresh : (ps : List FrameBytes) → All IsFresh ps → ps ≡ map fresh_page (frames_of ps)
+are-fresh : (ps : List FrameBytes) → All IsFresh ps → ps ≡ map fresh_page (page_frames ps)
 are-fresh [] h = refl
 are-fresh (p ∷ ps) h =
     ap (λ x. x ∷ ps) (All-head IsFresh p ps h)
@@ -130,7 +130,7 @@ pub put-sorted : (fs gs : List ℕ) → IsRising gs → ((n : ℕ) → times n f
     put_pages (map fresh_page fs) [] ≡ map fresh_page gs
 put-sorted fs gs rising one same =
     let ps : List FrameBytes = put_pages (map fresh_page fs) [] in
-    let count : (n : ℕ) → times n (frames_of ps) ≡ times n gs =
+    let count : (n : ℕ) → times n (page_frames ps) ≡ times n gs =
     (λ n. count_by-map (λ f. f == n) (λ (p : FrameBytes). p.frame) ps ∙ times-fresh n fs ∙ same n) in
     are-fresh ps (put-fresh fs)
-    ∙ ap (map fresh_page) (rising-same (frames_of ps) gs (frames-rise ps (put-rises fs one)) rising count)
+    ∙ ap (map fresh_page) (rising-same (page_frames ps) gs (frames-rise ps (put-rises fs one)) rising count)

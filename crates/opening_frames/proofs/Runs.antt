@@ -19,12 +19,12 @@ use Rattle.busdma_base.specs.Scenarios.FrameRuns.{IsFrameRun, IsNumbered}
 use Rattle.busdma_machine.specs.Machine.PageList.{page_addresses}
 use Rattle.busdma_machine.specs.Runs.{run_of}
 use Rattle.busdma_base.specs.Scenarios.Valid.{IsValid}
-use Rattle.busdma_base.proofs.Openings.{opening-may_begin}
+use Rattle.busdma_base.proofs.OpeningLaws.{opening-may_begin}
 use Rattle.busdma_machine.proofs.Accounts.Places.{times-rising}
 use Rattle.frame_bank.specs.FrameBank.{fresh_page, put_pages}
 use Rattle.frame_bank.proofs.Placing.{length-put_pages}
 use Rattle.opening_frames.specs.Frames.{free_of, unowned, unowned_in}
-use Rattle.opening_frames.proofs.Counts.{same-times}
+use Rattle.opening_frames.proofs.FrameCounts.{same-times}
 use Rattle.opening_frames.proofs.Rising.{differ, put-sorted}
 
 -- ---- loops

@@ -17,8 +17,8 @@ abbrev pub is_frame_of : ℕ → PageRun → Bool
 is_frame_of frame run = nat_le run.frame frame && nat_lt frame (run.frame + run.count)
 
 -- one of these runs of pages has the frame
-abbrev pub has_frame : ℕ → List PageRun → Bool
-has_frame frame pages = list_any (is_frame_of frame) pages
+abbrev pub has_free_frame : ℕ → List PageRun → Bool
+has_free_frame frame pages = list_any (is_frame_of frame) pages
 
 -- the frames of a run that no driver has
 abbrev pub unowned_in : List Driver → FrameRun → List ℕ

@@ -8,7 +8,7 @@ ghost use Rattle.busdma_base.specs.Scenarios.FrameRuns.{IsFrameRun, IsNumbered};
 ghost use Rattle.busdma_base.specs.Scenarios.Valid.{IsValid};
 ghost use Rattle.frame_bank.specs.FrameBank.{fresh_page, free_frames};
 ghost use Rattle.opening_frames.specs.Frames as unowned;
-ghost use Rattle.opening_frames.specs.Frames.{free_of, has_frame, is_frame_of, unowned_in};
+ghost use Rattle.opening_frames.specs.Frames.{free_of, has_free_frame as has_frame, is_frame_of, unowned_in};
 
 use busdma_base::{Driver, FrameRun, PageRun, Scenario};
 use frame_bank::FrameBank;

@@ -9,8 +9,9 @@ use Rattle.std.specs.FinMap.{FinMap, get, insert, from_entries}
 use Rattle.std.proofs.lemmas.Bool.Decides.{eqb_tells}
 use Rattle.busdma_machine.specs.Machine.Page.{FrameBytes, overwritten}
 use Rattle.phys_memory.specs.declared.reach.Reach.{Reach}
-use Rattle.phys_memory.specs.Memory.{Memory, IsMemory, has_frame, page_of, wire, with_page, without_row, rewritten}
-use Rattle.phys_memory.specs.Memory.{written}
+use Rattle.phys_memory.specs.Memory.{FrameMemory, IsMemory, memory_has_frame, page_of}
+use Rattle.phys_memory.specs.Memory.{wire, with_page, without_row, rewritten}
+use Rattle.phys_memory.specs.Memory.{memory_written}
 use Rattle.phys_memory.specs.Kept.{contents, memory_of, AtTheirFrames}
 use Rattle.phys_memory.proofs.Tables.{get_made, made_inserted, made_removed, made_same}
 use Rattle.phys_memory.proofs.Kept.{get-frames, has_frame-kept, contents_inserted, contents_removed, contents_same}
@@ -22,7 +23,7 @@ abbrev pub Puts : {X : Type 0} → List (ℕ × X) → List (ℕ × X) → ℕ �
 Puts es fs k o = (q : ℕ) → lookup (nat_eq q) fs ≡ cond (nat_eq k q) o (lookup (nat_eq q) es)
 
 two : {t u : FinMap nat_cmp Reach} {f g : FinMap nat_cmp (List ℕ)} → t ≡ u → f ≡ g →
-    ◌≡◌ {A = Memory} (record { table = t; frames = f }) (record { table = u; frames = g })
+    ◌≡◌ {A = FrameMemory} (record { table = t; frames = f }) (record { table = u; frames = g })
 two e f = cc
 
 pub same_memory : (rows new : List (ℕ × Reach)) (pages fresh : List (ℕ × FrameBytes)) →
@@ -133,12 +134,12 @@ places_rewritten pages fresh pa page bytes at here h =
     at
 
 -- the wire after a write
-pub wire_after : (m : Memory) (pa : ℕ) (bytes : List ℕ) → IsMemory m → has_frame m (pa / 4096) ≡ true →
-    pa % 4096 + length bytes ≤ 4096 → wire (rewritten m pa bytes) ≡ written pa bytes (wire m)
+pub wire_after : (m : FrameMemory) (pa : ℕ) (bytes : List ℕ) → IsMemory m → memory_has_frame m (pa / 4096) ≡ true →
+    pa % 4096 + length bytes ≤ 4096 → wire (rewritten m pa bytes) ≡ memory_written pa bytes (wire m)
 wire_after m pa bytes is has fits = known (get m.frames (pa / 4096)) refl has
   where
     known : (o : Option (List ℕ)) → get m.frames (pa / 4096) ≡ o → is_some o ≡ true →
-        wire (rewritten m pa bytes) ≡ written pa bytes (wire m)
+        wire (rewritten m pa bytes) ≡ memory_written pa bytes (wire m)
     known None e s = absurd (cc)
     known (Some old) e s = wire-rewritten m pa old bytes e (is.whole (pa / 4096) old e) fits
 

@@ -10,11 +10,11 @@ use Rattle.std.proofs.lemmas.Bool.{lt-ltb, le-leb, lt-leb, le-ltb, cases_lt}
 use Rattle.std.proofs.lemmas.Bool.Decides.{eqb_tells}
 use Rattle.busdma_machine.specs.Machine.Page.{overwritten}
 use Rattle.busdma_machine.specs.Runs.{run_of}
-use Rattle.phys_memory.specs.Memory.{Memory, byte_in, wire, written, rewritten}
+use Rattle.phys_memory.specs.Memory.{FrameMemory, byte_in, wire, memory_written, rewritten}
 use Rattle.phys_memory.proofs.Tables.{get_inserted}
 
 -- the bytes of a frame from a place on are those at their addresses
-take-drop-wire : (m : Memory) (bytes : List ℕ) (f at n : ℕ) → get m.frames f ≡ Some bytes → length bytes ≡ 4096 →
+take-drop-wire : (m : FrameMemory) (bytes : List ℕ) (f at n : ℕ) → get m.frames f ≡ Some bytes → length bytes ≡ 4096 →
     at + n ≤ 4096 → take n (drop at bytes) ≡ map (wire m) (run_of (4096 * f + at) n)
 take-drop-wire m bytes f at zero here whole h = refl
 take-drop-wire m bytes f at (suc n) here whole h =
@@ -30,7 +30,7 @@ take-drop-wire m bytes f at (suc n) here whole h =
     ∙ ap (λ xs. wire m (4096 * f + at) ∷ xs) others
 
 -- a slice of a frame's bytes has those from an address on
-pub slice_wire : (m : Memory) (bytes : List ℕ) (pa n k : ℕ) → k ≡ n → get m.frames (pa / 4096) ≡ Some bytes →
+pub slice_wire : (m : FrameMemory) (bytes : List ℕ) (pa n k : ℕ) → k ≡ n → get m.frames (pa / 4096) ≡ Some bytes →
     length bytes ≡ 4096 → pa % 4096 + n ≤ 4096 → take k (drop (pa % 4096) bytes) ≡ map (wire m) (run_of pa n)
 slice_wire m bytes pa n k e here whole h =
     let address : 4096 * (pa / 4096) + pa % 4096 ≡ pa = omega arith in
@@ -116,15 +116,15 @@ pub length-overwritten : (old : List ℕ) (at : ℕ) (new : List ℕ) → at + l
 length-overwritten old at new h = simp (length-append, length-take, length-drop) (omega arith)
 
 -- the memory after a write, given the bytes of the frame
-pub rewritten_is : (m : Memory) (pa : ℕ) (old new : List ℕ) → get m.frames (pa / 4096) ≡ Some old →
+pub rewritten_is : (m : FrameMemory) (pa : ℕ) (old new : List ℕ) → get m.frames (pa / 4096) ≡ Some old →
     rewritten m pa new ≡ record m { frames = insert m.frames (pa / 4096) (overwritten old (pa % 4096) new) }
 rewritten_is m pa old new here =
     ap (λ o. record m { frames = insert m.frames (pa / 4096) (overwritten (unwrap_or o []) (pa % 4096) new) }) here
 
-module _ (m : Memory) (pa : ℕ) (old new : List ℕ) (here : get m.frames (pa / 4096) ≡ Some old)
+module _ (m : FrameMemory) (pa : ℕ) (old new : List ℕ) (here : get m.frames (pa / 4096) ≡ Some old)
     (whole : length old ≡ 4096) (fits : pa % 4096 + length new ≤ 4096) where
   wire_at : (a : ℕ) → wire (record m { frames = insert m.frames (pa / 4096) (overwritten old (pa % 4096) new) }) a
-      ≡ written pa new (wire m) a
+      ≡ memory_written pa new (wire m) a
   wire_at a =
       let frame = overwritten old (pa % 4096) new in
       ap (λ o. byte_in o (a % 4096)) (get_inserted m.frames (pa / 4096) frame (a / 4096))
@@ -144,5 +144,5 @@ module _ (m : Memory) (pa : ℕ) (old new : List ℕ) (here : get m.frames (pa /
       ]
 
   -- a write changes exactly the bytes of its run
-  pub wire-rewritten : wire (rewritten m pa new) ≡ written pa new (wire m)
+  pub wire-rewritten : wire (rewritten m pa new) ≡ memory_written pa new (wire m)
   wire-rewritten = ap wire (rewritten_is m pa old new here) ∙ fun_ext wire_at

@@ -10,7 +10,8 @@ use Rattle.std.proofs.lemmas.Map.Made.{lookup-map_values}
 use Rattle.std.proofs.lemmas.Bool.{eq-eqb, ne_eqb}
 use Rattle.busdma_machine.specs.Machine.Page.{FrameBytes}
 use Rattle.phys_memory.specs.declared.reach.Reach.{Reach}
-use Rattle.phys_memory.specs.Memory.{Memory, IsMemory, IsReachOf, has_frame, has_page, with_page, without_row}
+use Rattle.phys_memory.specs.Memory.{FrameMemory, IsMemory, IsReachOf}
+use Rattle.phys_memory.specs.Memory.{memory_has_frame, memory_has_page, with_page, without_row}
 use Rattle.phys_memory.specs.Kept.{contents, memory_of, AtTheirFrames}
 use Rattle.phys_memory.proofs.Tables.{get_made, get_removed, got_inserted, got_removed, is_some-inserted}
 use Rattle.phys_memory.proofs.Tables.{made_inserted, made_removed, made_same}
@@ -33,12 +34,12 @@ is_some-mapped f (Some x) = refl
 
 -- a memory has a frame exactly if its pages do
 pub has_frame-kept : (rows : List (ℕ × Reach)) (pages : List (ℕ × FrameBytes)) (q : ℕ) →
-    has_frame (memory_of rows pages) q ≡ is_some (lookup (nat_eq q) pages)
+    memory_has_frame (memory_of rows pages) q ≡ is_some (lookup (nat_eq q) pages)
 has_frame-kept rows pages q =
     ap is_some (get-frames pages q) ∙ is_some-mapped (λ (p : FrameBytes). p.bytes) (lookup (nat_eq q) pages)
 
 pub has_page-kept : (rows : List (ℕ × Reach)) (pages : List (ℕ × FrameBytes)) (va : ℕ) →
-    has_page (memory_of rows pages) va ≡ is_some (lookup (nat_eq (va / 4096)) rows)
+    memory_has_page (memory_of rows pages) va ≡ is_some (lookup (nat_eq (va / 4096)) rows)
 has_page-kept rows pages va = ap is_some (get_made rows (va / 4096))
 
 mapped_cond : {A B : Type 0} (f : A → B) (b : Bool) (o p : Option A) →
@@ -72,7 +73,7 @@ contents_same es fs h = made_same (contents es) (contents fs) (λ q. lookup-cont
 
 -- ---- what a memory keeps
 
-pub empty_memory : (m : Memory) → m.table ≡ empty → m.frames ≡ empty → IsMemory m
+pub empty_memory : (m : FrameMemory) → m.table ≡ empty → m.frames ≡ empty → IsMemory m
 empty_memory m t f =
     let row : (v : ℕ) → get m.table v ≡ None = λ v. ap (λ x. get x v) t ∙ get-empty nat_cmp v in
     let frame : (v : ℕ) → get m.frames v ≡ None = λ v. ap (λ x. get x v) f ∙ get-empty nat_cmp v in
@@ -93,23 +94,24 @@ no_pages pages e f page h = none (sym (ap (lookup (nat_eq f)) e) ∙ h)
 clash : (b : Bool) → b ≡ true → b ≡ false → ⊥
 clash b t f = absurd (cc)
 
-pub memory_with_page : (m : Memory) (va : ℕ) (page : FrameBytes) (reach : ℕ) → IsMemory m → has_page m va ≡ false →
-    has_frame m page.frame ≡ false → page.frame < 2 ^ 30 → length page.bytes ≡ 4096 →
+pub memory_with_page : (m : FrameMemory) (va : ℕ) (page : FrameBytes) (reach : ℕ) → IsMemory m → memory_has_page m va
+    ≡ false →
+    memory_has_frame m page.frame ≡ false → page.frame < 2 ^ 30 → length page.bytes ≡ 4096 →
     reach ≤ 4096 → IsMemory (with_page m va page reach)
 memory_with_page m va page reach is free fresh below whole short =
     let row : Reach = record { frame = page.frame; reach = reach } in
     let k = va / 4096 in
     let old_frame : (v : ℕ) (r : Reach) → get m.table v ≡ Some r → page.frame ≡ r.frame → ⊥ =
-    λ v r h e. clash (has_frame m r.frame) (is.there v r h) (ap (has_frame m) (sym e) ∙ fresh) in
+    λ v r h e. clash (memory_has_frame m r.frame) (is.there v r h) (ap (memory_has_frame m) (sym e) ∙ fresh) in
     record {
       reached =
           λ v r h. elim (got_inserted m.table k row v r h)
           [ inl t ↦ subst (λ (x : Reach). x.reach ≤ 4096) t.1 short | inr t ↦ is.reached v r t ];
       there =
           λ v r h. is_some-inserted m.frames page.frame page.bytes r.frame ∙ elim (got_inserted m.table k row v r h) [
-            | inl t ↦ ap (λ b. cond b true (has_frame m r.frame))
+            | inl t ↦ ap (λ b. cond b true (memory_has_frame m r.frame))
                 (eq-eqb r.frame page.frame (sym (ap (λ (x : Reach). x.frame) t.1)))
-            | inr t ↦ elim (nat_eq r.frame page.frame) as (λ b. cond b true (has_frame m r.frame) ≡ true)
+            | inr t ↦ elim (nat_eq r.frame page.frame) as (λ b. cond b true (memory_has_frame m r.frame) ≡ true)
                 [ true ↦ refl | false ↦ is.there v r t ]
           ];
       apart = λ v w r s h i e. elim (got_inserted m.table k row v r h) [
@@ -132,7 +134,7 @@ memory_with_page m va page reach is free fresh below whole short =
       ];
     }
 
-pub memory_without_row : (m : Memory) (v : ℕ) (r : Reach) → IsMemory m →
+pub memory_without_row : (m : FrameMemory) (v : ℕ) (r : Reach) → IsMemory m →
     get m.table v ≡ Some r → IsMemory (without_row m v (Some r))
 memory_without_row m v r is here = record {
   reached = λ w s h. is.reached w s (got_removed m.table v w s h).1;
@@ -147,12 +149,12 @@ memory_without_row m v r is here = record {
 }
 
 -- a memory is still a memory after a frame gets other bytes
-pub memory_with_bytes : (m : Memory) (f : ℕ) (bytes : List ℕ) → IsMemory m → has_frame m f ≡ true →
+pub memory_with_bytes : (m : FrameMemory) (f : ℕ) (bytes : List ℕ) → IsMemory m → memory_has_frame m f ≡ true →
     length bytes ≡ 4096 → IsMemory (record m { frames = insert m.frames f bytes })
 memory_with_bytes m f bytes is has whole = record {
   reached = is.reached;
   there = λ v r h. is_some-inserted m.frames f bytes r.frame
-      ∙ elim (nat_eq r.frame f) as (λ b. cond b true (has_frame m r.frame) ≡ true)
+      ∙ elim (nat_eq r.frame f) as (λ b. cond b true (memory_has_frame m r.frame) ≡ true)
       [ true ↦ refl | false ↦ is.there v r h ];
   apart = is.apart;
   numbered =
@@ -168,7 +170,7 @@ memory_with_bytes m f bytes is has whole = record {
     number (Some old) e s = is.numbered f old e
 
 -- what the invariant says of a row that was found
-pub row_is : (m : Memory) (v : ℕ) (o : Option Reach) → IsMemory m → get m.table v ≡ o → IfSome o (IsReachOf m)
+pub row_is : (m : FrameMemory) (v : ℕ) (o : Option Reach) → IsMemory m → get m.table v ≡ o → IfSome o (IsReachOf m)
 row_is m v None is here = tt
 row_is m v (Some r) is here = record {
   reached = is.reached v r here;

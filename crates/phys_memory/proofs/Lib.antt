@@ -3,14 +3,14 @@ pub mod Extents
 pub mod FrameBytes
 pub mod Kept
 pub mod Loads
-pub mod Paged
 pub mod PageBytes
+pub mod Paged
 pub mod Reached
 pub mod RunParts
 pub mod SameFrames
 pub mod Streams
 pub mod Stretches
 pub mod Tables
-pub mod Vectors
-pub mod Walks
+pub mod VectorLaws
+pub mod WalkLaws
 pub mod Writing

@@ -12,20 +12,21 @@ use Rattle.busdma_machine.specs.declared.machine.chunk.Part.{Part}
 use Rattle.busdma_machine.specs.declared.machine.chunk.Part.TheVariants.{Of, Unmapped}
 use Rattle.busdma_machine.specs.declared.report.Judged.{Judged}
 use Rattle.busdma_machine.specs.declared.report.Judged.TheVariants.{Fine, Refused}
-use Rattle.busdma_machine.specs.Machine.Entry.{AreJoined, HasPart, IsEntry, IsStream, entries_bytes, entries_of}
+use Rattle.busdma_machine.specs.Machine.Entry.{AreJoined, HasPart, IsEntry}
+use Rattle.busdma_machine.specs.Machine.Entry.{IsStream, entries_bytes, stream_entries}
 use Rattle.busdma_machine.specs.Machine.Entry.{entry_parts, extent_parts, others_of, parts_of}
 use Rattle.busdma_machine.specs.Runs.{IsExtent, addresses, byte_count, run_of}
 use Rattle.busdma_machine.specs.Machine.Spans.{one_span, span_bytes}
 use Rattle.busdma_rules.specs.Memory.Translation.{Translation}
-use Rattle.busdma_rules.specs.Memory.Extents.{extents_of, reached_addresses as reached}
-use Rattle.phys_memory.specs.Vector.{ending, spans_stream}
+use Rattle.busdma_rules.specs.Memory.Extents.{extents_of, reached_addresses}
+use Rattle.phys_memory.specs.VectorStreams.{ending, spans_stream}
 use Rattle.busdma_rules.specs.Memory.Vectors.{judged_spans, with_entry}
 use Rattle.busdma_rules.specs.Memory.Vectors.{entries_of as walk_entries}
 use Rattle.phys_memory.proofs.Extents.{length-run_of}
 use Rattle.busdma_rules.proofs.Memory.Extents.{reached_extents}
 use Rattle.busdma_rules.proofs.Memory.Paged.{IsPaged}
 use Rattle.busdma_rules.proofs.Memory.Vectors.{entries_are, entries_touch}
-use Rattle.phys_memory.proofs.Vectors.{length-reached}
+use Rattle.phys_memory.proofs.VectorLaws.{length-reached}
 
 -- ---- the entries of a stream of entries
 
@@ -35,16 +36,16 @@ others_behind r [] ps = refl
 others_behind r (e ∷ es) ps = ap (λ xs. e ∷ xs) (others_behind r es ps)
 
 entries_behind : (r : Bool) (es : List Extent) (ps : List Part) →
-    entries_of (extent_parts false r es ++ ps) ≡ entries_of ps
+    stream_entries (extent_parts false r es ++ ps) ≡ stream_entries ps
 entries_behind r [] ps = refl
 entries_behind r (e ∷ es) ps = entries_behind r es ps
 
 -- the entries of a stream whose first entry has these parts
 entry_first : (r : Bool) (es : List Extent) (ps : List Part) → 0 < length es → others_of ps ≡ [] →
-    entries_of (extent_parts true r es ++ ps) ≡ record { rounded = r; parts = es } ∷ entries_of ps
+    stream_entries (extent_parts true r es ++ ps) ≡ record { rounded = r; parts = es } ∷ stream_entries ps
 entry_first r [] ps some h = absurd (omega arith)
 entry_first r (e ∷ es) ps some h =
-    ap (λ xs. record { rounded = r; parts = e ∷ xs } ∷ entries_of (extent_parts false r es ++ ps))
+    ap (λ xs. record { rounded = r; parts = e ∷ xs } ∷ stream_entries (extent_parts false r es ++ ps))
     (others_behind r es ps ∙ ap (λ xs. es ++ xs) h ∙ append-nil es)
     ∙ ap (λ xs. record { rounded = r; parts = e ∷ es } ∷ xs) (entries_behind r es ps)
 
@@ -55,17 +56,17 @@ opens_first r [] ps some = absurd (omega arith)
 opens_first r (e ∷ es) ps some = refl
 
 -- the stream of entries, and then parts that have none
-module _ (last : List Part) (none : others_of last ≡ []) (end : entries_of last ≡ []) where
+module _ (last : List Part) (none : others_of last ≡ []) (end : stream_entries last ≡ []) where
   no_others : (es : List Entry) → AllByRecursion HasPart es → others_of (parts_of es ++ last) ≡ []
   no_others [] h = none
   no_others (e ∷ es) h =
       ap others_of (append_assoc (entry_parts e) (parts_of es) last)
       ∙ opens_first e.rounded e.parts (parts_of es ++ last) h.0
 
-  same_entries : (es : List Entry) → AllByRecursion HasPart es → entries_of (parts_of es ++ last) ≡ es
+  same_entries : (es : List Entry) → AllByRecursion HasPart es → stream_entries (parts_of es ++ last) ≡ es
   same_entries [] h = end
   same_entries (e ∷ es) h =
-      ap entries_of (append_assoc (entry_parts e) (parts_of es) last)
+      ap stream_entries (append_assoc (entry_parts e) (parts_of es) last)
       ∙ entry_first e.rounded e.parts (parts_of es ++ last) h.0 (no_others es h.1)
       ∙ ap (λ xs. e ∷ xs) (same_entries es h.1)
 
@@ -73,7 +74,7 @@ no_last_others : (j : Judged) → others_of (ending j) ≡ []
 no_last_others Fine = refl
 no_last_others (Refused r) = refl
 
-no_last_entries : (j : Judged) → entries_of (ending j) ≡ []
+no_last_entries : (j : Judged) → stream_entries (ending j) ≡ []
 no_last_entries Fine = refl
 no_last_entries (Refused r) = refl
 
@@ -107,7 +108,7 @@ module _ (Has : ℕ → Type 0) (rounded : Bool) (t : Translation) (is : IsPaged
   walk_bytes : (ss : List Span) → entries_bytes (walk_entries rounded t ss) ≤ span_bytes ss
   walk_bytes [] = omega arith
   walk_bytes (s ∷ ss) =
-      let pas = reached t s.va.0 s.len in
+      let pas = reached_addresses t s.va.0 s.len in
       let others = if nat_eq (length pas) s.len then walk_entries rounded t ss else [] in
       let few =
       elim (nat_eq (length pas) s.len)
@@ -159,8 +160,8 @@ joined_front [] rest h = tt
 joined_front (e ∷ []) rest h = tt
 joined_front (e ∷ f ∷ es) rest h = (h.0, h.1, joined_front (f ∷ es) rest h.2)
 
-entries_front : (xs ys : List Part) → AllByRecursion IsEntry (entries_of (xs ++ ys)) →
-    AllByRecursion IsEntry (entries_of xs)
+entries_front : (xs ys : List Part) → AllByRecursion IsEntry (stream_entries (xs ++ ys)) →
+    AllByRecursion IsEntry (stream_entries xs)
 entries_front [] ys h = tt
 entries_front (Of e true r ∷ xs) ys h =
     let f = others_front xs ys in
@@ -175,7 +176,7 @@ entries_front (Of e true r ∷ xs) ys h =
 entries_front (Of e false r ∷ xs) ys h = entries_front xs ys h
 entries_front (Unmapped n ∷ xs) ys h = entries_front xs ys h
 
-bytes_front : (xs ys : List Part) → entries_bytes (entries_of xs) ≤ entries_bytes (entries_of (xs ++ ys))
+bytes_front : (xs ys : List Part) → entries_bytes (stream_entries xs) ≤ entries_bytes (stream_entries (xs ++ ys))
 bytes_front [] ys = omega arith
 bytes_front (Of e true r ∷ xs) ys =
     let f = others_front xs ys in
@@ -183,8 +184,8 @@ bytes_front (Of e true r ∷ xs) ys =
     let there : Entry = record { rounded = r; parts = e ∷ others_of (xs ++ ys) } in
     omega (
       arith,
-      sum_by-cons (λ (x : Entry). byte_count x.parts) here (entries_of xs),
-      sum_by-cons (λ (x : Entry). byte_count x.parts) there (entries_of (xs ++ ys)),
+      sum_by-cons (λ (x : Entry). byte_count x.parts) here (stream_entries xs),
+      sum_by-cons (λ (x : Entry). byte_count x.parts) there (stream_entries (xs ++ ys)),
       ap (λ es. byte_count (e ∷ es)) f.1,
       sum_by-append (λ (x : Extent). x.len) (e ∷ others_of xs) f.0,
       bytes_front xs ys,

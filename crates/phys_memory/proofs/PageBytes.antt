@@ -9,10 +9,10 @@ use Rattle.std.proofs.lemmas.Bool.{eq-eqb, ne_eqb, false≢true}
 use Rattle.std.proofs.lemmas.Bool.Decides.{eqb_tells}
 use Rattle.std.proofs.lemmas.List.{get_or-map, length-map}
 use Rattle.busdma_machine.specs.Machine.Page.{FrameBytes, overwritten}
-use Rattle.busdma_machine.specs.Machine.PageList.{frames_of}
+use Rattle.busdma_machine.specs.Machine.PageList.{page_frames}
 use Rattle.busdma_machine.specs.Machine.Wire.{Wire, page_byte, put, with_bytes_of}
 use Rattle.busdma_machine.specs.Runs.{run_of}
-use Rattle.phys_memory.specs.Memory.{Memory, has_frame, written}
+use Rattle.phys_memory.specs.Memory.{FrameMemory, memory_has_frame, memory_written}
 use Rattle.phys_memory.proofs.FrameBytes.{in_run, at_address, elsewhere, offset_in_frame, get_or-overwritten}
 use Rattle.phys_memory.proofs.Writing.{written_run}
 
@@ -39,27 +39,27 @@ no_page_at [] w a h = refl
 no_page_at (p ∷ ps) w a h = other_pages p ps w a h.0 ∙ no_page_at ps w a h.1
 
 -- a frame of the memory is none of pages that lie apart from it
-pub none_apart : (m : Memory) (ps : List FrameBytes) (f : ℕ) →
-    All (λ g. has_frame m g ≡ false) (frames_of ps) → has_frame m f ≡ true → IsNone ps f
+pub none_apart : (m : FrameMemory) (ps : List FrameBytes) (f : ℕ) →
+    All (λ g. memory_has_frame m g ≡ false) (page_frames ps) → memory_has_frame m f ≡ true → IsNone ps f
 none_apart m [] f h k = tt
 none_apart m (p ∷ ps) f h k = (
-  λ e. false≢true (sym (h 0 0 (omega arith)) ∙ (ap (has_frame m) (sym e) ∙ k)),
+  λ e. false≢true (sym (h 0 0 (omega arith)) ∙ (ap (memory_has_frame m) (sym e) ∙ k)),
   none_apart m ps f (λ j d l. h (suc j) d (omega arith)) k,
 )
 
 -- pages whose frames differ: the first page, and those after it
-first_differs : (p : FrameBytes) (ps : List FrameBytes) (i : ℕ) → AllPairs (λ f g. f ≢ g) (frames_of (p ∷ ps)) →
+first_differs : (p : FrameBytes) (ps : List FrameBytes) (i : ℕ) → AllPairs (λ f g. f ≢ g) (page_frames (p ∷ ps)) →
     i < length ps → p.frame ≢ (get_or ps i no_page).frame
 first_differs p ps i h k e =
     h 0 (suc i) 0 (omega arith) (omega (arith, length-map (p ∷ ps) (λ (x : FrameBytes). x.frame)))
     (e ∙ sym (get_or-map (λ (x : FrameBytes). x.frame) ps i no_page 0 k))
 
 pub later_differ : (p : FrameBytes) (ps : List FrameBytes) →
-    AllPairs (λ f g. f ≢ g) (frames_of (p ∷ ps)) → AllPairs (λ f g. f ≢ g) (frames_of ps)
+    AllPairs (λ f g. f ≢ g) (page_frames (p ∷ ps)) → AllPairs (λ f g. f ≢ g) (page_frames ps)
 later_differ p ps h i j d k l = h (suc i) (suc j) d (omega arith) (omega arith)
 
 -- the page of an address, among pages whose frames differ
-pub page_at : (ps : List FrameBytes) (i : ℕ) (w : Wire) (a : ℕ) → AllPairs (λ f g. f ≢ g) (frames_of ps) →
+pub page_at : (ps : List FrameBytes) (i : ℕ) (w : Wire) (a : ℕ) → AllPairs (λ f g. f ≢ g) (page_frames ps) →
     i < length ps → a / 4096 ≡ (get_or ps i no_page).frame → with_bytes_of ps w a ≡ page_byte (get_or ps i no_page) a
 page_at [] i w a d h e = absurd (omega arith)
 page_at (p ∷ ps) zero w a d h e = first_page p ps w a e
@@ -69,11 +69,11 @@ page_at (p ∷ ps) (suc i) w a d h e =
 
 -- a page is replaced by another page of the same frame
 pub page_replaced : (ps : List FrameBytes) (i : ℕ) (new : FrameBytes) (w : Wire) →
-    AllPairs (λ f g. f ≢ g) (frames_of ps) → i < length ps → new.frame ≡ (get_or ps i no_page).frame →
+    AllPairs (λ f g. f ≢ g) (page_frames ps) → i < length ps → new.frame ≡ (get_or ps i no_page).frame →
     with_bytes_of (set ps i new) w ≡ with_bytes_of (new ∷ []) (with_bytes_of ps w)
 page_replaced ps i new w d h e = fun_ext (at ps i d h e)
   where
-    at : (ps : List FrameBytes) (i : ℕ) → AllPairs (λ f g. f ≢ g) (frames_of ps) → i < length ps →
+    at : (ps : List FrameBytes) (i : ℕ) → AllPairs (λ f g. f ≢ g) (page_frames ps) → i < length ps →
         new.frame ≡ (get_or ps i no_page).frame → (a : ℕ) →
         with_bytes_of (set ps i new) w a ≡ with_bytes_of (new ∷ []) (with_bytes_of ps w) a
     at [] i d h e a = absurd (omega arith)
@@ -98,7 +98,7 @@ page_replaced ps i new w d h e = fun_ext (at ps i d h e)
         under q = ap (λ x. cond (a / 4096 == new.frame) (page_byte new a) x) (sym q)
 
 -- the pages show the bytes of each page among them
-pub page_shown : (ps : List FrameBytes) (i : ℕ) (w : Wire) → AllPairs (λ f g. f ≢ g) (frames_of ps) → i < length ps →
+pub page_shown : (ps : List FrameBytes) (i : ℕ) (w : Wire) → AllPairs (λ f g. f ≢ g) (page_frames ps) → i < length ps →
     with_bytes_of (get_or ps i no_page ∷ []) (with_bytes_of ps w) ≡ with_bytes_of ps w
 page_shown ps i w d h = fun_ext (λ a. elim (eqb_tells (a / 4096) (get_or ps i no_page).frame) [
   | inl t ↦ first_page (get_or ps i no_page) [] (with_bytes_of ps w) a t.1 ∙ sym (page_at ps i w a d h t.1)
@@ -136,7 +136,7 @@ page_written p pa bs w whole here fits = fun_ext at ∙ written_run pa bs (with_
     new : FrameBytes
     new = record p { bytes = overwritten p.bytes (pa % 4096) bs }
 
-    at : (a : ℕ) → with_bytes_of (new ∷ []) w a ≡ written pa bs (with_bytes_of (p ∷ []) w) a
+    at : (a : ℕ) → with_bytes_of (new ∷ []) w a ≡ memory_written pa bs (with_bytes_of (p ∷ []) w) a
     at a = elim (eqb_tells (a / 4096) p.frame) [
       | inl t ↦
           first_page new [] w a t.1 ∙ get_or-overwritten p.bytes (pa % 4096) bs (a % 4096) (omega arith)

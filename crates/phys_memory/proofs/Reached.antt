@@ -5,14 +5,15 @@ use Rattle.std.specs.Prelude.{Option, Some, None, nat_lt, if◌then◌else◌}
 use Rattle.std.specs.FinMap.{get}
 use Rattle.std.proofs.lemmas.Bool.{lt-ltb, le-ltb, cases_lt}
 use Rattle.phys_memory.specs.declared.reach.Reach.{Reach}
-use Rattle.phys_memory.specs.Memory.{Memory, IsMemory, IsReachOf, has_frame, physical, reached_in, row_at}
+use Rattle.phys_memory.specs.Memory.{FrameMemory, IsMemory, IsReachOf}
+use Rattle.phys_memory.specs.Memory.{memory_has_frame, memory_physical, reached_in, row_at}
 use Rattle.phys_memory.specs.Extents.{IsNext}
 use Rattle.phys_memory.proofs.Kept.{row_is}
 use Rattle.phys_memory.proofs.Paged.{HasPage, next_in_page}
 use Rattle.busdma_rules.proofs.Memory.Paged.{IsPaged, KeepsPlaces}
 
 -- the row of a byte's page is that of every byte of the page
-row_in_page : (m : Memory) (a b : ℕ) → a / 4096 ≡ b / 4096 → row_at m a ≡ row_at m b
+row_in_page : (m : FrameMemory) (a b : ℕ) → a / 4096 ≡ b / 4096 → row_at m a ≡ row_at m b
 row_in_page m a b e = ap (λ v. if nat_lt a (2 ^ 64) then get m.table v else None) e
     ∙ ap (λ (t : Bool). if t then get m.table (b / 4096) else None) (same (cases_lt a (2 ^ 64)))
   where
@@ -21,15 +22,16 @@ row_in_page m a b e = ap (λ v. if nat_lt a (2 ^ 64) then get m.table v else Non
     same (inr h) = le-ltb a (2 ^ 64) h ∙ sym (le-ltb b (2 ^ 64) (omega arith))
 
 -- a byte of the page of a row
-physical_in_row : (m : Memory) (at i : ℕ) (r : Reach) → row_at m at ≡ Some r → i < 4096 →
-    physical m (4096 * (at / 4096) + i) ≡ reached_in (Some r) i
+physical_in_row : (m : FrameMemory) (at i : ℕ) (r : Reach) → row_at m at ≡ Some r → i < 4096 →
+    memory_physical m (4096 * (at / 4096) + i) ≡ reached_in (Some r) i
 physical_in_row m at i r here h =
     let a = 4096 * (at / 4096) + i in
     let number : a / 4096 ≡ at / 4096 = omega arith in
     let place : a % 4096 ≡ i = omega arith in
     ap (λ o. reached_in o (a % 4096)) (row_in_page m a at number ∙ here) ∙ ap (reached_in (Some r)) place
 
-row_page : (m : Memory) (at : ℕ) (r : Reach) → row_at m at ≡ Some r → HasPage (physical m) (at / 4096) r.frame r.reach
+row_page : (m : FrameMemory) (at : ℕ) (r : Reach) → row_at m at ≡ Some r → HasPage (memory_physical m) (at / 4096)
+    r.frame r.reach
 row_page m at r here = record {
   inside = λ i h k. physical_in_row m at i r here k
       ∙ ap (λ (t : Bool). if t then Some (4096 * r.frame + i) else None) (lt-ltb i r.reach h);
@@ -38,7 +40,7 @@ row_page m at r here = record {
 }
 
 -- a byte is at the same place in its page and in its frame
-memory_places : (m : Memory) → KeepsPlaces (physical m)
+memory_places : (m : FrameMemory) → KeepsPlaces (memory_physical m)
 memory_places m a p h = placed (row_at m a) h
   where
     inside : (f : ℕ) (t : Bool) → ◌≡◌ {A = Option ℕ} (if t then Some (4096 * f + a % 4096) else None) (Some p) →
@@ -51,11 +53,12 @@ memory_places m a p h = placed (row_at m a) h
     placed (Some r) e = inside r.frame (nat_lt (a % 4096) r.reach) e
 
 -- the extent that a row gives
-pub next_is : (m : Memory) (at n left : ℕ) (r : Reach) → row_at m at ≡ Some r → IsReachOf m r → at % 4096 < r.reach →
+pub next_is : (m : FrameMemory) (at n left : ℕ) (r : Reach) → row_at m at ≡ Some r → IsReachOf m r → at % 4096
+    < r.reach →
     0 < left → n ≡ min (r.reach - at % 4096) left →
-    IsNext (physical m) at left (record { pa = record { 0 = r.frame * 4096 + at % 4096 }; len = n })
+    IsNext (memory_physical m) at left (record { pa = record { 0 = r.frame * 4096 + at % 4096 }; len = n })
 next_is m at n left r here is inside some e =
-    next_in_page (physical m) at n left r.frame r.reach (row_page m at r here) (memory_places m)
+    next_in_page (memory_physical m) at n left r.frame r.reach (row_page m at r here) (memory_places m)
     is.reached is.numbered inside some e
 
 -- ---- the bytes of a memory
@@ -74,8 +77,8 @@ next_place (Some r) i p q h k = both (nat_lt i r.reach) (nat_lt (i + 1) r.reach)
     both true false e f = absurd (cc)
     both false t e f = absurd (cc)
 
-next_byte : (m : Memory) (va p q : ℕ) → physical m va ≡ Some p →
-    physical m (va + 1) ≡ Some q → (va + 1) % 4096 ≢ 0 → q ≡ p + 1
+next_byte : (m : FrameMemory) (va p q : ℕ) → memory_physical m va ≡ Some p →
+    memory_physical m (va + 1) ≡ Some q → (va + 1) % 4096 ≢ 0 → q ≡ p + 1
 next_byte m va p q h k apart =
     let page : (va + 1) / 4096 ≡ va / 4096 = omega arith in
     let place : (va + 1) % 4096 ≡ va % 4096 + 1 = omega arith in
@@ -84,10 +87,10 @@ next_byte m va p q h k apart =
     ∙ ap (reached_in (row_at m (va + 1))) (sym place) ∙ k)
 
 -- an address is in a frame of the memory
-abbrev pub IsHeld : Memory → ℕ → Type 0
-IsHeld m pa = has_frame m (pa / 4096) ≡ true
+abbrev pub IsHeld : FrameMemory → ℕ → Type 0
+IsHeld m pa = memory_has_frame m (pa / 4096) ≡ true
 
-address_of : (m : Memory) (va p : ℕ) → IsMemory m → physical m va ≡ Some p → (p < 2 ^ 42) × IsHeld m p
+address_of : (m : FrameMemory) (va p : ℕ) → IsMemory m → memory_physical m va ≡ Some p → (p < 2 ^ 42) × IsHeld m p
 address_of m va p is h = in_row (row_at m va) refl h
   where
     inside : (r : Reach) (t : Bool) → IsReachOf m r →
@@ -96,7 +99,7 @@ address_of m va p is h = in_row (row_at m va) refl h
         let a : 4096 * r.frame + va % 4096 ≡ p = cc in
         let below : r.frame < 2 ^ 30 = row.numbered in
         let number : p / 4096 ≡ r.frame = omega arith in
-        (omega arith, ap (has_frame m) number ∙ row.there)
+        (omega arith, ap (memory_has_frame m) number ∙ row.there)
     inside r false row e = absurd (cc)
 
     found : (t : Bool) (r : Reach) → ◌≡◌ {A = Option Reach} (if t then get m.table (va / 4096) else None) (Some r) →
@@ -108,7 +111,7 @@ address_of m va p is h = in_row (row_at m va) refl h
     in_row None e k = absurd (cc)
     in_row (Some r) e k = inside r (nat_lt (va % 4096) r.reach) (found (nat_lt va (2 ^ 64)) r e) k
 
-pub memory_paged : (m : Memory) → IsMemory m → IsPaged (IsHeld m) (physical m)
+pub memory_paged : (m : FrameMemory) → IsMemory m → IsPaged (IsHeld m) (memory_physical m)
 memory_paged m is = record {
   places = memory_places m;
   next = next_byte m;

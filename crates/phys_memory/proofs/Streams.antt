@@ -10,7 +10,7 @@ use Rattle.busdma_machine.specs.Machine.Entry.{extent_parts}
 use Rattle.busdma_machine.specs.Runs.{run_of}
 use Rattle.busdma_rules.specs.Memory.Translation.{Translation}
 use Rattle.phys_memory.specs.Extents.{IsNext}
-use Rattle.busdma_rules.specs.Memory.Extents.{extents_of, reached_addresses as reached}
+use Rattle.busdma_rules.specs.Memory.Extents.{extents_of, reached_addresses}
 use Rattle.phys_memory.specs.Walk.{run_stream}
 use Rattle.phys_memory.proofs.Extents.{extents_of-run, length-run_of}
 
@@ -23,10 +23,10 @@ same_left n l left h = elim (eqb_tells (n + l) left) [
 
 -- the first part of a stream, and what is left
 pub stream_next : (t : Translation) (at left offset : ℕ) (opens rounded : Bool) (e : Extent) → IsNext t at left e →
-    run_stream (reached t at left) left offset opens rounded ≡ part.Of e opens rounded
-    ∷ run_stream (reached t (at + e.len) (left - e.len)) (left - e.len) (offset + e.len) false rounded
+    run_stream (reached_addresses t at left) left offset opens rounded ≡ part.Of e opens rounded
+    ∷ run_stream (reached_addresses t (at + e.len) (left - e.len)) (left - e.len) (offset + e.len) false rounded
 stream_next t at left offset opens rounded e is =
-    let rest = reached t (at + e.len) (left - e.len) in
+    let rest = reached_addresses t (at + e.len) (left - e.len) in
     let count : length (run_of e.pa.0 e.len ++ rest) ≡ e.len + length rest =
     length-append (run_of e.pa.0 e.len) rest ∙ ap (λ n. n + length rest) (length-run_of e.pa.0 e.len) in
     let more : offset + (e.len + length rest) ≡ offset + e.len + length rest = omega arith in

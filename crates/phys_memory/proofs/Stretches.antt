@@ -9,9 +9,10 @@ use Rattle.std.proofs.lemmas.Bool.Decides.{eqb_tells, leb_tells}
 use Rattle.std.proofs.lemmas.Option.{slice_get-get_or}
 use Rattle.phys_memory.specs.declared.reach.Reach.{Reach}
 use Rattle.phys_memory.specs.declared.stretch.Stretch.{Stretch}
-use Rattle.phys_memory.specs.Memory.{Memory, row_at}
-use Rattle.phys_memory.specs.Stretches.{AreStretches, IsKnown, StandsAt, cut_at, follows, frame_in, goes_on, grown, longer}
-use Rattle.phys_memory.specs.Stretches.{has_page, no_stretch, slot_of, whole}
+use Rattle.phys_memory.specs.Memory.{FrameMemory, row_at}
+use Rattle.phys_memory.specs.Stretches.{AreStretches, IsKnown, StandsInStretch, cut_at}
+use Rattle.phys_memory.specs.Stretches.{follows, frame_in, stretch_goes_on, stretch_grown, longer}
+use Rattle.phys_memory.specs.Stretches.{stretch_has_page, no_stretch, slot_of, whole}
 use Rattle.phys_memory.proofs.Tables.{get_inserted, get_removed}
 
 abbrev pub Table : Type 0
@@ -35,15 +36,15 @@ both : (a b : Bool) → (a && b) ≡ true → (a ≡ true) × (b ≡ true)
 both true b h = (refl, h)
 both false b h = absurd (cc)
 
-on_tells : (s : Stretch) (page frame : ℕ) → goes_on s page frame ≡ true →
+on_tells : (s : Stretch) (page frame : ℕ) → stretch_goes_on s page frame ≡ true →
     (page ≡ s.page + s.count) × (frame ≡ s.frame + s.count)
 on_tells s page frame h =
     let parts = both (follows s.page s.count page) (follows s.frame s.count frame) h in
     (follows_tells s.page s.count page parts.0, follows_tells s.frame s.count frame parts.1)
 
 has_split : (s : Stretch) (page : ℕ) →
-    ((has_page s page ≡ true) × (s.page ≤ page) × (page < s.page + s.count))
-    ⊎ ((has_page s page ≡ false) × ((page < s.page) ⊎ (s.page + s.count ≤ page)))
+    ((stretch_has_page s page ≡ true) × (s.page ≤ page) × (page < s.page + s.count))
+    ⊎ ((stretch_has_page s page ≡ false) × ((page < s.page) ⊎ (s.page + s.count ≤ page)))
 has_split s page = elim (leb_tells s.page page) [
   | inl l ↦ elim (cases_lt (page - s.page) s.count) [
     | inl c ↦ let a = l.1 in inl (yes a c, a, omega (arith, a, c))
@@ -52,13 +53,13 @@ has_split s page = elim (leb_tells s.page page) [
   | inr l ↦ inr (before l.1, inl l.1)
 ]
   where
-    yes : s.page ≤ page → page - s.page < s.count → has_page s page ≡ true
+    yes : s.page ≤ page → page - s.page < s.count → stretch_has_page s page ≡ true
     yes a c = rw (le-leb s.page page a, lt-ltb (page - s.page) s.count c)
 
-    no : s.page ≤ page → s.count ≤ page - s.page → has_page s page ≡ false
+    no : s.page ≤ page → s.count ≤ page - s.page → stretch_has_page s page ≡ false
     no a c = rw (le-leb s.page page a, le-ltb (page - s.page) s.count c)
 
-    before : page < s.page → has_page s page ≡ false
+    before : page < s.page → stretch_has_page s page ≡ false
     before a = rw (lt-leb s.page page a)
 
 -- ---- one stretch
@@ -126,9 +127,9 @@ alone t p f low below = record {
 -- ---- stretches at their places
 
 stands_longer : (t : Table) (p f i : ℕ) (s : Stretch) → get t p ≡ None → p < 2 ^ 52 → f < 2 ^ 30 → slot_of p ≡ i →
-    StandsAt t i s → StandsAt (insert t p (whole f)) i (longer s p f)
+    StandsInStretch t i s → StandsInStretch (insert t p (whole f)) i (longer s p f)
 stands_longer t p f i s free low below slot is =
-    (elim (goes_on s p f) as (λ b. goes_on s p f ≡ b → StandsAt (insert t p (whole f)) i
+    (elim (stretch_goes_on s p f) as (λ b. stretch_goes_on s p f ≡ b → StandsInStretch (insert t p (whole f)) i
     (cond b (record s { count = s.count + 1 })
     (cond (nat_le 16 s.count) s (record { page = p; frame = f; count = 1 })))) [
       | true ↦ λ w. let on = on_tells s p f w in record {
@@ -138,7 +139,7 @@ stands_longer t p f i s free low below slot is =
           | inr c ↦ let page : s.page + k ≡ p = let at = on.0 in omega (arith, h, c, at) in ap slot_of page ∙ slot
         ];
       }
-      | false ↦ λ w. elim (nat_le 16 s.count) as (λ b. StandsAt (insert t p (whole f)) i
+      | false ↦ λ w. elim (nat_le 16 s.count) as (λ b. StandsInStretch (insert t p (whole f)) i
           (cond b s (record { page = p; frame = f; count = 1 }))) [
             | true ↦ record { known = known_inserted t p (whole f) s free is.known; slot = is.slot }
             | false ↦ record {
@@ -148,7 +149,7 @@ stands_longer t p f i s free low below slot is =
           ]
     ]) refl
 
-stands_cut : (t : Table) (p i : ℕ) (s : Stretch) → StandsAt t i s → StandsAt (remove t p) i (cut_at s p)
+stands_cut : (t : Table) (p i : ℕ) (s : Stretch) → StandsInStretch t i s → StandsInStretch (remove t p) i (cut_at s p)
 stands_cut t p i s is = elim (has_split s p) [
   | inl h ↦
       let to = h.2 in
@@ -160,13 +161,13 @@ stands_cut t p i s is = elim (has_split s p) [
         low = omega (arith, low, to);
         fits = omega (arith, fits, to);
       } in
-      subst (StandsAt (remove t p) i) (sym (ap (λ b. cond b short s) h.0)) (record {
+      subst (StandsInStretch (remove t p) i) (sym (ap (λ b. cond b short s) h.0)) (record {
         known = known_removed t p short (λ k l e. omega (arith, l, e)) less;
         slot = λ k l. is.slot k (omega (arith, l, to));
       })
   | inr h ↦
       let short : Stretch = record s { count = p - s.page } in
-      subst (StandsAt (remove t p) i) (sym (ap (λ b. cond b short s) h.0)) (record {
+      subst (StandsInStretch (remove t p) i) (sym (ap (λ b. cond b short s) h.0)) (record {
         known = known_removed t p s (λ k l e. outside h.1 k l e) is.known;
         slot = is.slot;
       })
@@ -193,22 +194,22 @@ each_set P (x ∷ ss) (suc k) m here others (suc i) s h =
     each_set (λ j. P (suc j)) ss k m here (λ j n off e. others (suc j) n (λ q. off (omega (arith, q))) e) i s h
 
 stands_grown : (t : Table) (p i : ℕ) (r : Reach) (s : Stretch) → get t p ≡ None → p < 2 ^ 52 → r.frame < 2 ^ 30 →
-    slot_of p ≡ i → StandsAt t i s → StandsAt (insert t p r) i (grown s p r)
+    slot_of p ≡ i → StandsInStretch t i s → StandsInStretch (insert t p r) i (stretch_grown s p r)
 stands_grown t p i r s free low below slot is = elim (eqb_tells r.reach 4096) [
   | inl e ↦
       let row : whole r.frame ≡ r = let n = sym e.1 in ap (λ k. record { frame = r.frame; reach = k }) n in
-      subst (StandsAt (insert t p r) i) (sym (ap (λ b. cond b (longer s p r.frame) s) e.0))
-      (subst (λ x. StandsAt (insert t p x) i (longer s p r.frame)) row
+      subst (StandsInStretch (insert t p r) i) (sym (ap (λ b. cond b (longer s p r.frame) s) e.0))
+      (subst (λ x. StandsInStretch (insert t p x) i (longer s p r.frame)) row
       (stands_longer t p r.frame i s free low below slot is))
-  | inr e ↦ subst (StandsAt (insert t p r) i) (sym (ap (λ b. cond b (longer s p r.frame) s) e.0))
+  | inr e ↦ subst (StandsInStretch (insert t p r) i) (sym (ap (λ b. cond b (longer s p r.frame) s) e.0))
       (record { known = known_inserted t p r s free is.known; slot = is.slot })
 ]
 
 pub all_grown : (t : Table) (p : ℕ) (r : Reach) (ss : List Stretch) (s : Stretch) → get t p ≡ None → p < 2 ^ 52 →
     r.frame < 2 ^ 30 → slice_get ss (slot_of p) ≡ Some s → AreStretches t ss →
-    AreStretches (insert t p r) (slice_set ss (slot_of p) (grown s p r))
+    AreStretches (insert t p r) (slice_set ss (slot_of p) (stretch_grown s p r))
 all_grown t p r ss s free low below here are =
-    each_set (StandsAt (insert t p r)) ss (slot_of p) (grown s p r)
+    each_set (StandsInStretch (insert t p r)) ss (slot_of p) (stretch_grown s p r)
     (stands_grown t p (slot_of p) r s free low below refl (are (slot_of p) s here))
     (λ i x off e.
     let is = are i x e in record { known = known_inserted t p r x free is.known; slot = is.slot })
@@ -216,7 +217,7 @@ all_grown t p r ss s free low below here are =
 pub all_cut : (t : Table) (p : ℕ) (ss : List Stretch) (s : Stretch) → slice_get ss (slot_of p) ≡ Some s →
     AreStretches t ss → AreStretches (remove t p) (slice_set ss (slot_of p) (cut_at s p))
 all_cut t p ss s here are =
-    each_set (StandsAt (remove t p)) ss (slot_of p) (cut_at s p)
+    each_set (StandsInStretch (remove t p)) ss (slot_of p) (cut_at s p)
     (stands_cut t p (slot_of p) s (are (slot_of p) s here))
     (λ i x off e.
     let is = are i x e in
@@ -233,7 +234,7 @@ length_set (x ∷ ss) (suc k) s = ap suc (length_set ss k s)
 
 pub put_grown : (t u : Table) (p : ℕ) (r : Reach) (ss : List Stretch) (k : ℕ) (s : Stretch) → u ≡ insert t p r →
     is_some (get t p) ≡ false → p < 2 ^ 52 → r.frame < 2 ^ 30 → k ≡ slot_of p → k < length ss →
-    s ≡ grown (get_or ss k no_stretch) p r → AreStretches t ss → AreStretches u (slice_set ss k s)
+    s ≡ stretch_grown (get_or ss k no_stretch) p r → AreStretches t ss → AreStretches u (slice_set ss k s)
 put_grown t u p r ss k s made free low below slot inside is are =
     subst (λ x. AreStretches x (slice_set ss k s)) (sym made)
     (subst (λ j. AreStretches (insert t p r) (slice_set ss j s)) (sym slot)
@@ -262,7 +263,7 @@ repeated (suc n) s (suc i) x h = repeated n s i x h
 
 pub all_none : (t : Table) (n : ℕ) (s : Stretch) → s ≡ no_stretch → AreStretches t (replicate n s)
 all_none t n s e i x h =
-    subst (StandsAt t i) (sym e ∙ repeated n s i x h) (record {
+    subst (StandsInStretch t i) (sym e ∙ repeated n s i x h) (record {
       known = record { rows = λ k l. absurd (omega (arith, l)); low = omega arith; fits = omega arith };
       slot = λ k l. absurd (omega (arith, l));
     })
@@ -287,7 +288,8 @@ got_in t s page f is h = elim (has_split s page) [
     none : ◌≡◌ {A = Option ℕ} None (Some f) → ⊥
     none e = absurd (cc)
 
-pub row_in : (m : Memory) (s : Stretch) (at f : ℕ) → IsKnown m.table s → at < 2 ^ 64 → frame_in s (at / 4096) ≡ Some f →
+pub row_in : (m : FrameMemory) (s : Stretch) (at f : ℕ) → IsKnown m.table s → at < 2 ^ 64 → frame_in s (at / 4096)
+    ≡ Some f →
     row_at m at ≡ Some (whole f)
 row_in m s at f is low h = ap (λ (b : Bool). if b then get m.table (at / 4096) else None) (lt-ltb at (2 ^ 64) low)
     ∙ got_in m.table s (at / 4096) f is h

@@ -5,7 +5,7 @@ use Rattle.std.proofs.lemmas.Bool.{eq-eqb, ne_eqb, lt-ltb, le-leb, lt-leb, le-lt
 use Rattle.std.proofs.lemmas.List.{drop-drop, map-append}
 use Rattle.busdma_machine.specs.Machine.Wire.{put}
 use Rattle.busdma_machine.specs.Runs.{run_of}
-use Rattle.phys_memory.specs.Memory.{written}
+use Rattle.phys_memory.specs.Memory.{memory_written}
 use Rattle.phys_memory.proofs.Extents.{length-run_of}
 
 -- nothing is written without values
@@ -25,7 +25,7 @@ eq_here a = eq-eqb a a refl
 
 -- the first byte of a run, and the others
 written_more : (pa v : ℕ) (bs : List ℕ) (w : ℕ → ℕ) (a : ℕ) →
-    written pa (v ∷ bs) w a ≡ written (pa + 1) bs (λ b. cond (b == pa) v (w b)) a
+    memory_written pa (v ∷ bs) w a ≡ memory_written (pa + 1) bs (λ b. cond (b == pa) v (w b)) a
 written_more pa v bs w a = elim (cases_lt a pa) [
   | inl h ↦
       let n : a ≢ pa = (λ e. absurd (omega arith)) in
@@ -50,28 +50,28 @@ written_more pa v bs w a = elim (cases_lt a pa) [
   ]
 ]
 
-written_none : (pa : ℕ) (w : ℕ → ℕ) (a : ℕ) → written pa [] w a ≡ w a
+written_none : (pa : ℕ) (w : ℕ → ℕ) (a : ℕ) → memory_written pa [] w a ≡ w a
 written_none pa w a = elim (cases_lt a pa) [
   | inl h ↦ rw (lt-leb pa a h) refl
   | inr h ↦ rw (le-leb pa a h, le-ltb a (pa + 0) (omega arith)) refl
 ]
 
 -- a run of bytes is written byte by byte
-pub written_run : (pa : ℕ) (bs : List ℕ) (w : ℕ → ℕ) → written pa bs w ≡ put (run_of pa (length bs)) bs w
+pub written_run : (pa : ℕ) (bs : List ℕ) (w : ℕ → ℕ) → memory_written pa bs w ≡ put (run_of pa (length bs)) bs w
 written_run pa bs w = λ i a. (at pa bs w a) i
   where
-    at : (pa : ℕ) (bs : List ℕ) (w : ℕ → ℕ) (a : ℕ) → written pa bs w a ≡ put (run_of pa (length bs)) bs w a
+    at : (pa : ℕ) (bs : List ℕ) (w : ℕ → ℕ) (a : ℕ) → memory_written pa bs w a ≡ put (run_of pa (length bs)) bs w a
     at pa [] w a = written_none pa w a
     at pa (v ∷ bs) w a = written_more pa v bs w a ∙ at (pa + 1) bs (λ b. cond (b == pa) v (w b)) a
 
 -- a part of the bytes is written, and the others are left to write
 pub part_written : (keys rest bytes : List ℕ) (pa n done k : ℕ) (w now : ℕ → ℕ) → keys ≡ run_of pa n ++ rest → k ≡ n →
-    done + n ≤ length bytes → now ≡ written pa (take k (drop done bytes)) w
+    done + n ≤ length bytes → now ≡ memory_written pa (take k (drop done bytes)) w
     → put rest (drop (done + n) bytes) now ≡ put keys (drop done bytes) w
 part_written keys rest bytes pa n done k w now split same within is =
     let part = take n (drop done bytes) in
     let size : length part ≡ n = omega (arith, length-take n (drop done bytes), length-drop done bytes) in
-    let here : now ≡ put (run_of pa n) part w = is ∙ ap (λ j. written pa (take j (drop done bytes)) w) same
+    let here : now ≡ put (run_of pa n) part w = is ∙ ap (λ j. memory_written pa (take j (drop done bytes)) w) same
     ∙ written_run pa part w ∙ ap (λ j. put (run_of pa j) part w) size in
     ap (put rest (drop (done + n) bytes)) here
     ∙ sym (ap (λ vs. put rest vs (put (run_of pa n) part w)) (drop-drop n done bytes))

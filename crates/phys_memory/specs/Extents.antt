@@ -2,13 +2,13 @@
 use Rattle.std.specs.Prelude.{◌≡◌, ℕ, ◌+◌, ◌/◌, ◌%◌, ◌-◌, ◌≤◌, true, List, [], ◌∷◌, ◌++◌}
 use Rattle.busdma_machine.specs.declared.machine.address.Extent.{Extent}
 use Rattle.busdma_machine.specs.Runs.{IsExtent, run_of}
-use Rattle.phys_memory.specs.Memory.{Memory, has_frame}
+use Rattle.phys_memory.specs.Memory.{FrameMemory, memory_has_frame}
 use Rattle.busdma_rules.specs.Memory.Translation.{Translation}
 use Rattle.busdma_rules.specs.Memory.Extents.{reached_addresses}
 
 -- the first byte of the extent is in a frame of the memory
-abbrev pub LiesIn : Memory → Extent → Type 0
-LiesIn m e = has_frame m (e.pa.0 / 4096) ≡ true
+abbrev pub LiesInFrames : FrameMemory → Extent → Type 0
+LiesInFrames m e = memory_has_frame m (e.pa.0 / 4096) ≡ true
 
 -- the first of these addresses, if there is one, begins a frame
 abbrev pub BeginsFrame : List ℕ → Type 0

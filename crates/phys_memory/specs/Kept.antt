@@ -9,7 +9,7 @@ use Rattle.std.specs.FinMap.{from_entries}
 use Rattle.busdma_machine.specs.Machine.Page.{FrameBytes}
 use Rattle.phys_memory.specs.declared.reach.Reach.{Reach}
 use Rattle.phys_memory.specs.declared.stretch.Stretch.{Stretch}
-use Rattle.phys_memory.specs.Memory.{Memory, Roomy, IsMemory}
+use Rattle.phys_memory.specs.Memory.{FrameMemory, RoomyFrames, IsMemory}
 use Rattle.phys_memory.specs.Stretches.{AreStretches}
 
 -- a hash map whose keys are numbers
@@ -21,11 +21,11 @@ abbrev pub contents : List (ℕ × FrameBytes) → List (ℕ × List ℕ)
 contents pages = map (λ e. (e.0, e.1.bytes)) pages
 
 -- the memory with these rows and pages
-abbrev pub memory_of : List (ℕ × Reach) → List (ℕ × FrameBytes) → Memory
+abbrev pub memory_of : List (ℕ × Reach) → List (ℕ × FrameBytes) → FrameMemory
 memory_of rows pages = record { table = from_entries rows; frames = from_entries (contents pages) }
 
 -- a memory and its room: as many more pages as both maps have room for
-abbrev pub roomy_of : Numbered Reach → Numbered FrameBytes → Roomy
+abbrev pub roomy_of : Numbered Reach → Numbered FrameBytes → RoomyFrames
 roomy_of table frames =
     record { memory = memory_of table.entries frames.entries; spare = min (spare table) (spare frames) }
 

@@ -4,5 +4,5 @@ pub mod Frames
 pub mod Kept
 pub mod Memory
 pub mod Stretches
-pub mod Vector
+pub mod VectorStreams
 pub mod Walk

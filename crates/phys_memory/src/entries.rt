@@ -5,10 +5,10 @@ ghost use Rattle.std.specs.List.{AllByRecursion};
 ghost use Rattle.busdma_machine.specs.Machine.Entry.{HasPart, IsEntry, entries_addresses};
 ghost use Rattle.busdma_machine.specs.Runs.{run_of};
 ghost use Rattle.busdma_machine.specs.Machine.Spans.{one_span, span_addresses, span_bytes};
-ghost use Rattle.phys_memory.specs.Extents.{LiesIn};
-ghost use Rattle.phys_memory.specs.Memory.{physical};
+ghost use Rattle.phys_memory.specs.Extents.{LiesInFrames};
+ghost use Rattle.phys_memory.specs.Memory.{memory_physical};
 ghost use Rattle.busdma_rules.specs.Memory.Translation.{physical_or_0};
-ghost use Rattle.phys_memory.specs.Vector.{IfAll, vector_walk};
+ghost use Rattle.phys_memory.specs.VectorStreams.{IfAll, vector_walk};
 
 use crate::pages::LanePages;
 use crate::walk::Walked;
@@ -31,12 +31,12 @@ impl LanePages {
     ///
     /// `AllocError` if memory runs out.
     pub fn walk_flat(&self, alloc: Global, va: Va, len: u64) -> Result<Entries, AllocError>
-        ensures walk { IfOk result (λ w. w ≡ vector_walk (physical self.now.memory) (one_span va.0 len)) }
-        ensures addresses { let pas = map (physical_or_0 (physical self.now.memory)) (run_of va.0 len) in
+        ensures walk { IfOk result (λ w. w ≡ vector_walk (memory_physical self.now.memory) (one_span va.0 len)) }
+        ensures addresses { let pas = map (physical_or_0 (memory_physical self.now.memory)) (run_of va.0 len) in
             IfOk result (λ w. IfAll w (λ es. entries_addresses es ≡ pas)) }
         ensures entries { IfOk result (λ w. IfAll w (AllByRecursion IsEntry)) }
         ensures some { IfOk result (λ w. IfAll w (AllByRecursion HasPart)) }
-        ensures frames { let lies = LiesIn self.now.memory in
+        ensures frames { let lies = LiesInFrames self.now.memory in
             IfOk result (λ w. IfAll w (AllByRecursion (λ e. AllByRecursion lies e.parts))) }
     {
         self.walk_vector(alloc, &[Span { va, len }])
@@ -51,14 +51,14 @@ impl LanePages {
     /// `AllocError` if memory runs out.
     pub fn walk_vector(&self, alloc: Global, spans: &[Span]) -> Result<Entries, AllocError>
         requires { span_bytes spans.now < 2 ^ 64 }
-        ensures walk { IfOk result (λ w. w ≡ vector_walk (physical self.now.memory) spans.now) }
-        ensures addresses { let pas = map (physical_or_0 (physical self.now.memory)) (span_addresses spans.now) in
+        ensures walk { IfOk result (λ w. w ≡ vector_walk (memory_physical self.now.memory) spans.now) }
+        ensures addresses { let pas = map (physical_or_0 (memory_physical self.now.memory)) (span_addresses spans.now) in
             IfOk result (λ w. IfAll w (λ es. entries_addresses es ≡ pas)) }
 
         // One extent for each page that a span touches, and each in a frame of the memory.
         ensures entries { IfOk result (λ w. IfAll w (AllByRecursion IsEntry)) }
         ensures some { IfOk result (λ w. IfAll w (AllByRecursion HasPart)) }
-        ensures frames { let lies = LiesIn self.now.memory in
+        ensures frames { let lies = LiesInFrames self.now.memory in
             IfOk result (λ w. IfAll w (AllByRecursion (λ e. AllByRecursion lies e.parts))) }
     {
         // Reading the field gives the proof the invariant of the memory.

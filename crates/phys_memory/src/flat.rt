@@ -4,13 +4,13 @@ ghost use Rattle.std.specs.Prelude.{◌≡◌, ℕ, ◌+◌, ◌-◌, ◌*◌, �
 ghost use Rattle.std.specs.Prelude.{[]};
 ghost use Rattle.std.specs.Iterator.{HoldsAlong, YieldsFirst, item_count};
 ghost use Rattle.busdma_machine.specs.Machine.Entry.{IsStream, parts_of};
-ghost use Rattle.phys_memory.specs.Memory.{IsMemory, IsReachOf, physical, row_at};
+ghost use Rattle.phys_memory.specs.Memory.{IsMemory, IsReachOf, memory_physical, row_at};
 ghost use Rattle.phys_memory.specs.Extents.{IsNext};
 ghost use Rattle.busdma_rules.specs.Memory.Extents.{reached_addresses};
 ghost use Rattle.phys_memory.specs.Stretches.{IsKnown};
 ghost use Rattle.phys_memory.specs.Walk.{flat, flat_at, run_stream};
 ghost use Rattle.busdma_machine.specs.Machine.Spans.{one_span};
-ghost use Rattle.phys_memory.specs.Vector.{IfAll, vector, vector_walk};
+ghost use Rattle.phys_memory.specs.VectorStreams.{IfAll, vector, vector_walk};
 
 use crate::pages::LanePages;
 use crate::reach::Reach;
@@ -34,13 +34,13 @@ impl<'a> Model for FlatParts<'a> {
     ghost use Rattle.std.specs.Prelude.{List, ◌+◌, ◌<◌, ◌^◌, true};
     ghost use Rattle.busdma_machine.specs.declared.machine.chunk.Part.{Part};
     ghost use Rattle.busdma_rules.specs.Memory.Extents.{reached_addresses};
-    ghost use Rattle.phys_memory.specs.Memory.{physical};
+    ghost use Rattle.phys_memory.specs.Memory.{memory_physical};
     ghost use Rattle.phys_memory.specs.Stretches.{IsKnown};
     ghost use Rattle.phys_memory.specs.Walk.{run_stream};
 
     ghost Value = { List Part };
 
-    ghost view = { λ s. run_stream (reached_addresses (physical s.memory.now.memory) s.at s.left) s.left s.offset s.opens true };
+    ghost view = { λ s. run_stream (reached_addresses (memory_physical s.memory.now.memory) s.at s.left) s.left s.offset s.opens true };
 
     ghost invariant = { λ s. (s.at + s.left < 2 ^ 65) × (s.offset + s.left < 2 ^ 64)
         × IsKnown s.memory.now.memory.table s.known };
@@ -94,9 +94,9 @@ impl LanePages {
     /// Returns the parts of `len` bytes from virtual address `va` on. They are the parts of a vector with
     /// only this span.
     pub fn parts_flat(&self, va: Va, len: u64) -> FlatParts<'_>
-        ensures parts { result ≡ flat (physical self.now.memory) va.0 len }
-        ensures vector { result ≡ vector (physical self.now.memory) (one_span va.0 len) }
-        ensures walk { IfAll (vector_walk (physical self.now.memory) (one_span va.0 len)) (λ es. result ≡ parts_of es) }
+        ensures parts { result ≡ flat (memory_physical self.now.memory) va.0 len }
+        ensures vector { result ≡ vector (memory_physical self.now.memory) (one_span va.0 len) }
+        ensures walk { IfAll (vector_walk (memory_physical self.now.memory) (one_span va.0 len)) (λ es. result ≡ parts_of es) }
         ensures sound { IsMemory self.now.memory }
 
         // Up to 2^20 bytes are the stream of a load, and so is each front of this stream.
@@ -109,7 +109,7 @@ impl LanePages {
     // Returns the parts of bytes of which the first is at `offset` in the load.
     pub(crate) fn parts_at(&self, va: Va, len: u64, offset: u64) -> FlatParts<'_>
         requires { offset + len < 2 ^ 64 }
-        ensures parts { result ≡ flat_at true (physical self.now.memory) offset va.0 len }
+        ensures parts { result ≡ flat_at true (memory_physical self.now.memory) offset va.0 len }
         ensures sound { IsMemory self.now.memory }
     {
         // Reading the field gives the proof the invariant of the memory.
@@ -129,8 +129,8 @@ impl LanePages {
     fn extent_at(&self, known: Stretch, at: u128, left: u64) -> Option<Extent>
         requires known { IsKnown self.now.memory.table known }
         requires some { 0 < left }
-        ensures none { IfNone result (physical self.now.memory at ≡ None) }
-        ensures next { IfSome result (IsNext (physical self.now.memory) at left) }
+        ensures none { IfNone result (memory_physical self.now.memory at ≡ None) }
+        ensures next { IfSome result (IsNext (memory_physical self.now.memory) at left) }
     {
         let row = self.row_by(known, at)?;
         let inside = (at % 4096) as u64;

@@ -2,7 +2,8 @@
 
 ghost use Rattle.std.specs.Prelude.{◌≡◌, ◌+◌, ◌%◌, ◌^◌, ◌<◌, ◌≤◌, false, length, IsOk, OnOk, OnErr, IfOk};
 ghost use Rattle.std.specs.FinMap.{empty};
-ghost use Rattle.phys_memory.specs.Memory.{IsMemory, added, handed_back, has_frame, page_at, without_page};
+ghost use Rattle.phys_memory.specs.Memory.{IsMemory, frame_added, handed_back};
+ghost use Rattle.phys_memory.specs.Memory.{memory_has_frame as has_frame, page_at, without_page};
 
 use crate::reach::Reach;
 use crate::stretch::{Stretch, slot_of};
@@ -21,13 +22,13 @@ pub struct LanePages {
 }
 
 impl Model for LanePages {
-    ghost use Rattle.phys_memory.specs.Memory.{Roomy};
+    ghost use Rattle.phys_memory.specs.Memory.{RoomyFrames};
 
-    ghost Value = { Roomy };
+    ghost Value = { RoomyFrames };
 
-    ghost use Rattle.phys_memory.specs.Codes.{roomy_code};
+    ghost use Rattle.phys_memory.specs.Codes.{frames_code};
 
-    ghost coded = { roomy_code };
+    ghost coded = { frames_code };
 
     ghost use Rattle.phys_memory.specs.Kept.{roomy_of, IsKept};
 
@@ -81,7 +82,7 @@ impl LanePages {
         requires reach { reach ≤ 4096 }
         requires fresh { has_frame self.old.memory page.frame ≡ false }
         ensures answer { IfOk result (λ back. back ≡ handed_back self.old.memory va.0 page) }
-        ensures memory { OnOk result (self.new.memory ≡ added self.old.memory va.0 page reach) }
+        ensures memory { OnOk result (self.new.memory ≡ frame_added self.old.memory va.0 page reach) }
         ensures err { OnErr result (self.new.memory ≡ self.old.memory) }
         ensures spare { self.old.spare ≤ self.new.spare + 1 }
     {
@@ -97,7 +98,7 @@ impl LanePages {
         requires reach { reach ≤ 4096 }
         requires fresh { has_frame self.old.memory page.frame ≡ false }
         ensures answer { result ≡ handed_back self.old.memory va.0 page }
-        ensures memory { self.new.memory ≡ added self.old.memory va.0 page reach }
+        ensures memory { self.new.memory ≡ frame_added self.old.memory va.0 page reach }
         ensures spare { self.old.spare ≤ self.new.spare + 1 }
     {
         let number = va.0 / 4096;

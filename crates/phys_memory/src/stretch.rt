@@ -2,7 +2,9 @@
 
 ghost use Rattle.std.specs.Prelude.{◌≡◌, ◌+◌, ◌^◌, ◌<◌, IfSome};
 ghost use Rattle.phys_memory.specs.Memory.{IsReachOf, row_at};
-ghost use Rattle.phys_memory.specs.Stretches.{IsKnown, cut_at, follows, frame_in, goes_on, grown, has_page, longer};
+ghost use Rattle.phys_memory.specs.Stretches.{IsKnown, cut_at, follows, frame_in};
+ghost use Rattle.phys_memory.specs.Stretches.{stretch_goes_on as goes_on, stretch_grown as grown};
+ghost use Rattle.phys_memory.specs.Stretches.{stretch_has_page, longer};
 ghost use Rattle.phys_memory.specs.Stretches.{no_stretch, slot_of};
 
 use crate::pages::LanePages;
@@ -30,7 +32,7 @@ impl Stretch {
     }
 
     fn has(self, page: u64) -> bool
-        ensures { result ≡ has_page self page }
+        ensures { result ≡ stretch_has_page self page }
     {
         self.page <= page && page - self.page < self.count
     }

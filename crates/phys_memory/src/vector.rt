@@ -4,8 +4,8 @@ ghost use Rattle.std.specs.Prelude.{◌≡◌, ℕ, ◌+◌, ◌^◌, ◌<◌, �
 ghost use Rattle.std.specs.Iterator.{HoldsAlong, YieldsFirst, item_count};
 ghost use Rattle.busdma_machine.specs.Machine.Entry.{IsStream, parts_of};
 ghost use Rattle.busdma_machine.specs.Machine.Spans.{span_bytes};
-ghost use Rattle.phys_memory.specs.Memory.{IsMemory, physical};
-ghost use Rattle.phys_memory.specs.Vector.{IfAll, spans_at, then_parts, vector, vector_walk};
+ghost use Rattle.phys_memory.specs.Memory.{IsMemory, memory_physical};
+ghost use Rattle.phys_memory.specs.VectorStreams.{IfAll, spans_at, then_parts, vector, vector_walk};
 
 use crate::flat::FlatParts;
 use crate::pages::LanePages;
@@ -27,12 +27,12 @@ impl<'a> Model for VectorParts<'a> {
     ghost use Rattle.std.specs.Prelude.{List, ◌+◌, ◌<◌, ◌^◌, true};
     ghost use Rattle.busdma_machine.specs.declared.machine.chunk.Part.{Part};
     ghost use Rattle.busdma_machine.specs.Machine.Spans.{span_bytes};
-    ghost use Rattle.phys_memory.specs.Memory.{physical};
-    ghost use Rattle.phys_memory.specs.Vector.{spans_at, then_parts};
+    ghost use Rattle.phys_memory.specs.Memory.{memory_physical};
+    ghost use Rattle.phys_memory.specs.VectorStreams.{spans_at, then_parts};
 
     ghost Value = { List Part };
 
-    ghost view = { λ s. then_parts s.current (spans_at true (physical s.memory.now.memory) s.offset s.spans.now) };
+    ghost view = { λ s. then_parts s.current (spans_at true (memory_physical s.memory.now.memory) s.offset s.spans.now) };
 
     ghost invariant = { λ s. s.offset + span_bytes s.spans.now < 2 ^ 64 };
 }
@@ -66,8 +66,8 @@ impl LanePages {
     /// Returns the parts of the spans of a vector.
     pub fn parts_vector<'a>(&'a self, spans: &'a [Span]) -> VectorParts<'a>
         requires { span_bytes spans.now < 2 ^ 64 }
-        ensures parts { result ≡ vector (physical self.now.memory) spans.now }
-        ensures walk { IfAll (vector_walk (physical self.now.memory) spans.now) (λ es. result ≡ parts_of es) }
+        ensures parts { result ≡ vector (memory_physical self.now.memory) spans.now }
+        ensures walk { IfAll (vector_walk (memory_physical self.now.memory) spans.now) (λ es. result ≡ parts_of es) }
         ensures sound { IsMemory self.now.memory }
 
         // Up to 2^20 bytes are the stream of a load, and so is each front of this stream.

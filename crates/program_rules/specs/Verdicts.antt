@@ -1,4 +1,4 @@
 pub mod Header
-pub mod Lines
 pub mod ReportLines
+pub mod TextLines
 pub mod Verdict

@@ -3,7 +3,7 @@
 ghost use Rattle.std.specs.Prelude.{◌≡◌, ◌++◌, codes};
 ghost use Rattle.std.specs.List.{flat_map};
 ghost use Rattle.std.specs.Fmt.{decimal};
-ghost use Rattle.io_edge.specs.Pieces.{Gives};
+ghost use Rattle.io_edge.specs.Pieces.{PiecesGive};
 ghost use Rattle.program_rules.specs.Reports.Answer as text;
 ghost use Rattle.program_rules.specs.Reports.Text.{hex};
 
@@ -47,7 +47,7 @@ fn report_name(name: ReportName) -> &'static str
 }
 
 fn push_segment<K: Sink>(out: &mut Pieces<'_, K>, segment: Segment)
-    ensures { Gives K.held K.faults out.old (text.segment_text segment) out.new }
+    ensures { PiecesGive K.held K.faults out.old (text.segment_text segment) out.new }
 {
     out.push_str(" ");
     push_hex(out, segment.addr.0);
@@ -56,7 +56,7 @@ fn push_segment<K: Sink>(out: &mut Pieces<'_, K>, segment: Segment)
 }
 
 fn push_segments<K: Sink>(out: &mut Pieces<'_, K>, segments: &[Segment])
-    ensures { Gives K.held K.faults out.old (flat_map text.segment_text segments.now) out.new }
+    ensures { PiecesGive K.held K.faults out.old (flat_map text.segment_text segments.now) out.new }
 {
     for segment in segments {
         push_segment(out, *segment);
@@ -64,7 +64,7 @@ fn push_segments<K: Sink>(out: &mut Pieces<'_, K>, segments: &[Segment])
 }
 
 fn push_built<K: Sink>(out: &mut Pieces<'_, K>, segments: &[Segment])
-    ensures { Gives K.held K.faults out.old
+    ensures { PiecesGive K.held K.faults out.old
         (codes "ok" ++ flat_map text.segment_text segments.now) out.new }
 {
     out.push_str("ok");
@@ -72,7 +72,7 @@ fn push_built<K: Sink>(out: &mut Pieces<'_, K>, segments: &[Segment])
 }
 
 fn push_digits<K: Sink>(out: &mut Pieces<'_, K>, bytes: &[u8])
-    ensures { Gives K.held K.faults out.old (flat_map text.byte_text bytes.now) out.new }
+    ensures { PiecesGive K.held K.faults out.old (flat_map text.byte_text bytes.now) out.new }
 {
     for byte in bytes {
         push_byte(out, *byte);
@@ -80,7 +80,7 @@ fn push_digits<K: Sink>(out: &mut Pieces<'_, K>, bytes: &[u8])
 }
 
 fn push_bytes<K: Sink>(out: &mut Pieces<'_, K>, bytes: &[u8])
-    ensures { Gives K.held K.faults out.old (text.bytes_text bytes.now) out.new }
+    ensures { PiecesGive K.held K.faults out.old (text.bytes_text bytes.now) out.new }
 {
     if bytes.is_empty() {
         return;
@@ -90,7 +90,7 @@ fn push_bytes<K: Sink>(out: &mut Pieces<'_, K>, bytes: &[u8])
 }
 
 fn push_read<K: Sink>(out: &mut Pieces<'_, K>, bytes: &[u8])
-    ensures { Gives K.held K.faults out.old (codes "bytes" ++ text.bytes_text bytes.now) out.new }
+    ensures { PiecesGive K.held K.faults out.old (codes "bytes" ++ text.bytes_text bytes.now) out.new }
 {
     out.push_str("bytes");
     push_bytes(out, bytes);
@@ -103,7 +103,7 @@ fn made_text(made: bool) -> &'static str
 }
 
 fn push_grown<K: Sink>(out: &mut Pieces<'_, K>, grown: Grown)
-    ensures { Gives K.held K.faults out.old (text.grown_text grown) out.new }
+    ensures { PiecesGive K.held K.faults out.old (text.grown_text grown) out.new }
 {
     out.push_str(made_text(grown.made));
     out.push_str(" zone");
@@ -113,14 +113,14 @@ fn push_grown<K: Sink>(out: &mut Pieces<'_, K>, grown: Grown)
 }
 
 fn push_placed<K: Sink>(out: &mut Pieces<'_, K>, at: Pa)
-    ensures { Gives K.held K.faults out.old (codes "ok " ++ hex at.0) out.new }
+    ensures { PiecesGive K.held K.faults out.old (codes "ok " ++ hex at.0) out.new }
 {
     out.push_str("ok ");
     push_hex(out, at.0);
 }
 
 fn push_wait<K: Sink>(out: &mut Pieces<'_, K>, have: u32, need: u32)
-    ensures { Gives K.held K.faults out.old
+    ensures { PiecesGive K.held K.faults out.old
         (codes "EINPROGRESS " ++ (decimal have ++ (codes "/" ++ decimal need))) out.new }
 {
     out.push_str("EINPROGRESS ");
@@ -130,14 +130,14 @@ fn push_wait<K: Sink>(out: &mut Pieces<'_, K>, have: u32, need: u32)
 }
 
 fn push_served<K: Sink>(out: &mut Pieces<'_, K>, moved: u32)
-    ensures { Gives K.held K.faults out.old (codes "ok ready " ++ decimal moved) out.new }
+    ensures { PiecesGive K.held K.faults out.old (codes "ok ready " ++ decimal moved) out.new }
 {
     out.push_str("ok ready ");
     push_decimal(out, u64::from(moved));
 }
 
 fn push_report<K: Sink>(out: &mut Pieces<'_, K>, report: Report)
-    ensures { Gives K.held K.faults out.old (text.report_text report) out.new }
+    ensures { PiecesGive K.held K.faults out.old (text.report_text report) out.new }
 {
     out.push_str("report ");
     out.push_str(report_name(report.name));
@@ -146,7 +146,7 @@ fn push_report<K: Sink>(out: &mut Pieces<'_, K>, report: Report)
 }
 
 pub(crate) fn push_answer<K: Sink>(out: &mut Pieces<'_, K>, answer: &Answer)
-    ensures { Gives K.held K.faults out.old (text.answer_text answer.now) out.new }
+    ensures { PiecesGive K.held K.faults out.old (text.answer_text answer.now) out.new }
 {
     match answer {
         Answer::Done => out.push_str("ok"),

@@ -3,7 +3,7 @@
 ghost use Rattle.std.specs.Prelude.{◌≡◌, ◌++◌, codes, slice_get};
 ghost use Rattle.std.specs.Option.{option_map};
 ghost use Rattle.busdma_base.specs.Scenarios.Operations as operations;
-ghost use Rattle.io_edge.specs.Pieces.{Gives};
+ghost use Rattle.io_edge.specs.Pieces.{PiecesGive};
 ghost use Rattle.program_rules.specs.Reports.Did as text;
 ghost use Rattle.program_rules.specs.Reports.Text.{hex};
 
@@ -51,7 +51,7 @@ fn object_name<'s>(script: &'s [Op], object: Object<'s>) -> &'s str
 }
 
 fn push_object<K: Sink>(out: &mut Pieces<'_, K>, script: &[Op], object: Object<'_>)
-    ensures { Gives K.held K.faults out.old
+    ensures { PiecesGive K.held K.faults out.old
         (codes " " ++ text.object_name script.now (operations.object object.entry)) out.new }
 {
     out.push_str(" ");
@@ -59,7 +59,7 @@ fn push_object<K: Sink>(out: &mut Pieces<'_, K>, script: &[Op], object: Object<'
 }
 
 fn push_op<K: Sink>(out: &mut Pieces<'_, K>, script: &[Op], op: &Op)
-    ensures { Gives K.held K.faults out.old (text.op_text script.now op.now) out.new }
+    ensures { PiecesGive K.held K.faults out.old (text.op_text script.now op.now) out.new }
 {
     out.push_str(op.word().text());
     if let Some(object) = op.object() {
@@ -75,7 +75,7 @@ fn item_at(script: &[Op], load_at: u32, place: u32) -> Option<&Item>
 }
 
 fn push_item<K: Sink>(out: &mut Pieces<'_, K>, script: &[Op], item: &Item)
-    ensures { Gives K.held K.faults out.old (text.item_text script.now item.now) out.new }
+    ensures { PiecesGive K.held K.faults out.old (text.item_text script.now item.now) out.new }
 {
     let about = item.about();
     out.push_str(about.word.text());
@@ -90,7 +90,7 @@ fn op_at(script: &[Op], place: u32) -> Option<&Op>
 }
 
 fn push_op_at<K: Sink>(out: &mut Pieces<'_, K>, script: &[Op], place: u32)
-    ensures { Gives K.held K.faults out.old (text.op_text_at script.now place) out.new }
+    ensures { PiecesGive K.held K.faults out.old (text.op_text_at script.now place) out.new }
 {
     match op_at(script, place) {
         Some(op) => push_op(out, script, op),
@@ -99,7 +99,7 @@ fn push_op_at<K: Sink>(out: &mut Pieces<'_, K>, script: &[Op], place: u32)
 }
 
 fn push_again<K: Sink>(out: &mut Pieces<'_, K>, script: &[Op], op: &Op)
-    ensures { Gives K.held K.faults out.old (text.again_text script.now op.now) out.new }
+    ensures { PiecesGive K.held K.faults out.old (text.again_text script.now op.now) out.new }
 {
     out.push_str("resend");
     if let Some(object) = op.object() {
@@ -108,7 +108,7 @@ fn push_again<K: Sink>(out: &mut Pieces<'_, K>, script: &[Op], op: &Op)
 }
 
 fn push_again_at<K: Sink>(out: &mut Pieces<'_, K>, script: &[Op], place: u32)
-    ensures { Gives K.held K.faults out.old (text.again_text_at script.now place) out.new }
+    ensures { PiecesGive K.held K.faults out.old (text.again_text_at script.now place) out.new }
 {
     match op_at(script, place) {
         Some(op) => push_again(out, script, op),
@@ -117,7 +117,7 @@ fn push_again_at<K: Sink>(out: &mut Pieces<'_, K>, script: &[Op], place: u32)
 }
 
 fn push_item_at<K: Sink>(out: &mut Pieces<'_, K>, script: &[Op], load_at: u32, place: u32)
-    ensures { Gives K.held K.faults out.old (text.item_text_at script.now load_at place) out.new }
+    ensures { PiecesGive K.held K.faults out.old (text.item_text_at script.now load_at place) out.new }
 {
     match item_at(script, load_at, place) {
         Some(item) => push_item(out, script, item),
@@ -126,7 +126,7 @@ fn push_item_at<K: Sink>(out: &mut Pieces<'_, K>, script: &[Op], load_at: u32, p
 }
 
 fn push_release<K: Sink>(out: &mut Pieces<'_, K>, scenario: &Scenario, map: MapId, page: Pa)
-    ensures { Gives K.held K.faults out.old
+    ensures { PiecesGive K.held K.faults out.old
         (codes "release " ++ (text.map_name scenario.now map ++ (codes " " ++ hex page.0))) out.new }
 {
     out.push_str("release ");
@@ -136,7 +136,7 @@ fn push_release<K: Sink>(out: &mut Pieces<'_, K>, scenario: &Scenario, map: MapI
 }
 
 fn push_callback<K: Sink>(out: &mut Pieces<'_, K>, scenario: &Scenario, map: MapId)
-    ensures { Gives K.held K.faults out.old
+    ensures { PiecesGive K.held K.faults out.old
         (codes "callback " ++ text.map_name scenario.now map) out.new }
 {
     out.push_str("callback ");
@@ -149,7 +149,7 @@ pub(crate) fn push_did<K: Sink>(
     lane: LaneId,
     did: Did,
 )
-    ensures { Gives K.held K.faults out.old (text.did_text scenario.now lane did) out.new }
+    ensures { PiecesGive K.held K.faults out.old (text.did_text scenario.now lane did) out.new }
 {
     let script = script_of(scenario, lane);
     match did {

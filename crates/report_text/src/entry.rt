@@ -1,7 +1,7 @@
 //! Writes the lines of a journal's entries.
 
 ghost use Rattle.std.specs.Prelude.{◌≡◌, IfOk};
-ghost use Rattle.io_edge.specs.Pieces.{Gives};
+ghost use Rattle.io_edge.specs.Pieces.{PiecesGive};
 ghost use Rattle.program_rules.specs.Reports.Text.{numbered};
 ghost use Rattle.program_rules.specs.Reports.Report as text;
 
@@ -24,7 +24,7 @@ fn side_letter(side: Side) -> &'static str
 }
 
 fn push_actor<K: Sink>(out: &mut Pieces<'_, K>, actor: Actor)
-    ensures { Gives K.held K.faults out.old (text.actor_text actor) out.new }
+    ensures { PiecesGive K.held K.faults out.old (text.actor_text actor) out.new }
 {
     out.push_str(side_letter(actor.side));
     push_decimal(out, u64::from(actor.lane.0));
@@ -36,7 +36,7 @@ fn push_entry<K: Sink>(
     number: u64,
     entry: &JournalEntry,
 )
-    ensures { Gives K.held K.faults out.old (text.entry_line scenario.now number entry.now) out.new }
+    ensures { PiecesGive K.held K.faults out.old (text.entry_line scenario.now number entry.now) out.new }
 {
     push_decimal(out, number);
     out.push_str(" ");
@@ -53,7 +53,7 @@ pub(crate) fn push_entries<K: Sink>(
     scenario: &Scenario,
     entries: &[JournalEntry],
 )
-    ensures { Gives K.held K.faults out.old
+    ensures { PiecesGive K.held K.faults out.old
         (numbered (text.entry_line scenario.now) 0 entries.now) out.new }
 {
     for (number, entry) in entries.iter().enumerate() {

@@ -3,7 +3,7 @@
 ghost use Rattle.std.specs.Prelude.{◌≡◌, ◌≤◌, IfOk, OnOk, OnErr};
 ghost use Rattle.std.specs.Io.KnownBytes.{Appends};
 ghost use Rattle.io_edge.specs.Faults.{Rose};
-ghost use Rattle.io_edge.specs.Pieces.{Gives};
+ghost use Rattle.io_edge.specs.Pieces.{PiecesGive};
 ghost use Rattle.io_edge.specs.Writing.{WritesPart};
 ghost use Rattle.program_rules.specs.Reports.Report as text;
 
@@ -36,7 +36,7 @@ pub fn end_word(end: End) -> &'static str
 }
 
 fn push_end<K: Sink>(out: &mut Pieces<'_, K>, journal: &Journal)
-    ensures { Gives K.held K.faults out.old (text.journal_end_line journal.now) out.new }
+    ensures { PiecesGive K.held K.faults out.old (text.journal_end_line journal.now) out.new }
 {
     out.push_str("end ");
     out.push_str(end_word(journal.end));
@@ -48,7 +48,7 @@ fn push_end<K: Sink>(out: &mut Pieces<'_, K>, journal: &Journal)
 }
 
 fn push_run<K: Sink>(out: &mut Pieces<'_, K>, scenario: &Scenario, journal: &Journal)
-    ensures { Gives K.held K.faults out.old (text.report scenario.now journal.now) out.new }
+    ensures { PiecesGive K.held K.faults out.old (text.report scenario.now journal.now) out.new }
 {
     push_entries(out, scenario, journal.entries.as_slice());
     push_zones(out, journal.zones.as_slice());

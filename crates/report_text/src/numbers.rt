@@ -2,7 +2,7 @@
 
 ghost use Rattle.std.specs.Prelude.{◌≡◌, ◌<◌, ◌≤◌, false, drop};
 ghost use Rattle.std.specs.Fmt.{decimal, digit_glyph, digits as digits_of};
-ghost use Rattle.io_edge.specs.Pieces.{Gives};
+ghost use Rattle.io_edge.specs.Pieces.{PiecesGive};
 ghost use Rattle.program_rules.specs.Reports.Answer.{byte_text};
 ghost use Rattle.program_rules.specs.Reports.Text.{hex};
 
@@ -10,7 +10,7 @@ use io_edge::{Pieces, Sink};
 use itoa::Buffer;
 
 pub(crate) fn push_decimal<K: Sink>(out: &mut Pieces<'_, K>, number: u64)
-    ensures { Gives K.held K.faults out.old (decimal number) out.new }
+    ensures { PiecesGive K.held K.faults out.old (decimal number) out.new }
 {
     let mut digits = Buffer::new();
     out.push_str(digits.format(number));
@@ -46,7 +46,7 @@ fn write_hex(number: u64, buffer: &mut [u8; 64]) -> usize
 }
 
 fn push_hex_digits<K: Sink>(out: &mut Pieces<'_, K>, number: u64)
-    ensures { Gives K.held K.faults out.old (digits_of 16 false number) out.new }
+    ensures { PiecesGive K.held K.faults out.old (digits_of 16 false number) out.new }
 {
     let mut buffer = [0; 64];
     let begin = write_hex(number, &mut buffer);
@@ -54,7 +54,7 @@ fn push_hex_digits<K: Sink>(out: &mut Pieces<'_, K>, number: u64)
 }
 
 pub(crate) fn push_hex<K: Sink>(out: &mut Pieces<'_, K>, number: u64)
-    ensures { Gives K.held K.faults out.old (hex number) out.new }
+    ensures { PiecesGive K.held K.faults out.old (hex number) out.new }
 {
     out.push_str("0x");
     push_hex_digits(out, number);
@@ -62,7 +62,7 @@ pub(crate) fn push_hex<K: Sink>(out: &mut Pieces<'_, K>, number: u64)
 
 /// Writes a byte as two digits in base 16.
 pub(crate) fn push_byte<K: Sink>(out: &mut Pieces<'_, K>, byte: u8)
-    ensures { Gives K.held K.faults out.old (byte_text byte) out.new }
+    ensures { PiecesGive K.held K.faults out.old (byte_text byte) out.new }
 {
     out.push(&[hex_digit(byte / 16), hex_digit(byte % 16)]);
 }

@@ -3,9 +3,9 @@
 ghost use Rattle.std.specs.Prelude.{◌≡◌, ◌≤◌, ◌++◌, codes, IfOk, OnOk, OnErr};
 ghost use Rattle.std.specs.Io.KnownBytes.{Appends};
 ghost use Rattle.io_edge.specs.Faults.{Rose};
-ghost use Rattle.io_edge.specs.Pieces.{Gives};
+ghost use Rattle.io_edge.specs.Pieces.{PiecesGive};
 ghost use Rattle.io_edge.specs.Writing.{WritesPart};
-ghost use Rattle.program_rules.specs.Commands.Line as text;
+ghost use Rattle.program_rules.specs.Commands.ErrorLine as text;
 ghost use Rattle.scenario_format.specs.Json.RefusalText.{limit_text, kind_text, behind_space};
 
 use crate::memory::{text_sink, whole_text};
@@ -33,7 +33,7 @@ fn limit_name(limit: LimitName) -> &'static str
 }
 
 fn push_limit<K: Sink>(out: &mut Pieces<'_, K>, limit: LimitName)
-    ensures { Gives K.held K.faults out.old (codes "Limit(" ++ limit_text limit ++ codes ")") out.new }
+    ensures { PiecesGive K.held K.faults out.old (codes "Limit(" ++ limit_text limit ++ codes ")") out.new }
 {
     out.push_str("Limit(");
     out.push_str(limit_name(limit));
@@ -41,7 +41,7 @@ fn push_limit<K: Sink>(out: &mut Pieces<'_, K>, limit: LimitName)
 }
 
 fn push_kind<K: Sink>(out: &mut Pieces<'_, K>, kind: RefusalKind)
-    ensures { Gives K.held K.faults out.old (kind_text kind) out.new }
+    ensures { PiecesGive K.held K.faults out.old (kind_text kind) out.new }
 {
     match kind {
         RefusalKind::NotJson => out.push_str("NotJson"),
@@ -57,7 +57,7 @@ fn push_kind<K: Sink>(out: &mut Pieces<'_, K>, kind: RefusalKind)
 }
 
 fn push_path<K: Sink>(out: &mut Pieces<'_, K>, path: &[u8])
-    ensures { Gives K.held K.faults out.old (behind_space path.now) out.new }
+    ensures { PiecesGive K.held K.faults out.old (behind_space path.now) out.new }
 {
     if path.is_empty() {
         return;
@@ -67,7 +67,7 @@ fn push_path<K: Sink>(out: &mut Pieces<'_, K>, path: &[u8])
 }
 
 fn push_refusal<K: Sink>(out: &mut Pieces<'_, K>, refusal: &Refusal)
-    ensures { Gives K.held K.faults out.old (text.refusal_line refusal.now) out.new }
+    ensures { PiecesGive K.held K.faults out.old (text.refusal_line refusal.now) out.new }
 {
     out.push_str("busdma_run: bad scenario: ");
     push_kind(out, refusal.kind);

@@ -2,7 +2,7 @@
 
 ghost use Rattle.std.specs.Prelude.{◌≡◌, ◌++◌, IfOk, codes};
 ghost use Rattle.std.specs.Fmt.{decimal};
-ghost use Rattle.io_edge.specs.Pieces.{Gives};
+ghost use Rattle.io_edge.specs.Pieces.{PiecesGive};
 ghost use Rattle.program_rules.specs.Reports.Text.{hex};
 ghost use Rattle.program_rules.specs.Reports.Zone as text;
 
@@ -14,7 +14,7 @@ use std::alloc::{AllocError, Global};
 
 /// Writes the front of a line, up to its value.
 fn push_name<K: Sink>(out: &mut Pieces<'_, K>, zone: usize, name: &str)
-    ensures { Gives K.held K.faults out.old
+    ensures { PiecesGive K.held K.faults out.old
         (codes "hw.busdma.zone" ++ (decimal zone ++ (codes "." ++ (name.now ++ codes ": "))))
         out.new }
 {
@@ -26,7 +26,7 @@ fn push_name<K: Sink>(out: &mut Pieces<'_, K>, zone: usize, name: &str)
 }
 
 fn push_count<K: Sink>(out: &mut Pieces<'_, K>, zone: usize, name: &str, count: u64)
-    ensures { Gives K.held K.faults out.old
+    ensures { PiecesGive K.held K.faults out.old
         (text.value_line zone name.now (decimal count)) out.new }
 {
     push_name(out, zone, name);
@@ -35,7 +35,7 @@ fn push_count<K: Sink>(out: &mut Pieces<'_, K>, zone: usize, name: &str, count: 
 }
 
 fn push_address<K: Sink>(out: &mut Pieces<'_, K>, zone: usize, name: &str, address: Pa)
-    ensures { Gives K.held K.faults out.old
+    ensures { PiecesGive K.held K.faults out.old
         (text.value_line zone name.now (hex address.0)) out.new }
 {
     push_name(out, zone, name);
@@ -44,7 +44,7 @@ fn push_address<K: Sink>(out: &mut Pieces<'_, K>, zone: usize, name: &str, addre
 }
 
 fn push_pages<K: Sink>(out: &mut Pieces<'_, K>, number: usize, zone: &ZoneCounts)
-    ensures { Gives K.held K.faults out.old (text.page_lines number zone.now) out.new }
+    ensures { PiecesGive K.held K.faults out.old (text.page_lines number zone.now) out.new }
 {
     push_count(out, number, "total_bpages", u64::from(zone.total));
     push_count(out, number, "free_bpages", u64::from(zone.free));
@@ -53,7 +53,7 @@ fn push_pages<K: Sink>(out: &mut Pieces<'_, K>, number: usize, zone: &ZoneCounts
 }
 
 fn push_use<K: Sink>(out: &mut Pieces<'_, K>, number: usize, zone: &ZoneCounts)
-    ensures { Gives K.held K.faults out.old (text.use_lines number zone.now) out.new }
+    ensures { PiecesGive K.held K.faults out.old (text.use_lines number zone.now) out.new }
 {
     push_count(out, number, "total_bounced", zone.bounced);
     push_count(out, number, "total_deferred", zone.deferred);
@@ -62,14 +62,14 @@ fn push_use<K: Sink>(out: &mut Pieces<'_, K>, number: usize, zone: &ZoneCounts)
 }
 
 fn push_zone<K: Sink>(out: &mut Pieces<'_, K>, number: usize, zone: &ZoneCounts)
-    ensures { Gives K.held K.faults out.old (text.zone_text number zone.now) out.new }
+    ensures { PiecesGive K.held K.faults out.old (text.zone_text number zone.now) out.new }
 {
     push_pages(out, number, zone);
     push_use(out, number, zone);
 }
 
 pub(crate) fn push_zones<K: Sink>(out: &mut Pieces<'_, K>, zones: &[ZoneCounts])
-    ensures { Gives K.held K.faults out.old (text.zone_lines zones.now) out.new }
+    ensures { PiecesGive K.held K.faults out.old (text.zone_lines zones.now) out.new }
 {
     for (number, zone) in zones.iter().enumerate() {
         push_zone(out, number, zone);

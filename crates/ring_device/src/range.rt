@@ -6,7 +6,7 @@ ghost use Rattle.std.specs.Option.{option_map};
 ghost use Rattle.busdma_machine.specs.Machine.Wire.{stretch};
 ghost use Rattle.busdma_machine.specs.Runs.{run_of};
 ghost use Rattle.ring_device.specs.Ends.{EndsLow};
-ghost use Rattle.busdma_rules.specs.Rings.Ranges.{address_of, bus_bytes, byte_count, place_of};
+ghost use Rattle.busdma_rules.specs.Rings.Ranges.{address_of, bus_bytes, segments_byte_count, place_of};
 
 use busdma_machine::{Pa, Segment};
 
@@ -16,7 +16,7 @@ use busdma_machine::{Pa, Segment};
 /// `segments` are those of the load, in the order of its bytes. Sums of addresses do not wrap at 2^64.
 /// The segments are those of the load, in the order of its bytes. No address wraps at 2^64.
 pub fn find(segments: &[Segment], addr: u64, len: u64) -> Option<u64>
-    requires { byte_count segments.now < 2 ^ 64 }
+    requires { segments_byte_count segments.now < 2 ^ 64 }
     ensures place { result ≡ place_of addr len segments.now }
     ensures bytes { IfSome result (λ at. stretch at len (bus_bytes segments.now) ≡ run_of addr len) }
 {

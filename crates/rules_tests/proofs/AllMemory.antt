@@ -5,14 +5,15 @@ use Rattle.busdma_machine.specs.declared.report.Judged.{Judged}
 use Rattle.busdma_machine.specs.declared.report.Judged.TheVariants.{Fine, Refused}
 use Rattle.busdma_machine.specs.Runs.{run_of}
 use Rattle.busdma_rules.specs.Lending.Loans.{Loans, loan_of}
-use Rattle.busdma_rules.specs.Lending.Syncing.{lost, marked_range, synced}
+use Rattle.busdma_rules.specs.Lending.SyncEffects.{lost, marked_range, synced}
 use Rattle.loan_table.specs.Table.{Table, AreIn, HasMap, IsSame, IsSynced, OnFine, OnRefused, set_all}
 use Rattle.loan_table.proofs.Addresses.{AreIn-set_all}
 use Rattle.loan_table.proofs.Inside.{put_there}
 use Rattle.rules_tests.specs.AllMemory.{HasAll}
 
 -- a mark removes no byte
-pub all-marked : (end : ℕ) (t u : Table) (keys : List ℕ) (v : Bool) → u.bytes ≡ set_all t.bytes keys v → HasAll end t → HasAll end u
+pub all-marked : (end : ℕ) (t u : Table) (keys : List ℕ) (v : Bool) → u.bytes ≡ set_all t.bytes keys v → HasAll end t →
+    HasAll end u
 all-marked end t u keys v is all a k below =
     subst (λ bytes. AreIn bytes (run_of a k)) (sym is) (AreIn-set_all t.bytes keys v (run_of a k) (all a k below))
 
@@ -39,5 +40,6 @@ map-judged (Refused r) t u m off len ops done refused there = map-same t u m ref
 
 pub all-judged : (end : ℕ) (j : Judged) (t u : Table) (m off len ops : ℕ) → OnFine j (IsSynced t u m off len ops) →
     OnRefused j (IsSame t u) → HasAll end t → HasAll end u
-all-judged end Fine t u m off len ops done refused all = all-marked end t u (lost t.loans m off len ops) false done.bytes all
+all-judged end Fine t u m off len ops done refused all = all-marked end t u (lost t.loans m off len ops) false
+    done.bytes all
 all-judged end (Refused r) t u m off len ops done refused all = all-same end t u refused all

@@ -77,7 +77,8 @@ apart_swapped xs ys apart n =
 pub apart_taken : (more less new : List ℕ) (at : ℕ) →
     ((m : ℕ) → count_le new m + one_if (leb at m) ≡ count_le less m) → AreApart more less → AreApart more new
 apart_taken more less new at taken apart n =
-    ⊎_elim (λ (h : IsAbsent more n). inl h) (λ (h : IsAbsent less n). inr (absent_fewer less new at taken n h)) (apart n)
+    ⊎_elim (λ (h : IsAbsent more n). inl h) (λ (h : IsAbsent less n). inr (absent_fewer less new at taken n h))
+    (apart n)
 
 -- a number that is absent from the second list comes to the first
 pub apart_put : (more less new : List ℕ) (at : ℕ) →

@@ -1,8 +1,10 @@
 -- Numbers on two stacks.
-use Rattle.std.proofs.Common.{◌≡◌, ℕ, zero, suc, ◌+◌, ◌-◌, ◌≤◌, ◌<◌, Bool, true, false, leb, ltb, ◌≢◌, List, [], ◌∷◌, ◌++◌}
+use Rattle.std.proofs.Common.{◌≡◌, ℕ, zero, suc, ◌+◌, ◌-◌, ◌≤◌, ◌<◌, Bool, true, false, leb, ltb, ◌≢◌, List, [], ◌∷◌}
+use Rattle.std.proofs.Common.{◌++◌}
 use Rattle.std.proofs.Common.{length, take, drop, reverse, get_or, refl, sym, ap, subst, ◌∙◌, arith}
 use Rattle.std.proofs.lemmas.Bool.{leb-true, leb-false, ltb-true, ltb-false}
-use Rattle.std.proofs.lemmas.List.{append_assoc, drop-drop, length-drop, take-append-drop, length-append, length-reverse, reverse-append}
+use Rattle.std.proofs.lemmas.List.{append_assoc, drop-drop, length-drop, take-append-drop, length-append}
+use Rattle.std.proofs.lemmas.List.{length-reverse, reverse-append}
 use Rattle.std.proofs.lemmas.List.{reverse-reverse, get_or-append_right, get_or-reverse, get_or_default, get_or_past}
 use Rattle.std.proofs.lemmas.List.{take_at, drop_at}
 use Rattle.std.proofs.Math.ListN.{get_or-append}
@@ -225,7 +227,8 @@ module _ (a b : List ℕ) (n m : ℕ) (h : Climbs 0 (stacked a b)) where
           absurd (omega (arith, p, q, top_past b k m past, top_past b (k + 1) m (omega (arith, past))))
 
 -- no number is n if the last one that is counted is another
-pub is_absent : (es : List ℕ) (n c : ℕ) → Climbs 0 es → count_le es n ≡ c → (0 < c → get_or es (c - 1) 0 ≢ n) → IsAbsent es n
+pub is_absent : (es : List ℕ) (n c : ℕ) → Climbs 0 es → count_le es n ≡ c → (0 < c → get_or es (c - 1) 0 ≢ n) →
+    IsAbsent es n
 is_absent es n c h counted other k d p same = by (ltb k c) refl
   where
     by : (b : Bool) → ltb k c ≡ b → ⊥
@@ -233,7 +236,8 @@ is_absent es n c h counted other k d p same = by (ltb k c) refl
         let before : k < c = ltb-true k c e in
         let last : get_or es (c - 1) 0 ≤ n = counted_below 0 es n (c - 1) 0 h (omega (arith, before, counted)) in
         let own : get_or es k d ≤ get_or es (c - 1) 0 =
-        low_until es h (c - 1) (get_or es (c - 1) 0) 0 (omega (arith, before, counted, count_small es n)) (omega arith) k d
+        low_until es h (c - 1) (get_or es (c - 1) 0) 0 (omega (arith, before, counted, count_small es n)) (omega arith)
+        k d
         (omega (arith, before)) in
         other (omega (arith, before)) (omega (arith, last, own, same))
     by false e =

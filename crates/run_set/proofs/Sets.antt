@@ -6,7 +6,7 @@ use Rattle.std.proofs.lemmas.Bool.{le-leb, lt-leb, leb-true, leb-false, ltb-true
 use Rattle.std.proofs.lemmas.List.{take-append-drop, drop-drop, length-take-le, get_or-drop, take_all, length-drop}
 use Rattle.std.specs.List.Sorted.{IsNonDecreasingBy}
 use mathlib.Core.Bool.{beq}
-use Rattle.run_set.specs.Edges.{member, differ, Rises, odd, in_run, edge_if}
+use Rattle.run_set.specs.Edges.{member, differ, Rises, odd, is_inside_run, edge_if}
 use Rattle.run_set.specs.Numbers.{count_le, one_if, Climbs}
 use Rattle.run_set.proofs.Counting.{climbs_lower}
 
@@ -241,7 +241,7 @@ module _ (s e hi : ℕ) (before inside behind : List ℕ) (is_in : Bool) (p : s 
   by_run n true false x y = set_behind n (ltb-false n e y)
 
   pub members_set : (n : ℕ) → member (before ++ (first ++ (last ++ behind))) n
-      ≡ (if in_run s e n then is_in else member (before ++ (inside ++ behind)) n)
+      ≡ (if is_inside_run s e n then is_in else member (before ++ (inside ++ behind)) n)
   members_set n = by_run n (leb s n) (ltb n e) refl refl
 
 -- the edges after a change
@@ -271,11 +271,11 @@ module _ (s e hi i k : ℕ) (is_in : Bool) (es : List ℕ) (p : s < e) (is : i �
       subst (Rises 0 hi) same (rises_set s e hi (take i es) (take k (drop i es)) (drop k (drop i es)) is_in p r m b)
 
   pub members_edges_set : (n : ℕ) → member (edges_set s e i k is_in es) n
-      ≡ (if in_run s e n then is_in else member es n)
+      ≡ (if is_inside_run s e n then is_in else member es n)
   members_edges_set n =
       ap (λ xs. member xs n) (sym same) ∙ members_set s e hi (take i es) (take k (drop i es))
       (drop k (drop i es)) is_in p r m b n
-      ∙ ap (λ xs. if in_run s e n then is_in else member xs n) (three_parts i k es)
+      ∙ ap (λ xs. if is_inside_run s e n then is_in else member xs n) (three_parts i k es)
 
   pub finite_edges_set : Rises 0 hi es → e ≤ hi → odd (length es) ≡ false →
       odd (length (edges_set s e i k is_in es)) ≡ false

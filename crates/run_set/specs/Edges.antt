@@ -46,8 +46,8 @@ edge_if true e = e ∷ []
 edge_if false e = []
 
 -- a number is in the run from start to end - 1
-abbrev pub in_run : ℕ → ℕ → ℕ → Bool
-in_run start end n = nat_le start n && nat_lt n end
+abbrev pub is_inside_run : ℕ → ℕ → ℕ → Bool
+is_inside_run start end n = nat_le start n && nat_lt n end
 
 -- no number of the run is in the set, where is_in is true; and none is out of it, where is_in is false
 abbrev pub NoneIn : (ℕ → Bool) → Bool → ℕ → ℕ → Type 0

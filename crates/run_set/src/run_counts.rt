@@ -2,7 +2,7 @@
 
 ghost use Rattle.std.specs.Prelude.{◌≡◌, ℕ, ◌+◌, ◌≤◌, ◌<◌, [], false, true, nat_lt, OnOk, OnErr};
 ghost use Rattle.run_set.specs.Counts.{changed, count, held_to, IsBalanced};
-ghost use Rattle.run_set.specs.Edges.{in_run, IsFirst};
+ghost use Rattle.run_set.specs.Edges.{is_inside_run, IsFirst};
 ghost use Rattle.run_set.specs.Numbers.{count_le};
 
 use crate::counts::{self, add_one};
@@ -103,7 +103,7 @@ impl RunCounts {
     pub fn change(&mut self, start: u64, end: u64, up: bool)
         requires held { up ≡ false → (n : ℕ) → start ≤ n → n < end → 0 < count self.old n }
         requires room { 1 ≤ self.old.room }
-        ensures counts { (n : ℕ) → count self.new n ≡ changed up (in_run start end n) (count self.old n) }
+        ensures counts { (n : ℕ) → count self.new n ≡ changed up (is_inside_run start end n) (count self.old n) }
         ensures kept { IsBalanced self.new.starts self.new.ends }
         ensures few { (n : ℕ) → count_le self.new.starts n ≤ held_to self.new.starts self.new.ends n }
         ensures room { self.old.room ≤ self.new.room + 1 }

@@ -1,7 +1,7 @@
 //! A set of numbers as runs.
 
 ghost use Rattle.std.specs.Prelude.{◌≡◌, ℕ, ◌+◌, ◌≤◌, ◌<◌, [], if◌then◌else◌, length, IsOk, OnOk, OnErr};
-ghost use Rattle.run_set.specs.Edges.{member, in_run, IsFirst, IsKept, IsSplit, Rises};
+ghost use Rattle.run_set.specs.Edges.{member, is_inside_run, IsFirst, IsKept, IsSplit, Rises};
 ghost use Rattle.run_set.specs.Numbers.{count_le};
 
 use crate::edges::{count_and_turn, count_to, differ, is_odd, split, split_here, turn};
@@ -122,7 +122,7 @@ impl RunSet {
     pub fn set(&mut self, start: u64, end: u64, is_in: bool)
         requires { 2 ≤ self.old.room }
         ensures members { (n : ℕ) → member self.new.edges n
-            ≡ (if in_run start end n then is_in else member self.old.edges n) }
+            ≡ (if is_inside_run start end n then is_in else member self.old.edges n) }
         ensures kept { IsKept self.new.edges }
         ensures edges { length self.new.edges ≤ length self.old.edges + 2 }
         ensures room { self.old.room ≤ self.new.room + 2 }
@@ -146,7 +146,7 @@ impl RunSet {
         requires some { start < end }
         requires room { 2 ≤ self.old.room }
         ensures members { (n : ℕ) → member self.new.edges n
-            ≡ (if in_run start end n then is_in else member self.old.edges n) }
+            ≡ (if is_inside_run start end n then is_in else member self.old.edges n) }
         ensures kept { IsKept self.new.edges }
         ensures edges { length self.new.edges ≤ length self.old.edges + 2 }
         ensures room { self.old.room ≤ self.new.room + 2 }
@@ -163,7 +163,7 @@ impl RunSet {
         requires split { IsSplit self.old.edges start end below to }
         requires room { 2 ≤ self.old.room }
         ensures members { (n : ℕ) → member self.new.edges n
-            ≡ (if in_run start end n then is_in else member self.old.edges n) }
+            ≡ (if is_inside_run start end n then is_in else member self.old.edges n) }
         ensures kept { IsKept self.new.edges }
         ensures edges { length self.new.edges ≤ length self.old.edges + 2 }
         ensures room { self.old.room ≤ self.new.room + 2 }

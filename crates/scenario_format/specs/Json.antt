@@ -1,7 +1,7 @@
+pub mod DocumentPlaces
 pub mod Field
 pub mod Items
 pub mod Number
-pub mod Place
 pub mod Read
 pub mod RefusalText
 pub mod Text

@@ -1,7 +1,6 @@
 pub mod Items
 pub mod Loads
 pub mod Ops
-pub mod Plan
 pub mod Rings
 pub mod Script
 pub mod Sends

@@ -5,7 +5,7 @@ ghost use Rattle.std.specs.List.{list_any, AllByRecursion};
 ghost use Rattle.serde_json.specs.View.{view};
 ghost use Rattle.busdma_machine.specs.Each.{EachAfter};
 ghost use Rattle.busdma_base.specs.Scenarios.FrameRuns.{is_in, overlap, frame_count, IsNumbered, IsFrameRun};
-ghost use Rattle.json_fields.specs.Place.{place_of};
+ghost use Rattle.json_fields.specs.Place.{path_place};
 ghost use Rattle.json_fields.specs.Read.{Gives, GivesSeen};
 ghost use Rattle.json_fields.specs.Field.{spot_of};
 ghost use Rattle.scenario_format.specs.Json.Items.{each};
@@ -62,7 +62,7 @@ fn judge(here: &Node, before: &[FrameRun], total: u64, run: FrameRun) -> Result<
     requires sum { total ≡ frame_count before.now }
     requires few { total ≤ frames_limit }
     requires some { 1 ≤ run.count }
-    ensures value { Gives result (run_judged before.now (place_of here.now.path) run) }
+    ensures value { Gives result (run_judged before.now (path_place here.now.path) run) }
     ensures valid { IfOk result (IsFrameRun before.now) }
 {
     if run.first > FRAME_NUMBERS || run.count > FRAME_NUMBERS - run.first {

@@ -7,7 +7,7 @@ ghost use Rattle.busdma_machine.specs.Each.{EachAfter};
 ghost use Rattle.busdma_base.specs.Scenarios.FrameRuns.{IsNumbered, is_in as lies_in};
 ghost use Rattle.busdma_base.specs.Scenarios.PageRuns as base;
 ghost use Rattle.busdma_machine.specs.Runs as runs;
-ghost use Rattle.json_fields.specs.Place.{place_of};
+ghost use Rattle.json_fields.specs.Place.{path_place as place_of};
 ghost use Rattle.json_fields.specs.Read.{Gives, GivesSeen};
 ghost use Rattle.json_fields.specs.Field.{spot_of};
 ghost use Rattle.scenario_format.specs.Json.Items.{each};

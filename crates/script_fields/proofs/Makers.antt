@@ -12,7 +12,7 @@ use Rattle.busdma_base.specs.declared.scenarios.script.Op.{Op}
 use Rattle.busdma_base.specs.Scenarios.Names.{MakesNewName, accepts, makes, makes_for, makes_used}
 use Rattle.busdma_base.specs.Scenarios.Operations.{Made, about}
 use Rattle.script_fields.specs.NamedOps.{IsIndex, IsMadeAt}
-use Rattle.scenario_format.specs.Parts.Names.{first_operation_place as first_place}
+use Rattle.scenario_format.specs.Parts.Names.{first_operation_place}
 use Rattle.script_fields.proofs.FirstPlaces.{passes, none_passes, one_passes, any_passes}
 use Rattle.script_fields.proofs.FirstPlaces.{last_passes, still_passes, end_passes, one_of_them}
 
@@ -51,7 +51,8 @@ is_made : (u : NameUse) (name : List ℕ) (ops : List Op) (i : ℕ)
     → passes (makes_for u name) ops i ≡ true → IsMadeAt ops name i
 is_made u name ops i e = (made_by u name (slice_get ops i) e).1
 
-module _ {Y : Type 0} (places : BTreeMap (String Y) ℕ) (ops : List Op) (index : IsIndex places ops) (name : List ℕ) where
+module _ {Y : Type 0} (places : BTreeMap (String Y) ℕ) (ops : List Op) (index : IsIndex places ops)
+    (name : List ℕ) where
   only : (i k : ℕ) → IsMadeAt ops name i → get_by_text places name ≡ Some k → i ≡ k
   only i k made found = same i k (sym (index.has name i made) ∙ found)
 
@@ -59,7 +60,7 @@ module _ {Y : Type 0} (places : BTreeMap (String Y) ℕ) (ops : List Op) (index 
   never i found made = let e : Some i ≡ None = sym (index.has name i made) ∙ found in cc
 
   -- a name that the index has is one that an operation makes
-  first : (r : Option ℕ) → get_by_text places name ≡ r → first_place (makes name) 0 ops ≡ r
+  first : (r : Option ℕ) → get_by_text places name ≡ r → first_operation_place (makes name) 0 ops ≡ r
   first None found = none_passes (makes name) 0 ops (λ i. false_from_ne_true _ (never i found))
   first (Some k) found =
       one_passes (makes name) 0 k ops (index.made name k found) (λ i made. only i k made found) ∙ from_zero k
@@ -69,22 +70,23 @@ module _ {Y : Type 0} (places : BTreeMap (String Y) ℕ) (ops : List Op) (index 
 
   module _ (u : NameUse) where
     -- no operation makes a name that is not in the index
-    pub unknown : get_by_text places name ≡ None → first_place (makes_for u name) 0 ops ≡ None
+    pub unknown : get_by_text places name ≡ None → first_operation_place (makes_for u name) 0 ops ≡ None
     unknown found =
         none_passes (makes_for u name) 0 ops
         (λ i. false_from_ne_true _ (λ e. never i found (is_made u name ops i e)))
 
     -- if another operation has the name, it makes no thing for this use
     pub other : (k : ℕ) → get_by_text places name ≡ Some k → passes (makes_for u name) ops k ≡ false
-        → first_place (makes_for u name) 0 ops ≡ None
+        → first_operation_place (makes_for u name) 0 ops ≡ None
     other k found fails =
         none_passes (makes_for u name) 0 ops
         (λ i. false_from_ne_true _
-        (λ e. let at : i ≡ k = only i k (is_made u name ops i e) found in let holds : passes (makes_for u name) ops k ≡ true =
+        (λ e. let at : i ≡ k = only i k (is_made u name ops i e) found in let holds : passes (makes_for u name) ops k
+        ≡ true =
         rw (← at) e in cc))
 
     pub maker : (k : ℕ) → get_by_text places name ≡ Some k → passes (makes_for u name) ops k ≡ true
-        → first_place (makes_for u name) 0 ops ≡ Some k
+        → first_operation_place (makes_for u name) 0 ops ≡ Some k
     maker k found holds =
         one_passes (makes_for u name) 0 k ops holds (λ i e. only i k (is_made u name ops i e) found) ∙ from_zero k
 
@@ -101,7 +103,8 @@ apart ops name place (Some m) new made =
 
 module _ {Y : Type 0} (old new : BTreeMap (String Y) ℕ) (ops : List Op) (o : Op) (index : IsIndex old ops)
     (is_new : MakesNewName ops (about o).makes)
-    (put : (name : List ℕ) → get_by_text new name ≡ (if makes name o then Some (length ops) else get_by_text old name)) where
+    (put : (name : List ℕ) → get_by_text new name
+    ≡ (if makes name o then Some (length ops) else get_by_text old name)) where
   has_by : (name : List ℕ) (place : ℕ) (b : Bool) → passes (makes name) ops place ≡ b
       → IsMadeAt (ops ++ o ∷ []) name place → get_by_text new name ≡ Some place
   has_by name place true before made =

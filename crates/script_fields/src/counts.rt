@@ -2,7 +2,7 @@
 
 ghost use Rattle.std.specs.Prelude.{◌≡◌, ◌≤◌, OnOk};
 ghost use Rattle.busdma_base.specs.Scenarios.Limits.{access_limit, buffer_limit};
-ghost use Rattle.json_fields.specs.Place.{place_of};
+ghost use Rattle.json_fields.specs.Place.{path_place};
 ghost use Rattle.json_fields.specs.Read.{Gives};
 ghost use Rattle.script_fields.specs.Counts.{IsWithin, having_read};
 ghost use Rattle.scenario_format.specs.Parts.Counts.{having_stepped, having_loaded};
@@ -19,7 +19,7 @@ use scenario_format::{Counts, LimitName, RefusalKind};
 /// `Stop::Refused` with the limit `Steps` if they go past the limit. `Stop::OutOfMemory` if memory runs out.
 pub fn count_steps(counts: &mut Counts, here: &Node, count: u64) -> Result<(), Stop>
     requires { IsWithin counts.old }
-    ensures value { Gives result (steps_judged counts.old count (place_of here.now.path)) }
+    ensures value { Gives result (steps_judged counts.old count (path_place here.now.path)) }
     ensures counted { OnOk result (counts.new ≡ having_stepped counts.old count) }
     ensures within { OnOk result (IsWithin counts.new) }
 {
@@ -38,7 +38,7 @@ pub fn count_steps(counts: &mut Counts, here: &Node, count: u64) -> Result<(), S
 /// past the limit of all reads. `Stop::OutOfMemory` if memory runs out.
 pub fn count_read(counts: &mut Counts, here: &Node, len: u64) -> Result<(), Stop>
     requires { IsWithin counts.old }
-    ensures value { Gives result (read_judged counts.old len (place_of here.now.path)) }
+    ensures value { Gives result (read_judged counts.old len (path_place here.now.path)) }
     ensures counted { OnOk result (counts.new ≡ having_read counts.old len) }
     ensures within { OnOk result (IsWithin counts.new) }
     ensures access { OnOk result (len ≤ access_limit) }
@@ -59,7 +59,7 @@ pub fn count_read(counts: &mut Counts, here: &Node, len: u64) -> Result<(), Stop
 /// goes past the limit of all loads. `Stop::OutOfMemory` if memory runs out.
 pub fn count_load(counts: &mut Counts, here: &Node, len: u128, counted: u128) -> Result<(), Stop>
     requires { IsWithin counts.old }
-    ensures value { Gives result (load_counted counts.old len counted (place_of here.now.path)) }
+    ensures value { Gives result (load_counted counts.old len counted (path_place here.now.path)) }
     ensures small { OnOk result (len ≤ buffer_limit) }
     ensures counted { OnOk result (counts.new ≡ having_loaded counts.old counted) }
     ensures within { OnOk result (IsWithin counts.new) }
@@ -80,7 +80,7 @@ pub fn count_load(counts: &mut Counts, here: &Node, len: u128, counted: u128) ->
 ///
 /// `Stop::Refused` with the limit `Access` if it does not. `Stop::OutOfMemory` if memory runs out.
 pub fn judge_access(here: &Node, len: u64) -> Result<(), Stop>
-    ensures value { Gives result (access_judged len (place_of here.now.path)) }
+    ensures value { Gives result (access_judged len (path_place here.now.path)) }
     ensures access { OnOk result (len ≤ access_limit) }
 {
     if len > ACCESS {

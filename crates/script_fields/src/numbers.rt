@@ -1,8 +1,8 @@
 //! Reads numbers with fewer bits than the numbers of a scenario.
 
 ghost use Rattle.std.specs.Prelude.{◌^◌};
-ghost use Rattle.scenario_format.specs.Json.Place.{key};
-ghost use Rattle.json_fields.specs.Place.{place_of};
+ghost use Rattle.scenario_format.specs.Json.DocumentPlaces.{key};
+ghost use Rattle.json_fields.specs.Place.{path_place};
 ghost use Rattle.json_fields.specs.Read.{Gives};
 ghost use Rattle.json_fields.specs.Field.{spot_of};
 ghost use Rattle.scenario_format.specs.Parts.Numbers as numbers;
@@ -12,7 +12,7 @@ use scenario_format::RefusalKind;
 
 // Returns the number that was read at a key, if it has 32 bits.
 fn short(here: &Node, name: &str, n: u64) -> Result<u32, Stop>
-    ensures { Gives result (numbers.below (2 ^ 32) (key (place_of here.now.path) name.now) n) }
+    ensures { Gives result (numbers.below (2 ^ 32) (key (path_place here.now.path) name.now) n) }
 {
     match u32::try_from(n) {
         Ok(n) => Ok(n),
@@ -50,7 +50,7 @@ pub fn short_or(here: &Node, name: &str, default: u64) -> Result<u32, Stop>
 
 // Returns the number that was read at a key, if it is a byte.
 fn byte(here: &Node, name: &str, n: u64) -> Result<u8, Stop>
-    ensures { Gives result (numbers.below 256 (key (place_of here.now.path) name.now) n) }
+    ensures { Gives result (numbers.below 256 (key (path_place here.now.path) name.now) n) }
 {
     match u8::try_from(n) {
         Ok(byte) => Ok(byte),

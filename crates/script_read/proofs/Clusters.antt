@@ -12,8 +12,8 @@ use Rattle.busdma_machine.specs.Machine.Spans.{span_addresses, span_bytes}
 use Rattle.busdma_machine.specs.Runs.{run_of}
 use Rattle.busdma_base.specs.Scenarios.Buffers.{AreClustersFor, IsCluster, IsNoneOf}
 use Rattle.busdma_base.specs.Scenarios.Limits.{entries_limit}
-use Rattle.scenario_format.specs.Scripts.Plan.{front_of, plan}
-use Rattle.script_read.proofs.Fronts.{front_bytes}
+use Rattle.busdma_rules.specs.Memory.Clusters.{front_of, plan}
+use Rattle.mbuf_defrag.proofs.Fronts.{front_bytes}
 use Rattle.script_read.specs.Sends.{IsClusterOf}
 use Rattle.scenario_format.specs.Scripts.Sends.{is_cluster, shares}
 
@@ -68,7 +68,8 @@ run_unlike c i (suc n) before low h =
     let here : IsOff c (i + 1) (c + i) = λ k. absurd (omega (arith, k)) in (
       none_at c i (omega (arith, low)) before h,
       rw next (run_unlike c (i + 1) n (before ++ (c + i) ∷ []) (omega (arith, low))
-          (all_append (IsOff c (i + 1)) before ((c + i) ∷ []) (all_weaker (IsOff c i) (IsOff c (i + 1)) (next_off c i) before h)
+          (all_append (IsOff c (i + 1)) before ((c + i) ∷ [])
+          (all_weaker (IsOff c i) (IsOff c (i + 1)) (next_off c i) before h)
           (here, tt))),
     )
 
@@ -138,7 +139,8 @@ front_short : (n : ℕ) (cs : List Va) → length (front_of n cs) ≤ length cs
 front_short n [] = omega arith
 front_short n (c ∷ cs) = by (n == 0) (front_short (n - 4096) cs)
   where
-    by : (b : Bool) → length (front_of (n - 4096) cs) ≤ length cs → length (if b then [] else record { va = c; len = min n 4096 } ∷ front_of (n - 4096) cs)
+    by : (b : Bool) → length (front_of (n - 4096) cs) ≤ length cs →
+        length (if b then [] else record { va = c; len = min n 4096 } ∷ front_of (n - 4096) cs)
         ≤ length (c ∷ cs)
     by true more = omega arith
     by false more = omega (arith, more)

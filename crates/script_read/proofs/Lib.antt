@@ -1,6 +1,5 @@
 pub mod Clusters
 pub mod Counting
 pub mod Each
-pub mod Fronts
 pub mod Hints
 pub mod Loading

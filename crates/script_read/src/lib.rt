@@ -4,10 +4,8 @@
 mod items;
 mod load;
 mod ops;
-mod planning;
 mod rings;
 mod script;
 mod sends;
 
-pub use planning::plan;
 pub use script::script_of;

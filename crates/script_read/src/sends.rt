@@ -15,13 +15,13 @@ ghost use Rattle.json_fields.specs.Read.{Gives, GivesSeen};
 ghost use Rattle.script_fields.specs.Counts.{IsWithin, with_op};
 ghost use Rattle.script_read.specs.Sends.{IsClusterOf, IsUpTo, LiesBetween, is_beside};
 ghost use Rattle.scenario_format.specs.Scripts.Sends as sends;
-ghost use Rattle.scenario_format.specs.Scripts.Plan.{plan as planned};
+ghost use Rattle.busdma_rules.specs.Memory.Clusters.{plan as planned};
 
 use crate::load::{load_of, loaded_map};
-use crate::planning::plan;
 use busdma_base::{Buffer, ListOf, Op, Span, Va};
 use busdma_machine::PAGE_SIZE;
 use json_fields::{Node, Stop};
+use mbuf_defrag::plan;
 use scenario_format::{Counts, RefusalKind};
 use script_fields::{NamedOps, entries, entries_field};
 use serde_json::Value;

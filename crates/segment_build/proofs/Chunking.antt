@@ -14,17 +14,18 @@ use Rattle.busdma_machine.specs.declared.machine.chunk.Part.{Part}
 use Rattle.busdma_machine.specs.declared.machine.chunk.Part.TheVariants.{Of, Unmapped}
 use Rattle.busdma_machine.specs.declared.tags.tag.TagLimits.{TagLimits}
 use Rattle.busdma_machine.specs.Runs.{IsExtent, run_of, addresses, byte_count}
-use Rattle.busdma_machine.specs.Machine.Entry.{AreJoined, IsEntry, IsStream, entries_bytes, others_of, entries_of}
+use Rattle.busdma_machine.specs.Machine.Entry.{AreJoined, IsEntry, IsStream}
+use Rattle.busdma_machine.specs.Machine.Entry.{entries_bytes, others_of, stream_entries}
 use Rattle.busdma_machine.specs.Machine.Entry.{extent_parts, parts_of}
 use Rattle.busdma_machine.specs.Tags.Tag.{IsEffective}
 use Rattle.segment_build.specs.declared.cutter.Cutter.{Cutter}
 use Rattle.busdma_rules.specs.Segments.Chunks.{chunk_limit, chunks_of_bytes, chunks_from, chunks_of}
 use Rattle.busdma_rules.specs.Segments.Begun.{begun_chunk}
 use Rattle.segment_build.specs.Cutting.{with_rest, uncut, opened, continued, begun, cut_by, closed_by, after_part}
-use Rattle.segment_build.specs.Cutting.{closed_part, after, closed}
+use Rattle.segment_build.specs.Cutting.{closed_part, cut_after, closed}
 use Rattle.busdma_rules.proofs.Segments.Places.{run_length}
-use Rattle.busdma_rules.proofs.Segments.Chunking.{take_nil, take_past, drop_past, run_split, limit_close, carried}
-use Rattle.busdma_rules.proofs.Segments.Chunking.{EndsFrame, chunk_begins, Fits, nothing_fits, ends_frame, joined_rest}
+use Rattle.busdma_rules.proofs.Segments.ChunkLaws.{take_nil, take_past, drop_past, run_split, limit_close, carried}
+use Rattle.busdma_rules.proofs.Segments.ChunkLaws.{EndsFrame, chunk_begins, Fits, nothing_fits, ends_frame, joined_rest}
 
 -- ---- lists
 
@@ -161,14 +162,14 @@ pub record IsCuttable (owed : ℕ) (ps : List Part) : Type 0 where
   pub extents : AllByRecursion IsExtent (others_of ps)
   pub joined : AreJoined (others_of ps)
   pub fits : Fits owed (others_of ps)
-  pub entries : AllByRecursion IsEntry (entries_of ps)
+  pub entries : AllByRecursion IsEntry (stream_entries ps)
 
 abbrev parts_to_come : TagLimits → ℕ → Cutter → List Part → List Chunk
 parts_to_come t m s ps =
-    to_come t m s (others_of ps) (chunks_from t m (s.at + byte_count (others_of ps)) (entries_of ps))
+    to_come t m s (others_of ps) (chunks_from t m (s.at + byte_count (others_of ps)) (stream_entries ps))
 
 parts_cut : (t : TagLimits) (m : ℕ) (s : Cutter) (ps : List Part) → IsEffective t → IsCuttable s.owed ps →
-    closed t m s ps ++ option_to_list (after t m s ps).last ≡ parts_to_come t m s ps
+    closed t m s ps ++ option_to_list (cut_after t m s ps).last ≡ parts_to_come t m s ps
 parts_cut t m s [] eff h =
     rw (take_nil s.owed, drop_nil s.owed, carried_none s.last) (sym (append-nil (option_to_list s.last)))
 parts_cut t m s (Of e false r ∷ ps) eff h =
@@ -183,12 +184,12 @@ parts_cut t m s (Of e false r ∷ ps) eff h =
       fits = still_fits t m s e es eff h.extents h.joined h.fits;
       entries = h.entries;
     }) in
-    append_assoc (option_to_list (closed_by s e)) (closed t m next ps) (option_to_list (after t m next ps).last)
+    append_assoc (option_to_list (closed_by s e)) (closed t m next ps) (option_to_list (cut_after t m next ps).last)
     ∙ (ap (λ cs. option_to_list (closed_by s e) ++ cs) ih
     ∙
-    (cut_extent t m s e es (chunks_from t m (next.at + byte_count es) (entries_of ps)) eff h.extents.0 h.joined
+    (cut_extent t m s e es (chunks_from t m (next.at + byte_count es) (stream_entries ps)) eff h.extents.0 h.joined
     h.fits
-    ∙ ap (λ k. to_come t m s (e ∷ es) (chunks_from t m k (entries_of ps))) place))
+    ∙ ap (λ k. to_come t m s (e ∷ es) (chunks_from t m k (stream_entries ps))) place))
 parts_cut t m s (Of e true r ∷ ps) eff h =
     let first = opened true r s in
     let next = cut_by t m first e in
@@ -205,19 +206,19 @@ parts_cut t m s (Of e true r ∷ ps) eff h =
       fits = still_fits t m first e es eff entry.extents entry.joined fits;
       entries = h.entries.1;
     }) in
-    append_assoc (option_to_list (closed_by first e)) (closed t m next ps) (option_to_list (after t m next ps).last)
+    append_assoc (option_to_list (closed_by first e)) (closed t m next ps) (option_to_list (cut_after t m next ps).last)
     ∙ (ap (λ cs. option_to_list (closed_by first e) ++ cs) ih
-    ∙ (cut_extent t m first e es (chunks_from t m (next.at + byte_count es) (entries_of ps))
+    ∙ (cut_extent t m first e es (chunks_from t m (next.at + byte_count es) (stream_entries ps))
     eff entry.extents.0 entry.joined fits
-    ∙ (ap (λ k. to_come t m first (e ∷ es) (chunks_from t m k (entries_of ps))) place
+    ∙ (ap (λ k. to_come t m first (e ∷ es) (chunks_from t m k (stream_entries ps))) place
     ∙ rw (carried_none s.last, take_nil s.owed, drop_nil s.owed, carried_none s.last, here) refl)))
 parts_cut t m s (Unmapped n ∷ ps) eff h =
     parts_cut t m s ps eff (record { extents = h.extents; joined = h.joined; fits = h.fits; entries = h.entries })
 
 -- the chunks of parts of which the first opens an entry
 cut_is : (t : TagLimits) (m : ℕ) (ps : List Part) → IsEffective t → others_of ps ≡ [] →
-    AllByRecursion IsEntry (entries_of ps) →
-    closed t m uncut ps ++ option_to_list (after t m uncut ps).last ≡ chunks_of t m (entries_of ps)
+    AllByRecursion IsEntry (stream_entries ps) →
+    closed t m uncut ps ++ option_to_list (cut_after t m uncut ps).last ≡ chunks_of t m (stream_entries ps)
 cut_is t m ps eff opens entries =
     parts_cut t m uncut ps eff (record {
       extents = subst (AllByRecursion IsExtent) (sym opens) tt;
@@ -229,23 +230,23 @@ cut_is t m ps eff opens entries =
 
 -- the chunks of a stream
 pub chunks_are : (t : TagLimits) (m : ℕ) (ps : List Part) → IsEffective t → IsStream ps →
-    closed t m uncut ps ++ option_to_list (after t m uncut ps).last ≡ chunks_of t m (entries_of ps)
+    closed t m uncut ps ++ option_to_list (cut_after t m uncut ps).last ≡ chunks_of t m (stream_entries ps)
 chunks_are t m ps eff h = cut_is t m ps eff h.opens h.entries
 
 -- ---- the stream of entries
 
 pub after_append : (t : TagLimits) (m : ℕ) (s : Cutter) (xs ys : List Part) →
-    after t m s (xs ++ ys) ≡ after t m (after t m s xs) ys
+    cut_after t m s (xs ++ ys) ≡ cut_after t m (cut_after t m s xs) ys
 after_append t m s [] ys = refl
 after_append t m s (x ∷ xs) ys = after_append t m (after_part t m s x) xs ys
 
 pub closed_append : (t : TagLimits) (m : ℕ) (s : Cutter) (xs ys : List Part) →
-    closed t m s (xs ++ ys) ≡ closed t m s xs ++ closed t m (after t m s xs) ys
+    closed t m s (xs ++ ys) ≡ closed t m s xs ++ closed t m (cut_after t m s xs) ys
 closed_append t m s [] ys = refl
 closed_append t m s (x ∷ xs) ys =
     ap (λ cs. option_to_list (closed_part s x) ++ cs) (closed_append t m (after_part t m s x) xs ys)
     ∙ sym (append_assoc (option_to_list (closed_part s x)) (closed t m (after_part t m s x) xs)
-    (closed t m (after t m (after_part t m s x) xs) ys))
+    (closed t m (cut_after t m (after_part t m s x) xs) ys))
 
 others_behind : (r : Bool) (es : List Extent) (ps : List Part) → others_of ps ≡ [] →
     others_of (extent_parts false r es ++ ps) ≡ es
@@ -253,7 +254,7 @@ others_behind r [] ps h = h
 others_behind r (e ∷ es) ps h = ap (λ xs. e ∷ xs) (others_behind r es ps h)
 
 entries_behind : (r : Bool) (es : List Extent) (ps : List Part) →
-    entries_of (extent_parts false r es ++ ps) ≡ entries_of ps
+    stream_entries (extent_parts false r es ++ ps) ≡ stream_entries ps
 entries_behind r [] ps = refl
 entries_behind r (e ∷ es) ps = entries_behind r es ps
 
@@ -268,30 +269,30 @@ no_others (e ∷ es) = others_opened e.rounded e.parts (parts_of es) (no_others 
 
 -- the first entry of a stream of entries, if it has an extent
 entry_first : (r : Bool) (x : Extent) (xs : List Extent) (ps : List Part) → others_of ps ≡ [] →
-    entries_of (extent_parts true r (x ∷ xs) ++ ps) ≡ record { rounded = r; parts = x ∷ xs } ∷ entries_of ps
+    stream_entries (extent_parts true r (x ∷ xs) ++ ps) ≡ record { rounded = r; parts = x ∷ xs } ∷ stream_entries ps
 entry_first r x xs ps h =
     ap (λ es. record { rounded = r; parts = x ∷ es }
-    ∷ entries_of (extent_parts false r xs ++ ps)) (others_behind r xs ps h)
+    ∷ stream_entries (extent_parts false r xs ++ ps)) (others_behind r xs ps h)
     ∙ ap (λ es. record { rounded = r; parts = x ∷ xs } ∷ es) (entries_behind r xs ps)
 
 entry_is : (r : Bool) (xs : List Extent) (ps : List Part) → others_of ps ≡ [] →
-    IsEntry (record { rounded = r; parts = xs }) → AllByRecursion IsEntry (entries_of ps) →
-    AllByRecursion IsEntry (entries_of (extent_parts true r xs ++ ps))
+    IsEntry (record { rounded = r; parts = xs }) → AllByRecursion IsEntry (stream_entries ps) →
+    AllByRecursion IsEntry (stream_entries (extent_parts true r xs ++ ps))
 entry_is r [] ps opens x h = h
 entry_is r (y ∷ ys) ps opens x h = subst (AllByRecursion IsEntry) (sym (entry_first r y ys ps opens)) (x, h)
 
-are_entries : (es : List Entry) → AllByRecursion IsEntry es → AllByRecursion IsEntry (entries_of (parts_of es))
+are_entries : (es : List Entry) → AllByRecursion IsEntry es → AllByRecursion IsEntry (stream_entries (parts_of es))
 are_entries [] h = tt
 are_entries (e ∷ es) h = entry_is e.rounded e.parts (parts_of es) (no_others es) h.0 (are_entries es h.1)
 
 entry_chunks : (t : TagLimits) (m at : ℕ) (r : Bool) (xs : List Extent) (ps : List Part) → others_of ps ≡ [] →
-    chunks_from t m at (entries_of (extent_parts true r xs ++ ps)) ≡ chunks_of_bytes t m r at (addresses xs)
-    ++ chunks_from t m (at + byte_count xs) (entries_of ps)
+    chunks_from t m at (stream_entries (extent_parts true r xs ++ ps)) ≡ chunks_of_bytes t m r at (addresses xs)
+    ++ chunks_from t m (at + byte_count xs) (stream_entries ps)
 entry_chunks t m at r [] ps opens = let e : at + byte_count [] ≡ at = omega arith in rw e refl
 entry_chunks t m at r (y ∷ ys) ps opens = ap (λ xs. chunks_from t m at xs) (entry_first r y ys ps opens)
 
 same_chunks : (t : TagLimits) (m at : ℕ) (es : List Entry) →
-    chunks_from t m at (entries_of (parts_of es)) ≡ chunks_from t m at es
+    chunks_from t m at (stream_entries (parts_of es)) ≡ chunks_from t m at es
 same_chunks t m at [] = refl
 same_chunks t m at (e ∷ es) =
     entry_chunks t m at e.rounded e.parts (parts_of es) (no_others es)
@@ -300,22 +301,22 @@ same_chunks t m at (e ∷ es) =
 
 -- the chunks of entries
 pub entries_cut : (t : TagLimits) (m : ℕ) (es : List Entry) → IsEffective t → AllByRecursion IsEntry es →
-    closed t m uncut (parts_of es) ++ option_to_list (after t m uncut (parts_of es)).last ≡ chunks_of t m es
+    closed t m uncut (parts_of es) ++ option_to_list (cut_after t m uncut (parts_of es)).last ≡ chunks_of t m es
 entries_cut t m es eff h = cut_is t m (parts_of es) eff (no_others es) (are_entries es h) ∙ same_chunks t m 0 es
 
 -- the chunks that are closed, and the last
 pub with_last : (t : TagLimits) (m : ℕ) (ps : List Part) (cs all : List Chunk) (s : Cutter) →
-    cs ≡ closed t m uncut ps → s ≡ after t m uncut ps →
-    closed t m uncut ps ++ option_to_list (after t m uncut ps).last ≡ all → cs ++ option_to_list s.last ≡ all
+    cs ≡ closed t m uncut ps → s ≡ cut_after t m uncut ps →
+    closed t m uncut ps ++ option_to_list (cut_after t m uncut ps).last ≡ all → cs ++ option_to_list s.last ≡ all
 with_last t m ps cs all s e f h = rw (e, f) h
 
 entry_bytes : (r : Bool) (xs : List Extent) (ps : List Part) → others_of ps ≡ [] →
-    entries_bytes (entries_of (extent_parts true r xs ++ ps)) ≡ byte_count xs + entries_bytes (entries_of ps)
+    entries_bytes (stream_entries (extent_parts true r xs ++ ps)) ≡ byte_count xs + entries_bytes (stream_entries ps)
 entry_bytes r [] ps opens = omega arith
 entry_bytes r (y ∷ ys) ps opens = ap entries_bytes (entry_first r y ys ps opens)
-    ∙ sum_by-cons (λ (x : Entry). byte_count x.parts) (record { rounded = r; parts = y ∷ ys }) (entries_of ps)
+    ∙ sum_by-cons (λ (x : Entry). byte_count x.parts) (record { rounded = r; parts = y ∷ ys }) (stream_entries ps)
 
-same_bytes : (es : List Entry) → entries_bytes (entries_of (parts_of es)) ≡ entries_bytes es
+same_bytes : (es : List Entry) → entries_bytes (stream_entries (parts_of es)) ≡ entries_bytes es
 same_bytes [] = refl
 same_bytes (e ∷ es) =
     omega (
@@ -333,5 +334,5 @@ stream_of_entries es h l =
 
 -- the stream has the chunks of the entries
 pub chunks_of_parts : (t : TagLimits) (m : ℕ) (es : List Entry) →
-    chunks_of t m (entries_of (parts_of es)) ≡ chunks_of t m es
+    chunks_of t m (stream_entries (parts_of es)) ≡ chunks_of t m es
 chunks_of_parts t m es = same_chunks t m 0 es

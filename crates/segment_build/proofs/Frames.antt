@@ -16,7 +16,7 @@ use Rattle.busdma_machine.specs.Tags.TagFlags.{keep_pg_offset}
 use Rattle.busdma_rules.specs.Segments.Building.{IsPlaceable, placed_pieces}
 use Rattle.busdma_rules.specs.Segments.Pieces.{chunk_pieces, piece_len, pieces_of}
 use Rattle.busdma_rules.specs.Segments.Trace.{IsPage, bus_addresses, chunk_len, first_page, in_page, page_offset}
-use Rattle.busdma_rules.specs.Segments.Trace.{chunks_in_pages as placed}
+use Rattle.busdma_rules.specs.Segments.Trace.{chunks_in_pages}
 use Rattle.busdma_rules.proofs.Segments.Places.{pieces_step, piece_some, piece_fits}
 
 -- a boundary divides the frame's size or is a multiple of it
@@ -128,10 +128,11 @@ as_many t (c ∷ cs) xs ys eff h p q =
     let keep = keep_pg_offset t.flags in
     (elim c.bounced as (λ b. c.bounced ≡ b →
     length
-    (chunk_pieces t (cond b (in_page keep (first_page xs) c ∷ placed keep cs (drop 1 xs)) (c ∷ placed keep cs xs)))
+    (chunk_pieces t (cond b (in_page keep (first_page xs) c ∷ chunks_in_pages keep cs (drop 1 xs))
+    (c ∷ chunks_in_pages keep cs xs)))
     ≡ length
     (chunk_pieces t
-    (cond b (in_page keep (first_page ys) c ∷ placed keep cs (drop 1 ys)) (c ∷ placed keep cs ys)))) [
+    (cond b (in_page keep (first_page ys) c ∷ chunks_in_pages keep cs (drop 1 ys)) (c ∷ chunks_in_pages keep cs ys)))) [
       | true ↦
           λ w. omega (
             arith,
@@ -139,14 +140,14 @@ as_many t (c ∷ cs) xs ys eff h p q =
                 (page_first ys q),
             as_many t cs (drop 1 xs) (drop 1 ys) eff h.1 (pages_later xs p) (pages_later ys q),
             length-append (pieces_of t (bus_addresses (in_page keep (first_page xs) c)))
-                (chunk_pieces t (placed keep cs (drop 1 xs))),
+                (chunk_pieces t (chunks_in_pages keep cs (drop 1 xs))),
             length-append (pieces_of t (bus_addresses (in_page keep (first_page ys) c)))
-                (chunk_pieces t (placed keep cs (drop 1 ys))),
+                (chunk_pieces t (chunks_in_pages keep cs (drop 1 ys))),
           )
       | false ↦ λ w. omega (
         arith,
         as_many t cs xs ys eff h.1 p q,
-        length-append (pieces_of t (bus_addresses c)) (chunk_pieces t (placed keep cs xs)),
-        length-append (pieces_of t (bus_addresses c)) (chunk_pieces t (placed keep cs ys)),
+        length-append (pieces_of t (bus_addresses c)) (chunk_pieces t (chunks_in_pages keep cs xs)),
+        length-append (pieces_of t (bus_addresses c)) (chunk_pieces t (chunks_in_pages keep cs ys)),
       )
     ]) refl

@@ -12,7 +12,8 @@ use Rattle.busdma_machine.specs.declared.machine.chunk.Entry.{Entry}
 use Rattle.busdma_machine.specs.declared.machine.chunk.Part.{Part}
 use Rattle.busdma_machine.specs.declared.machine.chunk.Part.TheVariants.{Of, Unmapped}
 use Rattle.busdma_machine.specs.declared.tags.tag.TagLimits.{TagLimits}
-use Rattle.busdma_machine.specs.Machine.Entry.{AreJoined, IsEntry, IsStream, entries_bytes, entries_of, others_of}
+use Rattle.busdma_machine.specs.Machine.Entry.{AreJoined, IsEntry, IsStream}
+use Rattle.busdma_machine.specs.Machine.Entry.{entries_bytes, stream_entries, others_of}
 use Rattle.busdma_machine.specs.Machine.Entry.{part_bytes, parts_of}
 use Rattle.busdma_machine.specs.Runs.{IsExtent, addresses, byte_count, run_of}
 use Rattle.busdma_machine.specs.Tags.Tag.{IsEffective}
@@ -23,7 +24,7 @@ use Rattle.segment_build.specs.Conditions.{HasRooms}
 use Rattle.busdma_rules.specs.Segments.Pieces.{chunk_pieces, pieces_of}
 use Rattle.segment_build.specs.Streams.{FrontsAskNoMore, stream_chunks}
 use Rattle.busdma_rules.specs.Segments.Trace.{bus_addresses, chunk_len, first_page}
-use Rattle.busdma_rules.specs.Segments.Trace.{in_page, page_offset, chunks_in_pages as placed}
+use Rattle.busdma_rules.specs.Segments.Trace.{in_page, page_offset, chunks_in_pages}
 use Rattle.segment_build.proofs.Chunking.{chunks_of_parts, stream_of_entries}
 use Rattle.busdma_rules.proofs.Segments.Counting.{need_append, need_first, pieces_append}
 use Rattle.busdma_rules.proofs.Segments.OneWindow.{all_first, all_second}
@@ -50,8 +51,8 @@ no_extents : (es rest : List Extent) → es ++ rest ≡ [] → es ≡ []
 no_extents [] rest h = refl
 no_extents (e ∷ es) rest h = absurd cc
 
-entries_front : (xs ys : List Part) → AllByRecursion IsEntry (entries_of (xs ++ ys)) →
-    AllByRecursion IsEntry (entries_of xs)
+entries_front : (xs ys : List Part) → AllByRecursion IsEntry (stream_entries (xs ++ ys)) →
+    AllByRecursion IsEntry (stream_entries xs)
 entries_front [] ys h = tt
 entries_front (Of e true r ∷ xs) ys h =
     let f = others_front xs ys in
@@ -89,7 +90,7 @@ IsStream-front xs ys h =
 
 -- ---- fronts of chunks
 
-others_stay : (xs ys : List Part) → (entries_of xs ≡ []) ⊎ (others_of (xs ++ ys) ≡ others_of xs)
+others_stay : (xs ys : List Part) → (stream_entries xs ≡ []) ⊎ (others_of (xs ++ ys) ≡ others_of xs)
 others_stay [] ys = inl refl
 others_stay (Of e true r ∷ xs) ys = inr refl
 others_stay (Of e false r ∷ xs) ys = elim (others_stay xs ys) [ inl h ↦ inl h | inr h ↦ inr (ap (λ es. e ∷ es) h) ]
@@ -112,14 +113,14 @@ bytes_front t m r at es rest eff =
 
 -- the last entry of a front, and the same entry of the stream
 last_front : (t : TagLimits) (m at : ℕ) (r : Bool) (e : Extent) (xs ys : List Part) (later : List Chunk) →
-    IsEffective t → entries_of xs ≡ [] →
-    IsFront (chunks_from t m at (record { rounded = r; parts = e ∷ others_of xs } ∷ entries_of xs))
+    IsEffective t → stream_entries xs ≡ [] →
+    IsFront (chunks_from t m at (record { rounded = r; parts = e ∷ others_of xs } ∷ stream_entries xs))
     (chunks_of_bytes t m r at (addresses (e ∷ others_of (xs ++ ys))) ++ later)
 last_front t m at r e xs ys later eff none =
     let f = others_front xs ys in
     let own = e ∷ others_of xs in
     let here = chunks_of_bytes t m r at (addresses own) in
-    let only : chunks_from t m at (record { rounded = r; parts = own } ∷ entries_of xs) ≡ here =
+    let only : chunks_from t m at (record { rounded = r; parts = own } ∷ stream_entries xs) ≡ here =
     ap (λ es. here ++ chunks_from t m (at + byte_count own) es) none ∙ append-nil here in
     subst (λ (cs : List Chunk). IsFront cs (chunks_of_bytes t m r at (addresses (e ∷ others_of (xs ++ ys))) ++ later))
     (sym only)
@@ -128,19 +129,19 @@ last_front t m at r e xs ys later eff none =
     (bytes_front t m r at own f.0 eff)))
 
 chunks_front : (t : TagLimits) (m at : ℕ) (xs ys : List Part) → IsEffective t →
-    IsFront (chunks_from t m at (entries_of xs)) (chunks_from t m at (entries_of (xs ++ ys)))
-chunks_front t m at [] ys eff = no_front (chunks_from t m at (entries_of ys))
+    IsFront (chunks_from t m at (stream_entries xs)) (chunks_from t m at (stream_entries (xs ++ ys)))
+chunks_front t m at [] ys eff = no_front (chunks_from t m at (stream_entries ys))
 chunks_front t m at (Of e true r ∷ xs) ys eff =
     elim (others_stay xs ys) [
       | inl none ↦ last_front t m at r e xs ys
-          (chunks_from t m (at + byte_count (e ∷ others_of (xs ++ ys))) (entries_of (xs ++ ys))) eff none
+          (chunks_from t m (at + byte_count (e ∷ others_of (xs ++ ys))) (stream_entries (xs ++ ys))) eff none
       | inr same ↦
           subst (λ (es : List Extent). IsFront
-          (chunks_from t m at (record { rounded = r; parts = e ∷ others_of xs } ∷ entries_of xs))
-          (chunks_from t m at (record { rounded = r; parts = e ∷ es } ∷ entries_of (xs ++ ys)))) (sym same)
+          (chunks_from t m at (record { rounded = r; parts = e ∷ others_of xs } ∷ stream_entries xs))
+          (chunks_from t m at (record { rounded = r; parts = e ∷ es } ∷ stream_entries (xs ++ ys)))) (sym same)
           (behind (chunks_of_bytes t m r at (addresses (e ∷ others_of xs)))
-          (chunks_from t m (at + byte_count (e ∷ others_of xs)) (entries_of xs))
-          (chunks_from t m (at + byte_count (e ∷ others_of xs)) (entries_of (xs ++ ys)))
+          (chunks_from t m (at + byte_count (e ∷ others_of xs)) (stream_entries xs))
+          (chunks_from t m (at + byte_count (e ∷ others_of xs)) (stream_entries (xs ++ ys)))
           (chunks_front t m (at + byte_count (e ∷ others_of xs)) xs ys eff))
     ]
 chunks_front t m at (Of e false r ∷ xs) ys eff = chunks_front t m at xs ys eff
@@ -176,7 +177,7 @@ longer_pieces t c d ds pages eff sc sd l =
     ≤ length (placed_pieces t (d ∷ ds) pages)) [
       | true ↦ λ w.
           let p = first_page pages in
-          let other : placed keep (d ∷ ds) pages ≡ in_page keep p d ∷ placed keep ds (drop 1 pages) =
+          let other : chunks_in_pages keep (d ∷ ds) pages ≡ in_page keep p d ∷ chunks_in_pages keep ds (drop 1 pages) =
           rw (l.bounced ∙ w) refl in
           let at : p.0 + page_offset keep d.first.pa.0 ≡ p.0 + page_offset keep c.first.pa.0 =
           ap (λ (n : ℕ). p.0 + page_offset keep n) same in
@@ -184,19 +185,20 @@ longer_pieces t c d ds pages eff sc sd l =
             arith,
             ap (λ cs. length (chunk_pieces t cs)) other,
             length-append (pieces_of t (bus_addresses (in_page keep p d)))
-                (chunk_pieces t (placed keep ds (drop 1 pages))),
+                (chunk_pieces t (chunks_in_pages keep ds (drop 1 pages))),
             ap (λ (n : ℕ). length (pieces_of t (run_of n (chunk_len d)))) at,
             run_longer t (p.0 + page_offset keep c.first.pa.0) (chunk_len c) (chunk_len d) eff.maxsegsz len,
             length-append (pieces_of t (bus_addresses (in_page keep p c))) [],
           )
       | false ↦ λ w.
-          let other : placed keep (d ∷ ds) pages ≡ d ∷ placed keep ds pages = rw (l.bounced ∙ w) refl in
+          let other : chunks_in_pages keep (d ∷ ds) pages ≡ d ∷ chunks_in_pages keep ds pages =
+          rw (l.bounced ∙ w) refl in
           let one = ap (λ bs. length (pieces_of t bs)) (own_run t c sc w) in
           let two = ap (λ bs. length (pieces_of t bs)) (own_run t d sd (l.bounced ∙ w)) in
           omega (
             arith,
             ap (λ cs. length (chunk_pieces t cs)) other,
-            length-append (pieces_of t (bus_addresses d)) (chunk_pieces t (placed keep ds pages)),
+            length-append (pieces_of t (bus_addresses d)) (chunk_pieces t (chunks_in_pages keep ds pages)),
             one,
             two,
             ap (λ (n : ℕ). length (pieces_of t (run_of n (chunk_len d)))) same,
@@ -243,8 +245,8 @@ fronts_ask t m pages eff xs ys h =
       need = front_need (stream_chunks t m xs) (stream_chunks t m (xs ++ ys)) front;
       pieces =
           front_pieces t (stream_chunks t m xs) (stream_chunks t m (xs ++ ys)) pages eff
-          (chunks_sound t m (entries_of xs) eff stream.entries)
-          (chunks_sound t m (entries_of (xs ++ ys)) eff h.entries) front;
+          (chunks_sound t m (stream_entries xs) eff stream.entries)
+          (chunks_sound t m (stream_entries (xs ++ ys)) eff h.entries) front;
     }
 
 pub HasRooms-front : (t : TagLimits) (m : ℕ) (pages : List Pa) (room bounced_room : ℕ) → FrontsAskNoMore t m pages →

@@ -1,11 +1,11 @@
 pub mod Chunking
 pub mod Cuts
-pub mod Joins
-pub mod Iterating
 pub mod Frames
+pub mod Fronts
+pub mod FrontsAsk
+pub mod Iterating
+pub mod JoinLaws
+pub mod LongerRuns
+pub mod MorePieces
 pub mod PartByPart
 pub mod SoFar
-pub mod MorePieces
-pub mod Fronts
-pub mod LongerRuns
-pub mod FrontsAsk

@@ -12,7 +12,7 @@ use Rattle.busdma_machine.specs.Tags.Tag.{IsEffective}
 use Rattle.busdma_rules.specs.Segments.Chunks.{chunk_limit, chunk_of, chunks_within}
 use Rattle.busdma_rules.specs.Segments.Pieces.{piece_len, pieces_of}
 use Rattle.busdma_rules.specs.Segments.Trace.{chunk_len}
-use Rattle.busdma_rules.proofs.Segments.Chunking.{limit_reaches}
+use Rattle.busdma_rules.proofs.Segments.ChunkLaws.{limit_reaches}
 use Rattle.busdma_rules.proofs.Segments.Numbers.{above, most}
 use Rattle.busdma_rules.proofs.Segments.Places.{piece_fits, piece_some, pieces_step}
 use Rattle.busdma_rules.proofs.Segments.Sound.{made_len}

@@ -4,13 +4,13 @@ use Rattle.std.proofs.Common.{arith}
 use Rattle.busdma_machine.specs.declared.machine.address.Segment.{Segment}
 use Rattle.busdma_machine.specs.declared.tags.tag.TagLimits.{TagLimits}
 use Rattle.busdma_rules.specs.Segments.Built.{AreTooMany, IsFew}
-use Rattle.segment_build.specs.Joining.{added, added_all}
+use Rattle.segment_build.specs.Joining.{extent_added, added_all}
 use Rattle.busdma_rules.specs.Segments.Segmentation.{IsSegmentation, joint, may_join, segmentation}
 use Rattle.segment_build.proofs.Cuts.{cut_all, one_segmentation}
 use Rattle.busdma_rules.proofs.Segments.Cuts.{cut_is}
 use Rattle.segment_build.proofs.SoFar.{cut_longer}
 
-added_by_one : (t : TagLimits) (segs : List Segment) (p : Segment) → length (added t segs p) ≤ length segs + 1
+added_by_one : (t : TagLimits) (segs : List Segment) (p : Segment) → length (extent_added t segs p) ≤ length segs + 1
 added_by_one t [] p = omega arith
 added_by_one t (s ∷ []) p =
     elim (may_join t s p) as (λ b. length (cond b (joint s p ∷ []) (s ∷ p ∷ [])) ≤ 2)
@@ -21,7 +21,7 @@ added_by_one t (s ∷ r ∷ rs) p = omega (arith, added_by_one t (r ∷ rs) p)
 pub added_all_shorter : (t : TagLimits) (segs ps : List Segment) →
     length (added_all t segs ps) ≤ length segs + length ps
 added_all_shorter t segs [] = omega arith
-added_all_shorter t segs (p ∷ ps) = omega (arith, added_by_one t segs p, added_all_shorter t (added t segs p) ps)
+added_all_shorter t segs (p ∷ ps) = omega (arith, added_by_one t segs p, added_all_shorter t (extent_added t segs p) ps)
 
 -- the segments of the pieces before, with more pieces
 all_added : (t : TagLimits) (before segs ps : List Segment) → IsFew t before segs →

@@ -13,17 +13,18 @@ use Rattle.busdma_machine.specs.declared.machine.chunk.Part.{Part}
 use Rattle.busdma_machine.specs.declared.machine.chunk.Part.TheVariants.{Of, Unmapped}
 use Rattle.busdma_machine.specs.declared.tags.tag.TagLimits.{TagLimits}
 use Rattle.busdma_machine.specs.Runs.{IsExtent, byte_count, run_of}
-use Rattle.busdma_machine.specs.Machine.Entry.{IsEntry, IsPart, IsStream, entries_bytes, entries_of, others_of}
+use Rattle.busdma_machine.specs.Machine.Entry.{IsEntry, IsPart, IsStream}
+use Rattle.busdma_machine.specs.Machine.Entry.{entries_bytes, stream_entries, others_of}
 use Rattle.busdma_machine.specs.Machine.Entry.{part_bytes, unmapped_of}
 use Rattle.busdma_machine.specs.Tags.Tag.{IsEffective}
 use Rattle.busdma_machine.specs.Tags.TagFlags.{keep_pg_offset}
 use Rattle.segment_build.specs.declared.cutter.Cutter.{Cutter}
 use Rattle.busdma_rules.specs.Segments.Building.{IsPlaceable, placed_pieces}
 use Rattle.busdma_rules.specs.Segments.Chunks.{chunks_of, need_of}
-use Rattle.segment_build.specs.Cutting.{after, after_part, closed, closed_part, opened, uncut}
+use Rattle.segment_build.specs.Cutting.{cut_after, after_part, closed, closed_part, opened, uncut}
 use Rattle.busdma_rules.specs.Segments.Pieces.{chunk_pieces, piece_len, pieces_of}
 use Rattle.busdma_rules.specs.Segments.Trace.{bus_addresses, chunk_len, first_page}
-use Rattle.busdma_rules.specs.Segments.Trace.{in_page, page_offset, chunks_in_pages as placed}
+use Rattle.busdma_rules.specs.Segments.Trace.{in_page, page_offset, chunks_in_pages}
 use Rattle.segment_build.proofs.Chunking.{after_append, chunks_are, closed_append, cut_at}
 use Rattle.busdma_rules.proofs.Segments.Counting.{chunk_bytes, chunks_bytes, need_small, pieces_append}
 use Rattle.busdma_rules.proofs.Segments.Places.{pieces_from, pieces_are_from}
@@ -40,12 +41,12 @@ part_at t m s (Of e false r) = cut_at t m s e
 abbrev pub parts_bytes : List Part → ℕ
 parts_bytes ps = sum_by part_bytes ps
 
-after_at : (t : TagLimits) (m : ℕ) (s : Cutter) (ps : List Part) → (after t m s ps).at ≡ s.at + parts_bytes ps
+after_at : (t : TagLimits) (m : ℕ) (s : Cutter) (ps : List Part) → (cut_after t m s ps).at ≡ s.at + parts_bytes ps
 after_at t m s [] = omega arith
 after_at t m s (p ∷ ps) =
     omega (arith, after_at t m (after_part t m s p) ps, part_at t m s p, sum_by-cons part_bytes p ps)
 
-pub bytes_split : (ps : List Part) → parts_bytes ps ≡ byte_count (others_of ps) + entries_bytes (entries_of ps)
+pub bytes_split : (ps : List Part) → parts_bytes ps ≡ byte_count (others_of ps) + entries_bytes (stream_entries ps)
 bytes_split [] = refl
 bytes_split (Of e true r ∷ ps) =
     omega (
@@ -54,7 +55,7 @@ bytes_split (Of e true r ∷ ps) =
       sum_by-cons part_bytes (Of e true r) ps,
       sum_by-cons (λ (x : Extent). x.len) e (others_of ps),
       sum_by-cons (λ (x : Entry). byte_count x.parts)
-          (record { rounded = r; parts = e ∷ others_of ps }) (entries_of ps),
+          (record { rounded = r; parts = e ∷ others_of ps }) (stream_entries ps),
     )
 bytes_split (Of e false r ∷ ps) =
     omega (
@@ -66,7 +67,7 @@ bytes_split (Of e false r ∷ ps) =
 bytes_split (Unmapped n ∷ ps) = omega (arith, bytes_split ps, sum_by-cons part_bytes (Unmapped n) ps)
 
 each_part : (ps : List Part) → AllByRecursion IsExtent (others_of ps) →
-    AllByRecursion IsEntry (entries_of ps) → AllByRecursion IsPart ps
+    AllByRecursion IsEntry (stream_entries ps) → AllByRecursion IsPart ps
 each_part [] h i = tt
 each_part (Of e true r ∷ ps) h i = (i.0.extents.0, each_part ps i.0.extents.1 i.1)
 each_part (Of e false r ∷ ps) h i = (h.0, each_part ps h.1 i)
@@ -96,39 +97,39 @@ if_listed P (Some x) h = h.0
 
 -- the bytes of a stream so far
 pub stream_at : (t : TagLimits) (m : ℕ) (ps : List Part) → IsStream ps →
-    (after t m uncut ps).at ≡ entries_bytes (entries_of ps)
+    (cut_after t m uncut ps).at ≡ entries_bytes (stream_entries ps)
 stream_at t m ps h = omega (arith, after_at t m uncut ps, bytes_split ps, ap byte_count h.opens)
 
 -- ---- a stream and its chunks
 
 -- what holds of a stream's chunks
 pub record Holds (t : TagLimits) (m : ℕ) (ps : List Part) : Type 0 where
-  pub chunks : closed t m uncut ps ++ option_to_list (after t m uncut ps).last ≡ chunks_of t m (entries_of ps)
+  pub chunks : closed t m uncut ps ++ option_to_list (cut_after t m uncut ps).last ≡ chunks_of t m (stream_entries ps)
   pub sound : AllByRecursion (IsPlaceable t) (closed t m uncut ps)
-  pub last_sound : IfSome (after t m uncut ps).last (IsPlaceable t)
-  pub at : (after t m uncut ps).at ≡ entries_bytes (entries_of ps)
-  pub bytes : chunk_bytes (closed t m uncut ps) + chunk_bytes (option_to_list (after t m uncut ps).last) ≤ 2 ^ 20
+  pub last_sound : IfSome (cut_after t m uncut ps).last (IsPlaceable t)
+  pub at : (cut_after t m uncut ps).at ≡ entries_bytes (stream_entries ps)
+  pub bytes : chunk_bytes (closed t m uncut ps) + chunk_bytes (option_to_list (cut_after t m uncut ps).last) ≤ 2 ^ 20
   pub need : need_of (closed t m uncut ps) ≤ 2 ^ 20
 
 pub holds : (t : TagLimits) (m : ℕ) (ps : List Part) → IsEffective t → IsStream ps → Holds t m ps
 holds t m ps eff h =
     let cs = closed t m uncut ps in
-    let last = option_to_list (after t m uncut ps).last in
+    let last = option_to_list (cut_after t m uncut ps).last in
     let all = chunks_are t m ps eff h in
-    let sound = subst (AllByRecursion (IsPlaceable t)) (sym all) (chunks_sound t m (entries_of ps) eff h.entries) in
+    let sound = subst (AllByRecursion (IsPlaceable t)) (sym all) (chunks_sound t m (stream_entries ps) eff h.entries) in
     let small = h.bytes in
     let bytes : chunk_bytes cs + chunk_bytes last ≤ 2 ^ 20 =
     omega (
       arith,
       sum_by-append chunk_len cs last,
       ap chunk_bytes all,
-      chunks_bytes t m (entries_of ps) eff,
+      chunks_bytes t m (stream_entries ps) eff,
       small,
     ) in
     record {
       chunks = all;
       sound = all_first (IsPlaceable t) cs last sound;
-      last_sound = if_listed (IsPlaceable t) (after t m uncut ps).last (all_second (IsPlaceable t) cs last sound);
+      last_sound = if_listed (IsPlaceable t) (cut_after t m uncut ps).last (all_second (IsPlaceable t) cs last sound);
       at = stream_at t m ps h;
       bytes = bytes;
       need = omega (arith, need_small t cs (all_first (IsPlaceable t) cs last sound), bytes);
@@ -137,11 +138,11 @@ holds t m ps eff h =
 -- what holds at the next part of a stream
 pub record HoldsAt (t : TagLimits) (m : ℕ) (ps : List Part) (p : Part) : Type 0 where
   pub part : IsPart p
-  pub fits : (after t m uncut ps).at + part_bytes p ≤ 2 ^ 20
-  pub sound : IfSome (closed_part (after t m uncut ps) p) (IsPlaceable t)
+  pub fits : (cut_after t m uncut ps).at + part_bytes p ≤ 2 ^ 20
+  pub sound : IfSome (closed_part (cut_after t m uncut ps) p) (IsPlaceable t)
   pub closed_are : closed t m uncut (ps ++ p ∷ []) ≡ closed t m uncut ps
-      ++ option_to_list (closed_part (after t m uncut ps) p)
-  pub after_is : after t m uncut (ps ++ p ∷ []) ≡ after_part t m (after t m uncut ps) p
+      ++ option_to_list (closed_part (cut_after t m uncut ps) p)
+  pub after_is : cut_after t m uncut (ps ++ p ∷ []) ≡ after_part t m (cut_after t m uncut ps) p
   pub chunks : AllByRecursion (IsPlaceable t) (closed t m uncut ps)
   pub bytes : chunk_bytes (closed t m uncut ps) ≤ 2 ^ 20
   pub need : need_of (closed t m uncut ps) ≤ 2 ^ 20
@@ -150,7 +151,7 @@ pub holds_at : (t : TagLimits) (m : ℕ) (ps : List Part) (p : Part) → IsEffec
     IsStream (ps ++ p ∷ []) → HoldsAt t m ps p
 holds_at t m ps p eff h =
     let cs = closed t m uncut ps in
-    let one = option_to_list (closed_part (after t m uncut ps) p) in
+    let one = option_to_list (closed_part (cut_after t m uncut ps) p) in
     let all = holds t m (ps ++ p ∷ []) eff h in
     let more : closed t m uncut (ps ++ p ∷ []) ≡ cs ++ one =
     closed_append t m uncut ps (p ∷ []) ∙ ap (λ xs. cs ++ xs) (append-nil one) in
@@ -161,8 +162,9 @@ holds_at t m ps p eff h =
     omega (arith, sum_by-append chunk_len cs one, ap chunk_bytes more, all.bytes) in
     record {
       part = last_part ps p h;
-      fits = omega (arith, all.at, ap (λ (s : Cutter). s.at) next, part_at t m (after t m uncut ps) p, small);
-      sound = if_listed (IsPlaceable t) (closed_part (after t m uncut ps) p) (all_second (IsPlaceable t) cs one sound);
+      fits = omega (arith, all.at, ap (λ (s : Cutter). s.at) next, part_at t m (cut_after t m uncut ps) p, small);
+      sound = if_listed (IsPlaceable t) (closed_part (cut_after t m uncut ps) p)
+          (all_second (IsPlaceable t) cs one sound);
       closed_are = more;
       after_is = next;
       chunks = all_first (IsPlaceable t) cs one sound;
@@ -190,8 +192,8 @@ pieces_few t (c ∷ cs) pages eff h =
     let all = sum_by-cons chunk_len c cs in
     (elim c.bounced as (λ b. c.bounced ≡ b →
     length
-    (chunk_pieces t (cond b (in_page keep (first_page pages) c ∷ placed keep cs (drop 1 pages))
-    (c ∷ placed keep cs pages))) ≤ chunk_bytes (c ∷ cs)) [
+    (chunk_pieces t (cond b (in_page keep (first_page pages) c ∷ chunks_in_pages keep cs (drop 1 pages))
+    (c ∷ chunks_in_pages keep cs pages))) ≤ chunk_bytes (c ∷ cs)) [
       | true ↦
           λ w. omega (
             arith,
@@ -199,7 +201,7 @@ pieces_few t (c ∷ cs) pages eff h =
             run_few t ((first_page pages).0 + page_offset keep c.first.pa.0) (chunk_len c) eff,
             pieces_few t cs (drop 1 pages) eff h.1,
             length-append (pieces_of t (bus_addresses (in_page keep (first_page pages) c)))
-                (chunk_pieces t (placed keep cs (drop 1 pages))),
+                (chunk_pieces t (chunks_in_pages keep cs (drop 1 pages))),
           )
       | false ↦ λ w. omega (
         arith,
@@ -207,7 +209,7 @@ pieces_few t (c ∷ cs) pages eff h =
         ap (λ bs. length (pieces_of t bs)) (own_run t c h.0 w),
         run_few t c.first.pa.0 (chunk_len c) eff,
         pieces_few t cs pages eff h.1,
-        length-append (pieces_of t (bus_addresses c)) (chunk_pieces t (placed keep cs pages)),
+        length-append (pieces_of t (bus_addresses c)) (chunk_pieces t (chunks_in_pages keep cs pages)),
       )
     ]) refl
 

@@ -57,9 +57,9 @@ closed_part s (Of e opens rounded) = closed_by (opened opens rounded s) e
 closed_part s (Unmapped n) = None
 
 -- the cutter after parts of a stream
-abbrev pub after : TagLimits → ℕ → Cutter → List Part → Cutter
-after t maxmem s [] = s
-after t maxmem s (p ∷ ps) = after t maxmem (after_part t maxmem s p) ps
+abbrev pub cut_after : TagLimits → ℕ → Cutter → List Part → Cutter
+cut_after t maxmem s [] = s
+cut_after t maxmem s (p ∷ ps) = cut_after t maxmem (after_part t maxmem s p) ps
 
 -- the chunks that parts of a stream close, in order
 abbrev pub closed : TagLimits → ℕ → Cutter → List Part → List Chunk

@@ -6,17 +6,17 @@ use Rattle.busdma_machine.specs.declared.tags.tag.TagLimits.{TagLimits}
 use Rattle.busdma_rules.specs.Segments.Segmentation.{joint, may_join}
 
 -- the segments after one more piece, which joins the last segment if it may
-abbrev pub added : TagLimits → List Segment → Segment → List Segment
-added t [] p = p ∷ []
-added t (s ∷ []) p = if may_join t s p then joint s p ∷ [] else s ∷ p ∷ []
-added t (s ∷ r ∷ rs) p = s ∷ added t (r ∷ rs) p
+abbrev pub extent_added : TagLimits → List Segment → Segment → List Segment
+extent_added t [] p = p ∷ []
+extent_added t (s ∷ []) p = if may_join t s p then joint s p ∷ [] else s ∷ p ∷ []
+extent_added t (s ∷ r ∷ rs) p = s ∷ extent_added t (r ∷ rs) p
 
 -- the segments after more pieces
 abbrev pub added_all : TagLimits → List Segment → List Segment → List Segment
 added_all t segments [] = segments
-added_all t segments (p ∷ ps) = added_all t (added t segments p) ps
+added_all t segments (p ∷ ps) = added_all t (extent_added t segments p) ps
 
 -- the last segment joined with a piece, if the piece may join it
-abbrev pub joined : TagLimits → Option Segment → Segment → Option Segment
-joined t None p = None
-joined t (Some s) p = if may_join t s p then Some (joint s p) else None
+abbrev pub extents_joined : TagLimits → Option Segment → Segment → Option Segment
+extents_joined t None p = None
+extents_joined t (Some s) p = if may_join t s p then Some (joint s p) else None

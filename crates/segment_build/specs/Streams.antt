@@ -6,7 +6,7 @@ use Rattle.busdma_machine.specs.declared.machine.address.Segment.{Segment}
 use Rattle.busdma_machine.specs.declared.machine.chunk.Chunk.{Chunk}
 use Rattle.busdma_machine.specs.declared.machine.chunk.Part.{Part}
 use Rattle.busdma_machine.specs.declared.tags.tag.TagLimits.{TagLimits}
-use Rattle.busdma_machine.specs.Machine.Entry.{IsStream, entries_of, entries_bytes, unmapped_of}
+use Rattle.busdma_machine.specs.Machine.Entry.{IsStream, stream_entries, entries_bytes, unmapped_of}
 use Rattle.segment_build.specs.declared.measured.Measured.{Measured}
 use Rattle.segment_build.specs.declared.measured.Measured.TheVariants.{Fits, Unmapped}
 use Rattle.segment_build.specs.declared.streamed.Streamed.{Streamed}
@@ -18,7 +18,7 @@ use Rattle.busdma_rules.specs.Segments.Trace.{IsPage}
 
 -- the chunks of the entries of a stream
 abbrev pub stream_chunks : TagLimits → ℕ → List Part → List Chunk
-stream_chunks t maxmem parts = chunks_of t maxmem (entries_of parts)
+stream_chunks t maxmem parts = chunks_of t maxmem (stream_entries parts)
 
 -- each byte of the stream can be reached, and these are the numbers of its bounce pages, of its pieces in any
 -- pages, and of its bytes
@@ -28,7 +28,7 @@ pub record IsMeasure (t : TagLimits) (maxmem : ℕ) (parts : List Part)
   pub need : pages_needed ≡ need_of (stream_chunks t maxmem parts)
   pub pieces : (pages : List Pa) → AllByRecursion IsPage pages →
       piece_number ≡ length (placed_pieces t (stream_chunks t maxmem parts) pages)
-  pub bytes : byte_number ≡ entries_bytes (entries_of parts)
+  pub bytes : byte_number ≡ entries_bytes (stream_entries parts)
 
 -- the measure of a stream, or the offset of its first byte that cannot be reached
 abbrev pub IsMeasured : TagLimits → ℕ → List Part → Measured → Type 0

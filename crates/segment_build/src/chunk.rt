@@ -5,7 +5,7 @@ ghost use Rattle.std.specs.List.{AllByRecursion};
 ghost use Rattle.busdma_machine.specs.Machine.Entry.{IsEntry, entries_bytes, entry_parts};
 ghost use Rattle.busdma_machine.specs.Runs.{byte_count};
 ghost use Rattle.busdma_rules.specs.Segments.Chunks.{chunks_of, need_of};
-ghost use Rattle.segment_build.specs.Cutting.{after, closed};
+ghost use Rattle.segment_build.specs.Cutting.{cut_after as after, closed};
 ghost use Rattle.busdma_rules.specs.Segments.Trace.{IsPage, in_page, chunks_in_pages};
 
 use crate::cutter::Cutter;

@@ -2,7 +2,7 @@
 
 ghost use Rattle.std.specs.Prelude.{◌≡◌, ◌+◌, ◌^◌, ◌<◌, ◌≤◌, length, min, true, false, Ok, IsOk};
 ghost use Rattle.busdma_rules.specs.Segments.Segmentation.{joint, may_join};
-ghost use Rattle.segment_build.specs.Joining.{added, joined};
+ghost use Rattle.segment_build.specs.Joining.{extent_added as added, extents_joined as joined};
 
 use busdma_machine::{Segment, SegmentRoom, TagLimits};
 use std::alloc::AllocError;

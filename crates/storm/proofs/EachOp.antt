@@ -14,13 +14,13 @@ use Rattle.busdma_base.specs.Scenarios.Operations.{about_item, map_at}
 use Rattle.busdma_base.specs.Scenarios.Script.{IsItem, IsOp}
 use Rattle.busdma_base.specs.Scenarios.Valid.{LoadsFrom}
 use Rattle.program_rules.specs.declared.transfer.Transfer.{Transfer}
-use Rattle.program_rules.specs.Storms.Scenario.{round_at, storm_rounds as rounds, storm_setup as opening}
+use Rattle.program_rules.specs.Storms.Scenario.{round_at, storm_rounds, storm_setup}
 use Rattle.program_rules.specs.Storms.Transfer.{to_device, from_device}
 use Rattle.storm.proofs.SmallTransfers.{IsSmall, round_cases}
 
 -- an operation is valid at each place after the opening
 abbrev IsValidBehind : Op → Type 0
-IsValidBehind o = (rest : List Op) → IsOp (opening ++ rest) o
+IsValidBehind o = (rest : List Op) → IsOp (storm_setup ++ rest) o
 
 all_append : {X : Type 0} (P : X → Type 0) (xs ys : List X) → AllByRecursion P xs → AllByRecursion P ys →
     AllByRecursion P (xs ++ ys)
@@ -32,11 +32,11 @@ all_rounds : (P : Op → Type 0) (f : ℕ → List Op) → ((r : ℕ) → AllByR
 all_rounds P f each [] = tt
 all_rounds P f each (r ∷ rs) = all_append P (f r) (flat_map f rs) (each r) (all_rounds P f each rs)
 
-each_behind : (ops rest : List Op) → AllByRecursion IsValidBehind ops → EachAfter IsOp (opening ++ rest) ops
+each_behind : (ops rest : List Op) → AllByRecursion IsValidBehind ops → EachAfter IsOp (storm_setup ++ rest) ops
 each_behind [] rest all = tt
 each_behind (o ∷ ops) rest (valid, more) = (valid rest, each_behind ops (rest ++ o ∷ []) more)
 
-map_made : (m : ℕ) (rest : List Op) → (m ≡ 1) ⊎ (m ≡ 2) → IsMade (opening ++ rest) (map_at m)
+map_made : (m : ℕ) (rest : List Op) → (m ≡ 1) ⊎ (m ≡ 2) → IsMade (storm_setup ++ rest) (map_at m)
 map_made m rest (inl e) = rw e refl
 map_made m rest (inr e) = rw e refl
 
@@ -77,7 +77,7 @@ unload_valid m is rest =
     }
 
 item_valid : (i : Item) (m : ℕ) (rest : List Op) → (m ≡ 1) ⊎ (m ≡ 2) → (about_item i).uses ≡ map_at m →
-    (about_item i).reads ≤ 4096 → (about_item i).writes ≤ 4096 → IsItem (opening ++ rest) i
+    (about_item i).reads ≤ 4096 → (about_item i).writes ≤ 4096 → IsItem (storm_setup ++ rest) i
 item_valid i m rest is uses reads writes =
     record { made = rw uses (map_made m rest is); read = reads; written = writes }
 
@@ -167,7 +167,7 @@ from_device_valid t small = (
 )
 
 -- each operation of a script is valid
-opening_valid : (ops : List Op) → EachAfter IsOp opening ops → EachAfter IsOp [] (opening ++ ops)
+opening_valid : (ops : List Op) → EachAfter IsOp storm_setup ops → EachAfter IsOp [] (storm_setup ++ ops)
 opening_valid ops behind = (
   record {
     new = record { well_formed = refl; fresh = refl };
@@ -215,17 +215,18 @@ opening_valid ops behind = (
   ),
 )
 
-pub each_valid : (n x : ℕ) → EachAfter IsOp [] (opening ++ rounds n x)
+pub each_valid : (n x : ℕ) → EachAfter IsOp [] (storm_setup ++ storm_rounds n x)
 each_valid n x =
-    opening_valid (rounds n x)
-    (each_behind (rounds n x) []
+    opening_valid (storm_rounds n x)
+    (each_behind (storm_rounds n x) []
     (all_rounds IsValidBehind (round_at x)
     (λ r. round_cases (AllByRecursion IsValidBehind) to_device_valid from_device_valid _ _) (run_of 0 n)))
 
 -- no load of a storm is of a bio
-pub each_loads_from : (pages : List PageRun) (n x : ℕ) → AllByRecursion (LoadsFrom pages) (opening ++ rounds n x)
+pub each_loads_from : (pages : List PageRun) (n x : ℕ) → AllByRecursion (LoadsFrom pages)
+    (storm_setup ++ storm_rounds n x)
 each_loads_from pages n x =
-    let ops : List Op = rounds n x in
+    let ops : List Op = storm_rounds n x in
     let each : AllByRecursion (LoadsFrom pages) ops =
     all_rounds (LoadsFrom pages) (round_at x)
     (λ r. round_cases (AllByRecursion (LoadsFrom pages)) (λ t small. (tt, (tt, (tt, (tt, tt)))))

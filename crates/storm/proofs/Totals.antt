@@ -9,7 +9,7 @@ use Rattle.busdma_base.specs.declared.scenarios.script.Op.{Op}
 use Rattle.busdma_machine.specs.Runs.{run_of}
 use Rattle.busdma_base.specs.Scenarios.Operations.{items_of, loaded_by, read_by}
 use Rattle.busdma_base.specs.Scenarios.Script.{steps_of}
-use Rattle.program_rules.specs.Storms.Scenario.{round_at, storm_rounds as rounds, storm_setup as opening}
+use Rattle.program_rules.specs.Storms.Scenario.{round_at, storm_rounds, storm_setup}
 use Rattle.storm.proofs.SmallTransfers.{round_cases}
 
 -- the sums over rounds
@@ -42,9 +42,9 @@ length_is g b each (r ∷ rs) =
     rw length-append (omega (arith, mul-suc b (length rs)))
 
 -- how many bytes the rounds of a driver load
-pub loaded_by_rounds : (n x : ℕ) → sum_by loaded_by (opening ++ rounds n x) ≤ 8192 * n
+pub loaded_by_rounds : (n x : ℕ) → sum_by loaded_by (storm_setup ++ storm_rounds n x) ≤ 8192 * n
 loaded_by_rounds n x =
-    let each : sum_by loaded_by (rounds n x) ≤ 8192 * length (run_of 0 n) =
+    let each : sum_by loaded_by (storm_rounds n x) ≤ 8192 * length (run_of 0 n) =
     sum_at_most loaded_by (round_at x) 8192
     (λ r. round_cases (λ ops. sum_by loaded_by ops ≤ 8192) (λ t small. omega (arith, small.short))
     (λ t small. omega (arith, small.short)) _ _)
@@ -52,9 +52,9 @@ loaded_by_rounds n x =
     omega (arith, length_run 0 n)
 
 -- how many bytes the rounds of a driver read
-pub read_by_rounds : (n x : ℕ) → sum_by read_by (opening ++ rounds n x) ≤ 64 * n
+pub read_by_rounds : (n x : ℕ) → sum_by read_by (storm_setup ++ storm_rounds n x) ≤ 64 * n
 read_by_rounds n x =
-    let each : sum_by read_by (rounds n x) ≤ 64 * length (run_of 0 n) =
+    let each : sum_by read_by (storm_rounds n x) ≤ 64 * length (run_of 0 n) =
     sum_at_most read_by (round_at x) 64
     (λ r. round_cases (λ ops. sum_by read_by ops ≤ 64) (λ t small. omega (arith, small.few))
     (λ t small. omega (arith, small.few)) _ _)
@@ -62,12 +62,12 @@ read_by_rounds n x =
     omega (arith, length_run 0 n)
 
 -- a round has four operations and three items
-pub steps_of_rounds : (n x : ℕ) → steps_of (opening ++ rounds n x) ≡ 3 + 7 * n
+pub steps_of_rounds : (n x : ℕ) → steps_of (storm_setup ++ storm_rounds n x) ≡ 3 + 7 * n
 steps_of_rounds n x =
-    let ops : length (rounds n x) ≡ 4 * length (run_of 0 n) =
+    let ops : length (storm_rounds n x) ≡ 4 * length (run_of 0 n) =
     length_is (round_at x) 4
     (λ r. round_cases (λ ops. length ops ≡ 4) (λ t small. refl) (λ t small. refl) _ _) (run_of 0 n) in
-    let items : sum_by (λ o. length (items_of o)) (rounds n x) ≡ 3 * length (run_of 0 n) =
+    let items : sum_by (λ o. length (items_of o)) (storm_rounds n x) ≡ 3 * length (run_of 0 n) =
     sum_is (λ o. length (items_of o)) (round_at x) 3
     (λ r. round_cases (λ ops. sum_by (λ o. length (items_of o)) ops ≡ 3) (λ t small. refl) (λ t small. refl) _ _)
     (run_of 0 n) in

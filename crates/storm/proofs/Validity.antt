@@ -10,12 +10,12 @@ use Rattle.busdma_base.specs.Scenarios.Operations.{loaded_by, read_by}
 use Rattle.busdma_base.specs.Scenarios.Script.{IsScript, steps_of}
 use Rattle.busdma_base.specs.Scenarios.Valid.{IsDriver, IsValid, loaded_of, read_of}
 use Rattle.program_rules.specs.Storms.Generator.{drawn}
-use Rattle.program_rules.specs.Storms.Scenario.{storm_rounds as rounds, storm_setup as opening, pages}
-use Rattle.program_rules.specs.Storms.Scenario.{frames, driver, driver_after, storm_scenario as storm}
+use Rattle.program_rules.specs.Storms.Scenario.{storm_rounds, storm_setup, pages}
+use Rattle.program_rules.specs.Storms.Scenario.{frames, driver, driver_after, storm_scenario}
 use Rattle.storm.proofs.EachOp.{each_loads_from, each_valid}
 use Rattle.storm.proofs.Totals.{loaded_by_rounds, read_by_rounds, steps_of_rounds}
 
-script_valid : (n x : ℕ) → n ≤ 256 → IsScript (opening ++ rounds n x)
+script_valid : (n x : ℕ) → n ≤ 256 → IsScript (storm_setup ++ storm_rounds n x)
 script_valid n x few = record { each = each_valid n x; short = omega (arith, steps_of_rounds n x) }
 
 -- a driver is valid after others if its pages are its own
@@ -42,7 +42,7 @@ own_pages earlier number low there untaken = (
   tt,
 )
 
-drivers_valid : (n seed : ℕ) → n ≤ 256 → EachAfter (IsDriver frames) [] (storm n seed).drivers
+drivers_valid : (n seed : ℕ) → n ≤ 256 → EachAfter (IsDriver frames) [] (storm_scenario n seed).drivers
 drivers_valid n seed few = (
   driver_valid 0 n _ few [] (own_pages [] 0 (omega arith) refl refl),
   (
@@ -69,11 +69,11 @@ four_at_most f g b each =
     let fourth : f (g 3) ≤ b = each 3 in
     omega arith
 
-pub storm_valid : (n seed : ℕ) → n ≤ 256 → IsValid (storm n seed)
+pub storm_valid : (n seed : ℕ) → n ≤ 256 → IsValid (storm_scenario n seed)
 storm_valid n seed few =
-    let loads : loaded_of (storm n seed).drivers ≤ 4 * (8192 * n) =
+    let loads : loaded_of (storm_scenario n seed).drivers ≤ 4 * (8192 * n) =
     four_at_most (λ d. sum_by loaded_by d.script) (driver n seed) (8192 * n) (loaded_at n seed) in
-    let reads : read_of (storm n seed).drivers ≤ 4 * (64 * n) =
+    let reads : read_of (storm_scenario n seed).drivers ≤ 4 * (64 * n) =
     four_at_most (λ d. sum_by read_by d.script) (driver n seed) (64 * n) (read_at n seed) in
     record {
       frames = (
@@ -91,7 +91,7 @@ storm_valid n seed few =
     }
 
 pub each_has_steps : (n seed : ℕ) →
-    AllByRecursion (λ (d : Driver). steps_of d.script ≡ 3 + 7 * n) (storm n seed).drivers
+    AllByRecursion (λ (d : Driver). steps_of d.script ≡ 3 + 7 * n) (storm_scenario n seed).drivers
 each_has_steps n seed = (
   steps_of_rounds n (drawn (2 * n * 0) seed),
   (

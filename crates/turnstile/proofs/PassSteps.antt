@@ -14,7 +14,7 @@ use Rattle.std.proofs.lemmas.List.Elements.{All-nil, All-cons, All-append, All-m
 use Rattle.turnstile.specs.TurnHistory.{calls_of}
 use Rattle.turnstile.specs.Start.{history_after}
 use Rattle.turnstile.specs.View.{first_view, named_view, refused_view, cut_view, nameless_view, ended_with, joined_view}
-use Rattle.turnstile.specs.View.{returned_view, spent_view, first_of}
+use Rattle.turnstile.specs.View.{returned_view, spent_view, first_seen}
 use Rattle.turnstile.specs.Rule.{Fits, IsHome, IsAway, IsRuled}
 use Rattle.turnstile.specs.Steps.{Knows, TakesName, LearnsTruth}
 use Rattle.turnstile.proofs.Views.{false≢true, set_at, set_swap, longer_begins, All_with_name, OneName, Over, back_set}
@@ -25,7 +25,7 @@ use Rattle.turnstile.specs.declared.view.Start.{Start}
 use Rattle.turnstile.specs.declared.view.View.{View}
 use Rattle.turnstile.proofs.Logs.{nil_of-append, calls_of-append, within}
 
-All-first_of : (P : ℕ → Type 0) (ns : List ℕ) → All P ns → All P (first_of ns)
+All-first_of : (P : ℕ → Type 0) (ns : List ℕ) → All P ns → All P (first_seen ns)
 All-first_of P [] all = All-nil P
 All-first_of P (n ∷ ns) all = All-cons P n [] (All-head P n ns all) (All-nil P)
 
@@ -172,7 +172,8 @@ module _ {O E F : Type 0} (history : O → List E) (fixed : O → F) (legal : F 
       below = f.below;
     } (λ j d _ p. r.each j d p);
     one_ticket =
-        one_ticket_set s.views id w r.one_ticket (λ j d other p c e same. other (r.one_ticket j id d v p at e c (sym same)));
+        one_ticket_set s.views id w r.one_ticket
+        (λ j d other p c e same. other (r.one_ticket j id d v p at e c (sym same)));
     one_name = one_name_back s.views (set s.views id w) (back_set s.views id v w at (refl, refl, refl)) r.one_name;
     over = over_back s.views (set s.views id w) (back_set s.views id v w at (refl, refl, refl)) r.over;
     unmarked = r.unmarked;
@@ -468,7 +469,7 @@ module _ {O E F : Type 0} (history : O → List E) (fixed : O → F) (legal : F 
           unnamed = f.unnamed;
           ended = f.ended;
           taken =
-              All-append (λ n. get_or r.marks n 0 ≢ 0) (first_of w.taken) v.taken
+              All-append (λ n. get_or r.marks n 0 ≢ 0) (first_seen w.taken) v.taken
               (All-first_of (λ n. get_or r.marks n 0 ≢ 0) w.taken g.taken) f.taken;
           below = λ i z l. absurd (omega arith);
         } (λ j d _ p. rs.each j d p);

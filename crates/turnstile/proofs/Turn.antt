@@ -11,8 +11,8 @@ use Rattle.turnstile.specs.TurnObject.{Grows, IsGain, OutlastsOthers, IsActed}
 use Rattle.turnstile.specs.Start.{history_after, IsLawful}
 use Rattle.turnstile.specs.Pass.{HasTurn}
 use Rattle.turnstile.specs.View.{pass_view, ticket_view, served_view, view_after}
-use Rattle.turnstile.specs.Rule.{IsAt}
-use Rattle.turnstile.specs.Steps.{Held, Sees, Carries, HasActed, added_since}
+use Rattle.turnstile.specs.Rule.{IsAtStep}
+use Rattle.turnstile.specs.Steps.{HeldStep as Held, Sees, Carries, HasActed, added_since}
 use Rattle.turnstile.specs.declared.view.Start.{Start}
 use Rattle.turnstile.specs.declared.view.View.{View}
 use Rattle.turnstile.proofs.Logs.{prefix_self, calls_of-append, calls_of-own, calls_of-others}
@@ -84,7 +84,7 @@ module _ {O C Q E F : Type 0} (history : O → List E) (fixed : O → F) (legal 
       Carries m.1 (λ x. legal (fixed x) (history x) × may (fixed x) (history x) v.name call)
   begins_from b stays v c1 k m call is named none can (b', log, between, x, e, joins, others, at, knows) =
       let same : b' ≡ b = same_start b b' v m.0 is knows.started (ap (λ (z : Held O E F). z.0.start) e) in
-      let at' : IsAt history fixed b log x = subst (λ z. IsAt history fixed z log x) same at in
+      let at' : IsAtStep history fixed b log x = subst (λ z. IsAtStep history fixed z log x) same at in
       let sound : IsLawful legal fits b log =
       subst (λ z. IsLawful legal fits z log) same
       (subst (IsLawful legal fits b') (ap (λ (z : Held O E F). z.0.front) e) knows.sound) in
@@ -120,7 +120,7 @@ module _ {O C Q E F : Type 0} (history : O → List E) (fixed : O → F) (legal 
     knows,
   ) kept (x', ex, (y, ey, did)) =
       let same : b' ≡ b = same_start b b' v m2.0 is knows.started (ap (λ (z : Held O E F). z.0.start) e) in
-      let at' : IsAt history fixed b log x = subst (λ z. IsAt history fixed z log x) same at in
+      let at' : IsAtStep history fixed b log x = subst (λ z. IsAtStep history fixed z log x) same at in
       let first : List (ℕ × O) → O = (λ c. (get_or c 0 (0, x)).1) in
       let xx : x' ≡ x = ap first (sym ex ∙ ap (λ (z : Held O E F). z.1) e) in
       let w : View E F = served_view true log (ticket_view k v) in
@@ -150,7 +150,7 @@ module _ {O C Q E F : Type 0} (history : O → List E) (fixed : O → F) (legal 
   ends_from t b v c1 k m2 m3 m4 call reply is named none (b', log, between, x, e, joins, others, at, knows) kept
       (x', ex, (y, ey, did)) (y', ey', e4) =
       let same : b' ≡ b = same_start b b' v m2.0 is knows.started (ap (λ (z : Held O E F). z.0.start) e) in
-      let at' : IsAt history fixed b log x = subst (λ z. IsAt history fixed z log x) same at in
+      let at' : IsAtStep history fixed b log x = subst (λ z. IsAtStep history fixed z log x) same at in
       let first : List (ℕ × O) → O = (λ c. (get_or c 0 (0, x)).1) in
       let xx : x' ≡ x = ap first (sym ex ∙ ap (λ (z : Held O E F). z.1) e) in
       let yy : y' ≡ y = ap first (sym ey' ∙ ey) in

@@ -20,7 +20,7 @@ use Rattle.turnstile.specs.TurnHistory.{entries, calls_of, turns_of}
 use Rattle.turnstile.specs.TurnObject.{IsGain}
 use Rattle.turnstile.specs.Start.{history_after, IsLawful}
 use Rattle.turnstile.specs.View.{pass_view, ticket_view, served_view, view_after}
-use Rattle.turnstile.specs.Rule.{Fits, IsAt, IsHome, IsAway, IsRuled}
+use Rattle.turnstile.specs.Rule.{Fits, IsAtStep, IsHome, IsAway, IsRuled}
 use Rattle.turnstile.specs.Steps.{Knows, DrawsTicket, added_since, EndsTurn, Sees, SeesTurn, SeesLastTurn, Carries}
 use Rattle.turnstile.specs.Steps.{HasActed}
 use Rattle.turnstile.proofs.Views.{false≢true, set_at, back_set, one_name_back, over_back, each_set, one_ticket_set}
@@ -424,7 +424,7 @@ module _ {O E F : Type 0} (history : O → List E) (fixed : O → F) (legal : F 
       seen ∙ ap (λ (z : V). some z) last in let f = r.each id w at in let t = f.whole refl in
       let h = home_of s r id w at refl refl t.1 in let same : h.0 ≡ x =
       some-injective h.0 x (sym (there 0 h.0 (ap (λ (hs : List (maybe.Option O)). get_elem? hs 0) h.1)) ∙ is) in
-      let at_end = subst (IsAt history fixed b r.log) same h.2 in record {
+      let at_end = subst (IsAtStep history fixed b r.log) same h.2 in record {
         start = b;
         started = subst (λ z. v.start ≡ Some z) (start_is s r id w a at knows.started) knows.started;
         turns = r.log;

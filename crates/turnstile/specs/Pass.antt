@@ -63,8 +63,8 @@ module _ {E F : Type 0} where
     pub own : own_calls new ≡ own_calls old
 
 -- the call may be made under the pass's name, by all that the pass knows
-abbrev pub MayCall : {C E F : Type 0} → (F → List E → ℕ → C → Type 0) → PassView E F → C → Type 0
-MayCall may pass call = IfSome pass.start (λ start. may start.fixed (history_after start pass.front) pass.name call)
+abbrev pub MayPass : {C E F : Type 0} → (F → List E → ℕ → C → Type 0) → PassView E F → C → Type 0
+MayPass may pass call = IfSome pass.start (λ start. may start.fixed (history_after start pass.front) pass.name call)
 
 -- what a pass knows is true of an object: its front is sound, its name is one of the names, and a name that ended has
 -- in its front the calls that it ended with

@@ -7,30 +7,30 @@ use Rattle.turnstile.specs.TurnHistory.{calls_of, IsOfOthers}
 use Rattle.turnstile.specs.TurnObject.{IsGain}
 use Rattle.turnstile.specs.Start.{history_after, IsLawful}
 use Rattle.turnstile.specs.View.{ticket_view, served_view, view_after, named_view, refused_view}
-use Rattle.turnstile.specs.Rule.{IsAt}
+use Rattle.turnstile.specs.Rule.{IsAtStep}
 use Rattle.turnstile.specs.declared.view.Start.{Start}
 use Rattle.turnstile.specs.declared.view.View.{View}
 
 -- a seat's view, and the objects that are out with it
-abbrev pub Held : Type 0 → Type 0 → Type 0 → Type 0
-Held O E F = Me O (View E F)
+abbrev pub HeldStep : Type 0 → Type 0 → Type 0 → Type 0
+HeldStep O E F = Me O (View E F)
 
 -- the seat has the object out, and P holds of it
 abbrev pub Carries : {O : Type 0} → List (ℕ × O) → (O → Type 0) → Type 0
 Carries {O} out P = (x : O) × (out ≡ (0, x) ∷ []) × P x
 
 -- the seat is a pass's between its calls
-abbrev pub IsIdle : {O E F : Type 0} → ℕ → Held O E F → Type 0
-IsIdle name m =
+abbrev pub IsIdleStep : {O E F : Type 0} → ℕ → HeldStep O E F → Type 0
+IsIdleStep name m =
     (m.0.named ≡ true) × (m.0.name ≡ name) × (m.0.turn ≡ false) × (length m.1 ≡ 0) × (is_some m.0.start ≡ true)
 
 module _ {O E F : Type 0} where
   -- the ticket is the seat's where the word was as expected
-  abbrev pub DrawsTicket : Step O → Held O E F → ℕ → Held O E F → Type 0
+  abbrev pub DrawsTicket : Step O → HeldStep O E F → ℕ → HeldStep O E F → Type 0
   DrawsTicket st m r m' = (r ≡ st.first → m' ≡ (ticket_view st.first m.0, m.1)) × (r ≢ st.first → m' ≡ m)
 
   -- where the seat's ticket is served, it learns the whole turn history, and the object stays in the slot
-  abbrev pub SeesLastTurn : Step O → Held O E F → ℕ → Held O E F → Type 0
+  abbrev pub SeesLastTurn : Step O → HeldStep O E F → ℕ → HeldStep O E F → Type 0
   SeesLastTurn st m r m' =
       (r ≡ m.0.ticket → (log : List (ℕ × E)) × (m' ≡ (served_view false log m.0, m.1)) × IsPrefix m.0.front log)
       × (r ≢ m.0.ticket → m' ≡ m)
@@ -46,14 +46,14 @@ module _ {E F : Type 0} (legal : F → List E → Type 0) (fits : ℕ → E → 
   module _ {O : Type 0} where
     -- the name is the seat's where its word was 0: the seat had none, and the name is none of those that it knew to be
     -- taken
-    abbrev pub TakesName : Step O → Held O E F → ℕ → Held O E F → Type 0
+    abbrev pub TakesName : Step O → HeldStep O E F → ℕ → HeldStep O E F → Type 0
     TakesName st m r m' =
         (r ≡ 0 → (m' ≡ (named_view (st.word - 2) m.0, m.1)) × (m.0.named ≡ false) × All (λ n. n ≢ st.word - 2) m.0.taken
         × ((start : Start E F) → m.0.start ≡ Some start → Knows start m'.0))
         × (r ≢ 0 → m' ≡ (refused_view (st.word - 2) m.0, m.1))
 
     -- a look at the next ticket, which changes nothing, and tells that what the view says is true
-    abbrev pub LearnsTruth : Step O → Held O E F → ℕ → Held O E F → Type 0
+    abbrev pub LearnsTruth : Step O → HeldStep O E F → ℕ → HeldStep O E F → Type 0
     LearnsTruth st m r m' = (m' ≡ m) × ((start : Start E F) → m.0.start ≡ Some start → Knows start m.0)
         × All (λ xs. IsPrefix xs m.0.front) m.0.below × (st.word ≡ 0)
 
@@ -69,21 +69,21 @@ module _ {O E F : Type 0} (history : O → List E) where
   finished_view v (c ∷ cs) = view_after (added_since v.start v.front c.1) v
 
   -- the object goes home, and the next ticket is served
-  abbrev pub EndsTurn : (F → List E → Type 0) → (ℕ → E → Type 0) → Step O → Held O E F → ℕ → Held O E F → Type 0
+  abbrev pub EndsTurn : (F → List E → Type 0) → (ℕ → E → Type 0) → Step O → HeldStep O E F → ℕ → HeldStep O E F → Type 0
   EndsTurn legal fits st m r m' = (m' ≡ (finished_view m.0 m.1, rest m.1))
       × ((start : Start E F) → m.0.start ≡ Some start → Knows legal fits start m'.0) × (st.word ≡ 1)
 
   module _ (fixed : O → F) (legal : F → List E → Type 0) (fits : ℕ → E → Type 0) where
     -- the seat's ticket is served: it knows the whole turn history, in which only others came next, and has the object
     -- as that left it
-    abbrev pub Sees : (O → List (ℕ × O)) → Held O E F → Held O E F → Type 0
+    abbrev pub Sees : (O → List (ℕ × O)) → HeldStep O E F → HeldStep O E F → Type 0
     Sees out m m' = (start : Start E F) × (log : List (ℕ × E)) × (between : List (ℕ × E)) × (x : O)
         × (m' ≡ (served_view true log m.0, out x)) × (m.0.front ++ between ≡ log)
-        × (m.0.named ≡ true → IsOfOthers m.0.name between) × IsAt history fixed start log x
+        × (m.0.named ≡ true → IsOfOthers m.0.name between) × IsAtStep history fixed start log x
         × Knows legal fits start m'.0
 
     -- where the seat's ticket is served, the object comes out to it
-    abbrev pub SeesTurn : Step O → Held O E F → ℕ → Held O E F → Type 0
+    abbrev pub SeesTurn : Step O → HeldStep O E F → ℕ → HeldStep O E F → Type 0
     SeesTurn st m r m' = (r ≡ m.0.ticket → Sees (λ x. (0, x) ∷ m.1) m m') × (r ≢ m.0.ticket → m' ≡ m)
 
     -- the object has made the call of this view's turn

@@ -1,5 +1,6 @@
 -- The views of a turnstile's table, and what each step makes of them. No program has one.
-use Rattle.std.specs.Prelude.{if◌then◌else◌, ℕ, ◌+◌, ◌-◌, Bool, true, false, List, [], ◌∷◌, ◌++◌, map, Option, Some, None}
+use Rattle.std.specs.Prelude.{if◌then◌else◌, ℕ, ◌+◌, ◌-◌, Bool, true, false, List, [], ◌∷◌, ◌++◌, map, Option, Some}
+use Rattle.std.specs.Prelude.{None}
 use Rattle.atomic_table.specs.Seated.{TableId}
 use Rattle.turnstile.specs.TurnHistory.{turns_of, longer}
 use Rattle.turnstile.specs.Pass.{PassView}
@@ -7,9 +8,9 @@ use Rattle.turnstile.specs.declared.view.Start.{Start}
 use Rattle.turnstile.specs.declared.view.View.{View}
 
 -- the first of the names, where there is one
-abbrev pub first_of : List ℕ → List ℕ
-first_of [] = []
-first_of (n ∷ ns) = n ∷ []
+abbrev pub first_seen : List ℕ → List ℕ
+first_seen [] = []
+first_seen (n ∷ ns) = n ∷ []
 
 module _ {E F : Type 0} where
   -- what a pass with this view shows
@@ -126,7 +127,7 @@ module _ {E F : Type 0} where
 
   -- the view, where the second went back to it after it found a name taken
   abbrev pub returned_view : View E F → View E F → View E F
-  returned_view v w = resting_view v.start v.named v.name v.front v.own v.ended (first_of w.taken ++ v.taken)
+  returned_view v w = resting_view v.start v.named v.name v.front v.own v.ended (first_seen w.taken ++ v.taken)
       (splits_back v w)
 
   -- the first view, which took the second in

@@ -1,7 +1,8 @@
 //! The lock.
 ghost use Rattle.std.specs.Prelude.{◌≡◌, ◌≤◌, ◌<◌, IfOk, IfSome, IfNone, OnSome};
 ghost use Rattle.turnstile.specs.Start.{start_of};
-ghost use Rattle.turnstile.specs.Pass.{first_pass, MayCall, IsSoundPass, HasTurn, SplitsOff, splits_once, finds_taken, TakesIn};
+ghost use Rattle.turnstile.specs.Pass.{first_pass, MayPass, IsSoundPass, HasTurn};
+ghost use Rattle.turnstile.specs.Pass.{SplitsOff, splits_once, finds_taken, TakesIn};
 ghost use Rattle.turnstile.specs.Pass.{Closes};
 
 mod steps;
@@ -68,7 +69,7 @@ impl<H: TurnObject> Turnstile<H> {
     /// the object as they left it. Once all 2^64 - 1 tickets were drawn it waits for ever.
     pub fn hold<R: Wait>(&self, rt: &R, pass: &mut Pass<H>, call: H::Call) -> H::Reply
         requires turnstile { pass.old.turnstile ≡ self.now.id }
-        requires may { MayCall H.may pass.old call }
+        requires may { MayPass H.may pass.old call }
         ensures turn { HasTurn H.fits H.answers pass.old call result pass.new }
         ensures sound { IsSoundPass H.legal H.fits pass.new }
     {

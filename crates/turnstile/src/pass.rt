@@ -19,13 +19,13 @@ pub struct Pass<H: TurnObject> {
 impl<H: TurnObject> Model for Pass<H> {
     ghost use Rattle.turnstile.specs.Pass.{PassView};
     ghost use Rattle.turnstile.specs.View.{pass_view};
-    ghost use Rattle.turnstile.specs.Steps.{IsIdle, Knows};
+    ghost use Rattle.turnstile.specs.Steps.{IsIdleStep, Knows};
 
     ghost Value = { PassView H.Entry H.Fixed };
 
     ghost view = { λ p. pass_view p.seat.table_id p.seat.me.0 };
 
-    ghost invariant = { λ p. IsIdle p.name p.seat.me × ((start : _) × Knows H.legal H.fits start p.seat.me.0) };
+    ghost invariant = { λ p. IsIdleStep p.name p.seat.me × ((start : _) × Knows H.legal H.fits start p.seat.me.0) };
 }
 
 impl<H: TurnObject> Pass<H> {

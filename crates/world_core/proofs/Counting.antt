@@ -16,7 +16,7 @@ use Rattle.lane_core.specs.LaneIdeal.{ideal}
 use Rattle.ideal_lane.specs.State.{LaneState}
 use Rattle.ideal_world.specs.World.{WorldState, bounced, counts_from}
 use Rattle.ideal_world.proofs.Few.{bounced-few}
-use Rattle.world_core.specs.Kept.{IsKept, world_of}
+use Rattle.world_core.specs.Kept.{IsKept, kept_world}
 
 -- counts of zones, one by one
 pub counts-are : (w : WorldState) (z : ℕ) (zones : List Zone) (cs : List ZoneCounts) → length cs ≡ length zones →
@@ -75,7 +75,7 @@ share-part z (l ∷ lanes) (suc i) =
 pub shares-fit : (s : Scenario) (lanes : List Lane) (hub : HubSeen) (z i : ℕ) → ∥ IsKept s lanes hub ∥₁ →
     share-sum z (take i lanes) < 2 ^ 64
 shares-fit s lanes hub z i kept = ∥∥₁_elim kept fit-prop (λ k.
-    omega (arith, share-part z lanes i, shares-are z lanes, bounced-few s (world_of lanes hub) z k.well))
+    omega (arith, share-part z lanes i, shares-are z lanes, bounced-few s (kept_world lanes hub) z k.well))
   where
     fit-prop : IsProp (share-sum z (take i lanes) < 2 ^ 64)
     fit-prop = hlevel (props)

@@ -6,4 +6,4 @@ pub mod Resting
 pub mod Taking
 pub mod Turning
 pub mod TurnsInOrder
-pub mod Wiring
+pub mod WireLaws

@@ -23,11 +23,11 @@ use Rattle.lane_core.specs.LaneIdeal.{ideal}
 use Rattle.lane_state.specs.OpeningMemory.{ArePages, IsOwnRun}
 use Rattle.ideal_lane.specs.Opening.{opening_lane}
 use Rattle.ideal_wire.specs.Machine.{IsInMachine, IsOfMachine}
-use Rattle.ideal_wire.proofs.Machinery.{opens-in-machine}
+use Rattle.ideal_wire.proofs.Tags.MachineOpens.{opens-in-machine}
 use Rattle.ideal_world.specs.WellFormed.{IsWellFormed}
 use Rattle.ideal_world.specs.World.{opening_lanes, opening_world}
 use Rattle.ideal_world.proofs.Opens.{opens-well}
-use Rattle.world_core.specs.Kept.{IsKept, world_of}
+use Rattle.world_core.specs.Kept.{IsKept, kept_world}
 
 -- ---- what is needed of a driver
 
@@ -144,7 +144,7 @@ next_lane maxmem ds ls more l i d lt before opened pushed =
 
 -- a hub of the free frames, with the lanes of the drivers, is the opening world
 pub record OpensWith (s : Scenario) (lanes : List Lane) (hub : HubSeen) : Type 0 where
-  pub world : world_of lanes hub ≡ opening_world s
+  pub world : kept_world lanes hub ≡ opening_world s
   pub opening : hub.opening ≡ opening s
 
 pub opens-with : (s : Scenario) (lanes : List Lane) (hub : HubSeen) → map ideal lanes ≡ (opening_world s).lanes →

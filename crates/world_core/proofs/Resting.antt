@@ -15,9 +15,10 @@ use Rattle.ideal_lane.specs.Outcomes.{Outcome}
 use Rattle.ideal_lane.specs.Sends.{Send, due_send, is_kept, resend, send_of}
 use Rattle.ideal_lane.specs.State.{LaneState}
 use Rattle.ideal_lane.specs.Turns.{Blocked, Turned, advanced, called_back, due_turn, kept, lane_step, left_queue}
-use Rattle.ideal_lane.specs.Turns.{next_operation, operation, resent, script_turn, stays, transfer, transfer_turn, waits}
+use Rattle.ideal_lane.specs.Turns.{next_operation, operation, resent, script_turn, stays, transfer, transfer_turn}
+use Rattle.ideal_lane.specs.Turns.{waits}
 use Rattle.ideal_lane.specs.Turns.{went_on}
-use Rattle.lane_turns.specs.Turning.{has_step, has_step_of}
+use Rattle.lane_turns.specs.TakenTurns.{has_step, has_step_of}
 use Rattle.ideal_world.specs.Legal.{Run, noted, turn}
 use Rattle.ideal_world.specs.World.{WorldState, replied, step, step_entry, step_of, entry_of}
 use Rattle.world_core.specs.Ideal.{has_no_callback, is_others_head}
@@ -72,13 +73,15 @@ script-idle w actor l found script = sym (
     due None = at (slice_get l.script l.place)
     due (Some s) = ap not (made w actor.lane.0 l (resent l.place) (λ o. refl) (resend s l))
 
-    of : (rs : List Return) → rests (script_turn rs l) ≡ not (has_step_of rs (due_send l) (slice_get l.script l.place) l)
+    of : (rs : List Return) → rests (script_turn rs l)
+        ≡ not (has_step_of rs (due_send l) (slice_get l.script l.place) l)
     of [] = due (due_send l)
     of (r ∷ rs) = refl
 
 -- a callback is taken if the head of the callback list is the driver's, and only then
 pub callback-idle : (w : WorldState) (actor : Actor) (l : LaneState) → slice_get w.lanes actor.lane.0 ≡ Some l →
-    l.id ≡ actor.lane.0 → actor.side ≡ side.Callback → has_no_callback w actor.lane.0 ≡ not (is_some (step_entry w actor))
+    l.id ≡ actor.lane.0 → actor.side ≡ side.Callback → has_no_callback w actor.lane.0
+    ≡ not (is_some (step_entry w actor))
 callback-idle w actor l found numbered callback = sym (
     ap (λ o. not (is_some (entry_of (step_of w actor o).turn))) found
     ∙ ap (λ s. not (is_some (entry_of (replied w actor.lane.0 l (lane_step l s)).turn))) callback

@@ -11,12 +11,12 @@ use Rattle.busdma_base.specs.declared.scenarios.scenario.Scenario.{Scenario}
 use Rattle.busdma_machine.specs.Bounce.Door.{account}
 use Rattle.busdma_machine.specs.Bounce.EachFrame.{LiesBelowMaxmem}
 use Rattle.busdma_machine.specs.Bounce.History.{IsOpening, IsSound}
-use Rattle.busdma_base.proofs.Openings.{below-opening}
+use Rattle.busdma_base.proofs.OpeningLaws.{below-opening}
 use Rattle.bounce_hub.specs.Seen.{HubSeen, door}
 use Rattle.lane_core.specs.declared.lane.Lane.{Lane}
 use Rattle.lane_core.specs.LaneIdeal.{ideal}
 use Rattle.lane_state.specs.Served.{IsServed}
-use Rattle.lane_turns.specs.Turning.{IsTurned, answered, is_held}
+use Rattle.lane_turns.specs.TakenTurns.{IsTurned, answered, is_held}
 use Rattle.lane_state.specs.Doing.{IsUndone}
 use Rattle.lane_turns.specs.declared.turn.Turn as told
 use Rattle.lane_turns.specs.declared.turn.Turn.TheVariants as held
@@ -28,7 +28,7 @@ use Rattle.ideal_world.specs.World.{WorldState, WorldTurned, replied, step_of, s
 use Rattle.ideal_world.proofs.Falling.{step-rests}
 use Rattle.ideal_world.proofs.Keeping.{step-keeps}
 use Rattle.ideal_world.proofs.Lanes.{set_same}
-use Rattle.world_core.specs.Kept.{IsKept, world_of}
+use Rattle.world_core.specs.Kept.{IsKept, kept_world}
 use Rattle.world_core.proofs.Agreeing.{agrees-of, below-of}
 use Rattle.world_core.proofs.Turning.{Makes, made-holds, makes, undone-account}
 
@@ -40,7 +40,7 @@ lane_found lanes i l lt h =
 
 module _ (s : Scenario) (lanes : List Lane) (hub : HubSeen) where
   abbrev world : WorldState
-  world = world_of lanes hub
+  world = kept_world lanes hub
 
   -- the hub serves a driver of a world
   pub serves : (i : ℕ) (l : Lane) → slice_get (map ideal lanes) i ≡ Some (ideal l) → ∥ IsKept s lanes hub ∥₁ →
@@ -55,7 +55,7 @@ module _ (s : Scenario) (lanes : List Lane) (hub : HubSeen) where
 
   -- what a turn leaves is kept
   pub turn-kept : (more : List Lane) (hub-new : HubSeen) (actor : Actor) (t : Turn) →
-      record { world = world_of more hub-new; turn = t } ≡ step world actor → hub-new.opening ≡ hub.opening →
+      record { world = kept_world more hub-new; turn = t } ≡ step world actor → hub-new.opening ≡ hub.opening →
       ∥ IsKept s lanes hub ∥₁ → ∥ IsKept s more hub-new ∥₁
   turn-kept more hub-new actor t done same kept = ∥∥₁_map kept (λ k. record {
     well = subst (IsWellFormed s) (sym (ap (λ (x : WorldTurned). x.world) done)) (step-keeps s world k.well actor);
@@ -63,7 +63,7 @@ module _ (s : Scenario) (lanes : List Lane) (hub : HubSeen) where
   })
 
   -- lanes and a hub of the same world and opening are kept too
-  pub stay-kept : (more : List Lane) (hub-new : HubSeen) → world_of more hub-new ≡ world →
+  pub stay-kept : (more : List Lane) (hub-new : HubSeen) → kept_world more hub-new ≡ world →
       hub-new.opening ≡ hub.opening → ∥ IsKept s lanes hub ∥₁ → ∥ IsKept s more hub-new ∥₁
   stay-kept more hub-new is same kept = ∥∥₁_map kept (λ k. record {
     well = subst (IsWellFormed s) (sym is) k.well;
@@ -75,10 +75,10 @@ pub no-driver : (lanes : List Lane) (i : ℕ) → length lanes ≤ i → slice_g
 no-driver lanes i past = slice_get_past (map ideal lanes) i (omega (arith, length-map lanes ideal, past))
 
 pub no-holds : (lanes : List Lane) (hub : HubSeen) (actor : Actor) → length lanes ≤ actor.lane.0 →
-    hub.history ≡ hub.history ++ step_holds (world_of lanes hub) actor
+    hub.history ≡ hub.history ++ step_holds (kept_world lanes hub) actor
 no-holds lanes hub actor past =
     sym (append-nil hub.history)
-    ∙ ap (λ o. hub.history ++ holds_at (world_of lanes hub) actor o) (sym (no-driver lanes actor.lane.0 past))
+    ∙ ap (λ o. hub.history ++ holds_at (kept_world lanes hub) actor o) (sym (no-driver lanes actor.lane.0 past))
 
 -- a driver's turn at the hub
 module _ (lanes : List Lane) (hub hub-new : HubSeen) (actor : Actor) (l m : Lane) (lt : actor.lane.0 < length lanes)
@@ -89,7 +89,7 @@ module _ (lanes : List Lane) (hub hub-new : HubSeen) (actor : Actor) (l m : Lane
   made : (t : told.Turn) → IsTurned (door hub) (ideal l).id (lane_step (ideal l) actor.side)
       (record { lane = ideal m; turn = answered t }) (is_held t) (door hub-new) →
       Makes (map ideal lanes) actor.lane.0 hub hub-new (is_held t) (record { lane = ideal m; turn = answered t })
-      (replied (world_of lanes hub) actor.lane.0 (ideal l) (lane_step (ideal l) actor.side))
+      (replied (kept_world lanes hub) actor.lane.0 (ideal l) (lane_step (ideal l) actor.side))
   made t turn =
       makes (map ideal lanes) actor.lane.0 (ideal l) hub hub-new (lane_step (ideal l) actor.side)
       (record { lane = ideal m; turn = answered t }) (is_held t) turn
@@ -97,12 +97,12 @@ module _ (lanes : List Lane) (hub hub-new : HubSeen) (actor : Actor) (l m : Lane
   -- the turn is its actor's
   pub took : (t : told.Turn) → IsTurned (door hub) (ideal l).id (lane_step (ideal l) actor.side)
       (record { lane = ideal m; turn = answered t }) (is_held t) (door hub-new) →
-      record { world = world_of (slice_set lanes actor.lane.0 m) hub-new; turn = answered t }
-      ≡ step (world_of lanes hub) actor
+      record { world = kept_world (slice_set lanes actor.lane.0 m) hub-new; turn = answered t }
+      ≡ step (kept_world lanes hub) actor
   took t turn =
-      ap (λ ls. record { world = record (world_of lanes hub-new) { lanes = ls }; turn = answered t })
+      ap (λ ls. record { world = record (kept_world lanes hub-new) { lanes = ls }; turn = answered t })
       (map-set ideal lanes actor.lane.0 m)
-      ∙ (made t turn).world ∙ sym (ap (step_of (world_of lanes hub) actor) there)
+      ∙ (made t turn).world ∙ sym (ap (step_of (kept_world lanes hub) actor) there)
 
   pub took-holds : (t : told.Turn) → IsTurned (door hub) (ideal l).id (lane_step (ideal l) actor.side)
       (record { lane = ideal m; turn = answered t }) (is_held t) (door hub-new) →
@@ -112,11 +112,11 @@ module _ (lanes : List Lane) (hub hub-new : HubSeen) (actor : Actor) (l m : Lane
   -- the turn adds its actor's holds to the history
   pub took-history : (t : told.Turn) → IsTurned (door hub) (ideal l).id (lane_step (ideal l) actor.side)
       (record { lane = ideal m; turn = answered t }) (is_held t) (door hub-new) →
-      hub-new.history ≡ hub.history ++ step_holds (world_of lanes hub) actor
+      hub-new.history ≡ hub.history ++ step_holds (kept_world lanes hub) actor
   took-history t turn =
       made-holds (ideal l).id hub hub-new (lane_step (ideal l) actor.side)
       (record { lane = ideal m; turn = answered t }) (is_held t) turn
-      ∙ sym (ap (λ o. hub.history ++ holds_at (world_of lanes hub) actor o) there)
+      ∙ sym (ap (λ o. hub.history ++ holds_at (kept_world lanes hub) actor o) there)
 
   pub took-opening : (t : told.Turn) → IsTurned (door hub) (ideal l).id (lane_step (ideal l) actor.side)
       (record { lane = ideal m; turn = answered t }) (is_held t) (door hub-new) → hub-new.opening ≡ hub.opening
@@ -124,7 +124,7 @@ module _ (lanes : List Lane) (hub hub-new : HubSeen) (actor : Actor) (l m : Lane
 
   -- if memory runs out, the turn leaves the world unchanged
   pub took-none : ideal m ≡ ideal l → IsUndone (door hub) (door hub-new) →
-      world_of (slice_set lanes actor.lane.0 m) hub-new ≡ world_of lanes hub
+      kept_world (slice_set lanes actor.lane.0 m) hub-new ≡ kept_world lanes hub
   took-none same undone = λ j. record {
     lanes = (map-set ideal lanes actor.lane.0 m
         ∙ set_same (map ideal lanes) actor.lane.0 (ideal l) (ideal m) there same) j;

@@ -12,15 +12,15 @@ use Rattle.busdma_machine.specs.declared.bounce.hold.HubReply.{HubReply}
 use Rattle.busdma_machine.specs.declared.bounce.hold.HubReply.TheVariants.{Nothing}
 use Rattle.busdma_machine.specs.Bounce.Account.{Account}
 use Rattle.busdma_machine.specs.Bounce.AccountStep.{AccountReply as Outcome, account_step}
-use Rattle.busdma_machine.specs.Bounce.Door.{Seen, Holds, Passes, account}
-use Rattle.busdma_machine.specs.Bounce.History.{IsSound, account_of, is_kept}
+use Rattle.busdma_machine.specs.Bounce.Door.{Seen, HoldsAtDoor, Passes, account}
+use Rattle.busdma_machine.specs.Bounce.History.{IsSound, account_of, is_entry}
 use Rattle.busdma_machine.proofs.Accounts.LaneEntries.{account_of-append, sound-rest}
 use Rattle.bounce_hub.specs.Seen.{HubSeen, door}
 use Rattle.ideal_lane.specs.Asking.{Asking, Gives, Asks}
 use Rattle.ideal_lane.specs.State.{LaneState}
 use Rattle.ideal_lane.specs.Turns.{Turned}
 use Rattle.lane_state.specs.Doing.{IsUndone}
-use Rattle.lane_turns.specs.Turning.{IsTurned}
+use Rattle.lane_turns.specs.TakenTurns.{IsTurned}
 use Rattle.ideal_world.specs.Holds.{hold_of, holds_by}
 use Rattle.ideal_world.specs.World.{WorldState, WorldTurned, replied, turned}
 use Rattle.ideal_world.proofs.Reached.{unkept}
@@ -110,7 +110,7 @@ module _ (lanes : List LaneState) (i : ℕ) (l : LaneState) (h k : HubSeen) wher
       ap (λ y. account_step l.id y (hub_account k)) missed.callback in
       let none : (account_step l.id TakeCallback (hub_account k)).reply ≡ Nothing = misses.reply in
       let still : (account_step l.id TakeCallback (hub_account k)).account ≡ hub_account k =
-      unkept l.id TakeCallback (hub_account k) (ap (is_kept TakeCallback) none) in
+      unkept l.id TakeCallback (hub_account k) (ap (is_entry TakeCallback) none) in
       let reply : (account_step l.id c (hub_account k)).reply ≡ Nothing =
       ap (λ (q : Outcome). q.reply) call ∙ none in
       let stays : (account_step l.id c (hub_account k)).account ≡ hub_account k =
@@ -128,7 +128,7 @@ module _ (lanes : List LaneState) (i : ℕ) (l : LaneState) (h k : HubSeen) wher
       }
 
 -- a hold is kept in the history
-holds-kept : (lane : ℕ) (d e : Seen) (c : HubCall) (r : HubReply) → Holds d lane c r e → is_kept c r ≡ true
+holds-kept : (lane : ℕ) (d e : Seen) (c : HubCall) (r : HubReply) → HoldsAtDoor d lane c r e → is_entry c r ≡ true
 holds-kept lane d e c r h =
     let b = h.between in
     let own : List HoldEntry = record { lane = record { 0 = lane }; call = c; reply = r } ∷ [] in
@@ -136,11 +136,11 @@ holds-kept lane d e c r h =
     subst (λ (x : Account × List HoldEntry). IsSound x.0 x.1) (λ i. (h.opening i, h.history i)) h.sound in
     (sound-rest b.opening b.history own sound).0.kept
 
-kept-hold : (lane : ℕ) (c : HubCall) (r : HubReply) → is_kept c r ≡ true →
+kept-hold : (lane : ℕ) (c : HubCall) (r : HubReply) → is_entry c r ≡ true →
     record { lane = record { 0 = lane }; call = c; reply = r } ∷ [] ≡ hold_of lane c r
 kept-hold lane c r kept = rw kept refl
 
-unkept-hold : (lane : ℕ) (c : HubCall) (r : HubReply) → is_kept c r ≡ false → [] ≡ hold_of lane c r
+unkept-hold : (lane : ℕ) (c : HubCall) (r : HubReply) → is_entry c r ≡ false → [] ≡ hold_of lane c r
 unkept-hold lane c r unkept = rw unkept refl
 
 -- the history that a turn leaves has one more entry if the account's reply to the turn's call is kept
@@ -152,7 +152,7 @@ made-holds lane h k (Asks c f) x held (inl (is, called)) =
     let b = holds.between in
     let reply : called.reply ≡ (account_step lane c (hub_account h)).reply =
     holds.reply ∙ ap (λ a. (account_step lane c a).reply) (passes-account h holds.others b holds.passes) in
-    let kept : is_kept c called.reply ≡ true = holds-kept lane (door h) (door k) c called.reply holds in
+    let kept : is_entry c called.reply ≡ true = holds-kept lane (door h) (door k) c called.reply holds in
     holds.history
     ∙ (λ j. passes-history h holds.others b holds.passes j ++ kept-hold lane c called.reply kept j)
     ∙ ap (λ r. h.history ++ hold_of lane c r) reply
@@ -162,8 +162,8 @@ made-holds lane h k (Asks c f) x held (inr (is, missed)) =
     let reply : (account_step lane c (hub_account h)).reply ≡ Nothing =
     ap (λ a. (account_step lane c a).reply) (sym same)
     ∙ ap (λ y. (account_step lane y (hub_account k)).reply) missed.callback ∙ misses.reply in
-    let unkept : is_kept c (account_step lane c (hub_account h)).reply ≡ false =
-    (λ j. is_kept (missed.callback j) (reply j)) in
+    let unkept : is_entry c (account_step lane c (hub_account h)).reply ≡ false =
+    (λ j. is_entry (missed.callback j) (reply j)) in
     passes-history h misses.others (door k) misses.passes ∙ sym (append-nil h.history)
     ∙ ap (λ es. h.history ++ es) (unkept-hold lane c (account_step lane c (hub_account h)).reply unkept)
 

@@ -12,7 +12,7 @@ use Rattle.ideal_world.specs.Left.{left_of}
 use Rattle.ideal_world.specs.Legal.{Run, noted, turn, turns, rounds, round_from}
 use Rattle.ideal_world.specs.World.{step, step_entry}
 use Rattle.ideal_world.proofs.RunTurns.{rests-or-falls}
-use Rattle.ideal_world.proofs.Rest.{turns_grow}
+use Rattle.ideal_world.proofs.RestRounds.{turns_grow}
 use Rattle.ideal_world.proofs.Rounds.{rounds-add}
 use Rattle.world_core.specs.Ideal.{ideal_run}
 

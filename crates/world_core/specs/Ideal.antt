@@ -6,15 +6,15 @@ use Rattle.ideal_world.specs.Legal.{Run}
 use Rattle.ideal_world.specs.World.{WorldState}
 use Rattle.world_core.specs.declared.run.Progress.{Progress}
 use Rattle.world_core.specs.declared.world.World.{World}
-use Rattle.world_core.specs.Kept.{world_of}
+use Rattle.world_core.specs.Kept.{kept_world}
 
 -- the lanes' ideal states, and the account that the hub's history leads to
 abbrev pub ideal_world : World → WorldState
-ideal_world w = world_of w.lanes.items w.hub
+ideal_world w = kept_world w.lanes.items w.hub
 
 -- the history of a world's hub: the holds of the bounce lock so far
-abbrev pub holds : World → List HoldEntry
-holds w = w.hub.history
+abbrev pub world_holds : World → List HoldEntry
+world_holds w = w.hub.history
 
 -- the run that a replay has come to
 abbrev pub ideal_run : Progress → Run

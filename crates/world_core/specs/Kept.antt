@@ -10,11 +10,11 @@ use Rattle.ideal_world.specs.WellFormed.{IsWellFormed}
 use Rattle.ideal_world.specs.World.{WorldState}
 
 -- the world of lanes and a hub: the lanes' ideal states, and the account that the hub's history leads to
-abbrev pub world_of : List Lane → HubSeen → WorldState
-world_of lanes hub = record { lanes = map ideal lanes; account = account_of hub.opening hub.history }
+abbrev pub kept_world : List Lane → HubSeen → WorldState
+kept_world lanes hub = record { lanes = map ideal lanes; account = account_of hub.opening hub.history }
 
 -- the world of these lanes and this hub is well formed for the scenario, and the hub began with the scenario's opening
 -- account
 pub record IsKept (s : Scenario) (lanes : List Lane) (hub : HubSeen) : Type 0 where
-  pub well : IsWellFormed s (world_of lanes hub)
+  pub well : IsWellFormed s (kept_world lanes hub)
   pub opening : hub.opening ≡ opening s

@@ -2,11 +2,11 @@
 
 ghost use Rattle.std.specs.Prelude.{◌≡◌, ◌+◌, ◌++◌, IfOk, OnErr, OnOk, is_some, not, if◌then◌else◌, length};
 ghost use Rattle.busdma_machine.specs.Bounce.History.{IsOpening, IsSound};
-ghost use Rattle.lane_turns.specs.Turning.{answered, is_held};
+ghost use Rattle.lane_turns.specs.TakenTurns.{answered, is_held};
 ghost use Rattle.ideal_world.specs.Holds.{step_holds};
 ghost use Rattle.ideal_world.specs.Wires.{WiresFollow};
 ghost use Rattle.ideal_world.specs.World.{step, step_entry};
-ghost use Rattle.world_core.specs.Ideal.{has_no_callback, holds, ideal_world};
+ghost use Rattle.world_core.specs.Ideal.{has_no_callback, world_holds, ideal_world};
 ghost use Rattle.world_core.specs.Wanting.{MayWant};
 ghost use Rattle.world_core.specs.Wires.{WiresStay, wires_of};
 
@@ -31,12 +31,12 @@ impl World<'_> {
         ensures done { IfOk result (λ turn.
             record { world = ideal_world self.new; turn = answered turn } ≡ step (ideal_world self.old) actor) }
         ensures held { IfOk result (λ turn.
-            length (holds self.new) ≡ length (holds self.old) + (if is_held turn then 1 else 0)) }
-        ensures history { OnOk result (holds self.new ≡ holds self.old ++ step_holds (ideal_world self.old) actor) }
+            length (world_holds self.new) ≡ length (world_holds self.old) + (if is_held turn then 1 else 0)) }
+        ensures history { OnOk result (world_holds self.new ≡ world_holds self.old ++ step_holds (ideal_world self.old) actor) }
         ensures wires { OnOk result
             (WiresFollow (ideal_world self.old) actor (wires_of self.old) (wires_of self.new)) }
         ensures err { OnErr result (ideal_world self.new ≡ ideal_world self.old) }
-        ensures err_history { OnErr result (holds self.new ≡ holds self.old) }
+        ensures err_history { OnErr result (world_holds self.new ≡ world_holds self.old) }
         ensures err_wires { OnErr result (WiresStay (ideal_world self.old) (wires_of self.old) (wires_of self.new)) }
         ensures wanting { OnErr result (MayWant (ideal_world self.old) actor) }
     {

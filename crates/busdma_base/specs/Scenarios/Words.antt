@@ -35,7 +35,8 @@ op_word_text op.Kick = codes "kick"
 abbrev pub op_words : List OpWord
 op_words =
     op.Tag ∷ op.IommuTag ∷ op.TagDestroy ∷ op.Map ∷ op.MapDestroy ∷ op.Dmamem ∷ op.DmamemFree ∷ op.Load ∷ op.LoadVector
-    ∷ op.LoadMbuf ∷ op.LoadBio ∷ op.Send ∷ op.Unload ∷ op.Sync ∷ op.SyncRange ∷ op.CpuRead ∷ op.CpuWrite ∷ op.Await ∷ op.Ring
+    ∷ op.LoadMbuf ∷ op.LoadBio ∷ op.Send ∷ op.Unload ∷ op.Sync ∷ op.SyncRange ∷ op.CpuRead ∷ op.CpuWrite ∷ op.Await
+    ∷ op.Ring
     ∷ op.RingPost ∷ op.Kick ∷ []
 
 -- the word of an operation that has this text, if there is one

@@ -11,12 +11,12 @@ use Rattle.std.proofs.lemmas.List.Elements.{All-nil, All-cons, All-head, All-tai
 use Rattle.busdma_machine.specs.declared.name.MapId.{MapId}
 use Rattle.busdma_machine.specs.declared.bounce.zone.Waiter.{Waiter}
 use Rattle.busdma_machine.specs.Bounce.Account.{Account, Zone, Held, same_map, zone_at, no_zone, free, reserved, active}
-use Rattle.busdma_machine.specs.Bounce.Serving.{is_holding, handed, waiting_at_tail as queued}
+use Rattle.busdma_machine.specs.Bounce.Serving.{is_holding, handed, waiting_at_tail}
 use Rattle.busdma_machine.specs.Bounce.Serving.{returned, completed, left_waiting, promised}
 use Rattle.busdma_machine.specs.Bounce.Serving.{served}
 use Rattle.busdma_machine.specs.Bounce.Conditions.{IsIdle, times_held}
-use Rattle.busdma_machine.specs.Bounce.WellFormed.{Lacks, IsWellFormed}
-use Rattle.busdma_machine.proofs.Accounts.Counting.{count_by-append, count_by-filter_keeps, count_by-map_none}
+use Rattle.busdma_machine.specs.Bounce.WellFormed.{Lacks, IsAccountWellFormed}
+use Rattle.busdma_machine.proofs.Accounts.EditedSums.{count_by-append, count_by-filter_keeps, count_by-map_none}
 use Rattle.busdma_machine.proofs.Accounts.Names.{and_left, and_right}
 
 abbrev weight : Bool → ℕ
@@ -100,7 +100,7 @@ module _ (a : Account) (m : MapId) (z need : ℕ) (inside : z < length a.zones) 
   apart_of : (y : ℕ) → y ≡ z → length a.zones ≤ y → ⊥
   apart_of y e out = omega (arith, inside, e, out)
 
-  pub handed-well : IsWellFormed a → IsWellFormed (handed a m z need)
+  pub handed-well : IsAccountWellFormed a → IsAccountWellFormed (handed a m z need)
   handed-well well = record {
     wanted = well.wanted;
     inside = λ y past. (let out : length a.zones ≤ y = omega (arith, past, length-set a.zones z handed_zone) in
@@ -127,17 +127,17 @@ module _ (a : Account) (m : MapId) (z need : ℕ) (inside : z < length a.zones) 
 
 -- a map waits
 module _ (a : Account) (m : MapId) (z need : ℕ) (inside : z < length a.zones)
-    (well : IsWellFormed a) (short : free a z < need) where
+    (well : IsAccountWellFormed a) (short : free a z < need) where
   abbrev joined : Waiter
   joined = record { map = m; zone = record { 0 = z }; need = need; have = free a z }
 
   abbrev queued_zone : Zone
   queued_zone = record (zone_at a z) { wait = (zone_at a z).wait ++ joined ∷ [] }
 
-  pub queued-zone : zone_at (queued a m z need) z ≡ queued_zone
+  pub queued-zone : zone_at (waiting_at_tail a m z need) z ≡ queued_zone
   queued-zone = get_or-set_same a.zones z queued_zone no_zone inside
 
-  pub queued-reserved : reserved (queued a m z need) z ≡ reserved a z + free a z
+  pub queued-reserved : reserved (waiting_at_tail a m z need) z ≡ reserved a z + free a z
   queued-reserved =
       ap (λ (s : Zone). sum_by (λ w. w.have) s.wait
       + sum_by (λ w. w.need) (filter (λ w. w.zone.0 == z) a.ready)) queued-zone
@@ -147,7 +147,7 @@ module _ (a : Account) (m : MapId) (z need : ℕ) (inside : z < length a.zones)
         sum_by-cons (λ (w : Waiter). w.have) joined [],
       )
 
-  pub queued-other : (y : ℕ) → y ≢ z → SameZone a (queued a m z need) y
+  pub queued-other : (y : ℕ) → y ≢ z → SameZone a (waiting_at_tail a m z need) y
   queued-other y apart = record {
     zone = get_or-set_other a.zones z y queued_zone no_zone apart;
     reserved =
@@ -156,14 +156,16 @@ module _ (a : Account) (m : MapId) (z need : ℕ) (inside : z < length a.zones)
     active = refl;
   }
 
-  pub queued-well : IsWellFormed (queued a m z need)
+  pub queued-well : IsAccountWellFormed (waiting_at_tail a m z need)
   queued-well = record {
     wanted = well.wanted;
     inside = λ y past. well.inside y (omega (arith, past, length-set a.zones z queued_zone));
     enough =
         λ y.
-        (elim (eqb_tells y z) as (λ _. reserved (queued a m z need) y ≤ length (zone_at (queued a m z need) y).avail) [
-          | inl h ↦ subst (λ k. reserved (queued a m z need) k ≤ length (zone_at (queued a m z need) k).avail)
+        (elim (eqb_tells y z) as (λ _. reserved (waiting_at_tail a m z need) y
+        ≤ length (zone_at (waiting_at_tail a m z need) y).avail) [
+          | inl h ↦ subst (λ k. reserved (waiting_at_tail a m z need) k
+              ≤ length (zone_at (waiting_at_tail a m z need) k).avail)
               (sym h.1)
               (omega (arith, queued-reserved, well.enough z, ap (λ (s : Zone). length s.avail) queued-zone))
           | inr h ↦ omega (
@@ -173,8 +175,8 @@ module _ (a : Account) (m : MapId) (z need : ℕ) (inside : z < length a.zones)
             ap (λ (s : Zone). length s.avail) (queued-other y h.1).zone,
           )
         ]);
-    waits = λ y. (elim (eqb_tells y z) as (λ _. All (Lacks y) (zone_at (queued a m z need) y).wait) [
-      | inl h ↦ subst (λ k. All (Lacks k) (zone_at (queued a m z need) k).wait) (sym h.1)
+    waits = λ y. (elim (eqb_tells y z) as (λ _. All (Lacks y) (zone_at (waiting_at_tail a m z need) y).wait) [
+      | inl h ↦ subst (λ k. All (Lacks k) (zone_at (waiting_at_tail a m z need) k).wait) (sym h.1)
           (rw queued-zone (All-push (Lacks z) (zone_at a z).wait joined (well.waits z)
           (record { zone = refl; lacks = short })))
       | inr h ↦ rw (queued-other y h.1).zone (well.waits y)
@@ -415,7 +417,7 @@ module _ (a : Account) (m : MapId) (z page : ℕ) (inside : z < length a.zones) 
 
 -- a page comes back, and the zone serves
 module _ (a : Account) (m : MapId) (z page : ℕ) (inside : z < length a.zones)
-    (held : times_held m z page a ≡ 1) (well : IsWellFormed a) where
+    (held : times_held m z page a ≡ 1) (well : IsAccountWellFormed a) where
   abbrev pub after_release : Account
   after_release = served (returned a m z page) z
 
@@ -469,7 +471,7 @@ module _ (a : Account) (m : MapId) (z page : ℕ) (inside : z < length a.zones)
   out_of : (y : ℕ) → y ≡ z → length a.zones ≤ y → ⊥
   out_of y e out = omega (arith, inside, e, out)
 
-  pub release-well : IsWellFormed after_release
+  pub release-well : IsAccountWellFormed after_release
   release-well = record {
     wanted =
         All-append (λ (w : Waiter). 0 < w.need) a.ready
@@ -506,7 +508,7 @@ zone_past (x ∷ xs) zero h = absurd (omega arith)
 zone_past (x ∷ xs) (suc z) h = zone_past xs z (omega arith)
 
 -- the head of the callback list leaves it
-module _ (a : Account) (w : Waiter) (ws : List Waiter) (is : a.ready ≡ w ∷ ws) (well : IsWellFormed a) where
+module _ (a : Account) (w : Waiter) (ws : List Waiter) (is : a.ready ≡ w ∷ ws) (well : IsAccountWellFormed a) where
   abbrev pub shorter : Account
   shorter = record a { ready = ws }
 
@@ -539,7 +541,7 @@ module _ (a : Account) (w : Waiter) (ws : List Waiter) (is : a.ready ≡ w ∷ w
   pub shorter-enough : w.need ≤ free shorter w.zone.0
   shorter-enough = omega (arith, shorter-reserved, well.enough w.zone.0)
 
-  pub shorter-well : IsWellFormed shorter
+  pub shorter-well : IsAccountWellFormed shorter
   shorter-well = record {
     inside = well.inside;
     enough = λ y. (elim (eqb_tells y w.zone.0) as (λ _. reserved shorter y ≤ length (zone_at a y).avail) [

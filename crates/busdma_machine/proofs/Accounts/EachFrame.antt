@@ -10,10 +10,10 @@ use Rattle.busdma_machine.specs.Bounce.Account.{Account, Zone, Held, Memory}
 use Rattle.busdma_machine.specs.Bounce.EachFrame.{EachFrame, LiesBelowMaxmem}
 use Rattle.busdma_machine.specs.Bounce.History.{IsFrame, IsOpening, IsSound, account_of}
 use Rattle.busdma_machine.specs.Bounce.Places.{frames_where}
-use Rattle.busdma_machine.specs.Bounce.WellFormed.{IsWellFormed}
+use Rattle.busdma_machine.specs.Bounce.WellFormed.{IsAccountWellFormed}
 use Rattle.busdma_machine.proofs.Accounts.Names.{and_left, and_right}
 use Rattle.busdma_machine.proofs.Accounts.Places.{where-history}
-use Rattle.busdma_machine.proofs.Accounts.Shares.{maxmem-history}
+use Rattle.busdma_machine.proofs.Accounts.ShareLaws.{maxmem-history}
 use Rattle.busdma_machine.proofs.Accounts.WellFormed.{well-opening}
 
 abbrev weight : Bool → ℕ
@@ -85,7 +85,7 @@ module _ (P : ℕ → Type 0) (test : ℕ → Bool) (passes : (f : ℕ) → P f 
         a.mems (all_none (λ (m : Memory). count_by fails m.frames) a.mems (omega (arith, none)));
   }
 
-  pub each-history : (a : Account) (es : List HoldEntry) → IsWellFormed a → IsSound a es →
+  pub each-history : (a : Account) (es : List HoldEntry) → IsAccountWellFormed a → IsSound a es →
       EachFrame P a → EachFrame P (account_of a es)
   each-history a es well sound each =
       none_each (account_of a es) (where-history fails a es well sound ∙ each_none a each)
@@ -113,7 +113,7 @@ whole-history a es opens sound =
     })
     a es (well-opening a opens) sound (each-opening IsFrame a opens opens.frames)
 
-pub below-history : (a : Account) (es : List HoldEntry) → IsWellFormed a → IsSound a es →
+pub below-history : (a : Account) (es : List HoldEntry) → IsAccountWellFormed a → IsSound a es →
     LiesBelowMaxmem a → LiesBelowMaxmem (account_of a es)
 below-history a es well sound below =
     subst (λ n. EachFrame (λ f. f < 4096 * n) (account_of a es)) (sym (maxmem-history a es))

@@ -1,5 +1,6 @@
 -- First come, first served: in one zone, maps are completed and called back in the order in which they began to wait.
-use Rattle.std.proofs.Common.{◌≡◌, ℕ, zero, suc, ◌+◌, ◌-◌, ◌<◌, Bool, true, false, cond, List, [], ◌∷◌, ◌++◌, take, drop}
+use Rattle.std.proofs.Common.{◌≡◌, ℕ, zero, suc, ◌+◌, ◌-◌, ◌<◌, Bool, true, false, cond, List, [], ◌∷◌, ◌++◌, take}
+use Rattle.std.proofs.Common.{drop}
 use Rattle.std.proofs.Common.{length, get_or, set, refl, sym, ap, ◌∙◌, subst, eqb, leb, if◌then◌else◌, All, ◌==◌}
 use Rattle.std.proofs.Common.{Option, Some, None}
 use Rattle.std.specs.List.{filter}
@@ -9,24 +10,26 @@ use Rattle.std.proofs.lemmas.List.Elements.{All-head, All-tail}
 use Rattle.busdma_machine.specs.declared.name.MapId.{MapId}
 use Rattle.busdma_machine.specs.declared.bounce.zone.Waiter.{Waiter}
 use Rattle.busdma_machine.specs.declared.bounce.hold.HubCall.{HubCall}
-use Rattle.busdma_machine.specs.declared.bounce.hold.HubCall.TheVariants.{AttachTag, CreateMap, DestroyMap, Grab, Release}
+use Rattle.busdma_machine.specs.declared.bounce.hold.HubCall.TheVariants.{AttachTag, CreateMap, DestroyMap, Grab}
+use Rattle.busdma_machine.specs.declared.bounce.hold.HubCall.TheVariants.{Release}
 use Rattle.busdma_machine.specs.declared.bounce.hold.HubCall.TheVariants.{TakeCallback, MemAlloc, MemFree}
 use Rattle.busdma_machine.specs.declared.bounce.hold.HubReply.TheVariants.{Nothing, Granted, Queued, NoPages, Called}
 use Rattle.busdma_machine.specs.declared.bounce.hold.HoldEntry.{HoldEntry}
 use Rattle.busdma_machine.specs.Bounce.Account.{Account, Zone, zone_at, no_zone, free}
 use Rattle.busdma_machine.specs.Bounce.Conditions.{MayCall}
-use Rattle.busdma_machine.specs.Bounce.FirstCome.{queued_by, completed_by, called_from, queued_in, completed_in}
-use Rattle.busdma_machine.specs.Bounce.FirstCome.{called_in, waiting_in, ready_in, line}
-use Rattle.busdma_machine.specs.Bounce.Growth.{without_zone_map as without_map}
+use Rattle.busdma_machine.specs.Bounce.FirstCome.{queued_by, completed_by}
+use Rattle.busdma_machine.specs.Bounce.FirstCome.{called_of_zone, queued_in, completed_in}
+use Rattle.busdma_machine.specs.Bounce.FirstCome.{called_in_zone, waiting_in, ready_in, zone_line}
+use Rattle.busdma_machine.specs.Bounce.Growth.{without_zone_map}
 use Rattle.busdma_machine.specs.Bounce.History.{IsSound, after_entry, account_of}
-use Rattle.busdma_machine.specs.Bounce.Serving.{handed, waiting_at_tail as queued, returned}
+use Rattle.busdma_machine.specs.Bounce.Serving.{handed, waiting_at_tail, returned}
 use Rattle.busdma_machine.specs.Bounce.Serving.{completed, left_waiting, served}
-use Rattle.busdma_machine.specs.Bounce.AccountStep.{AccountReply as Outcome, account_step, as_pages, attached}
-use Rattle.busdma_machine.specs.Bounce.AccountStep.{created, grabbed, released, memory_placed as placed}
+use Rattle.busdma_machine.specs.Bounce.AccountStep.{AccountReply, account_step, as_pages, attached}
+use Rattle.busdma_machine.specs.Bounce.AccountStep.{created, grabbed, released, memory_placed}
 use Rattle.busdma_machine.specs.Bounce.AccountStep.{called_from as taken_from}
 use Rattle.busdma_machine.specs.Bounce.ServingOrder.{maps_of}
-use Rattle.busdma_machine.specs.Bounce.WellFormed.{Lacks, IsWellFormed}
-use Rattle.busdma_machine.proofs.Accounts.Counting.{get_or-set_as}
+use Rattle.busdma_machine.specs.Bounce.WellFormed.{Lacks, IsAccountWellFormed}
+use Rattle.busdma_machine.proofs.Accounts.EditedSums.{get_or-set_as}
 use Rattle.busdma_machine.proofs.Accounts.Counts.{in_zones, completed-zone}
 use Rattle.busdma_machine.proofs.Accounts.Order.{nobody-attached, nobody-created}
 use Rattle.busdma_machine.proofs.Accounts.WellFormed.{well-step}
@@ -58,16 +61,16 @@ module _ (z : ℕ) where
   stay a b e = append-nil (waiting_in z a) ∙ ap maps_of (sym e)
 
   wait-queued : (m : MapId) (y need : ℕ) (a : Account) → y < length a.zones →
-      waiting_in z a ++ (if y == z then m ∷ [] else []) ≡ waiting_in z (queued a m y need)
+      waiting_in z a ++ (if y == z then m ∷ [] else []) ≡ waiting_in z (waiting_at_tail a m y need)
   wait-queued m y need a inside =
       let waiter : Waiter = record { map = m; zone = record { 0 = y }; need = need; have = free a y } in
       let after : Zone = record (zone_at a y) { wait = (zone_at a y).wait ++ waiter ∷ [] } in
       (elim (eqb y z) as (λ v. eqb y z ≡ v →
-      waiting_in z a ++ (if v then m ∷ [] else []) ≡ waiting_in z (queued a m y need)) [
-        | true ↦ λ e. subst (λ x. waiting_in x a ++ m ∷ [] ≡ waiting_in x (queued a m y need)) (eqb-true y z e)
+      waiting_in z a ++ (if v then m ∷ [] else []) ≡ waiting_in z (waiting_at_tail a m y need)) [
+        | true ↦ λ e. subst (λ x. waiting_in x a ++ m ∷ [] ≡ waiting_in x (waiting_at_tail a m y need)) (eqb-true y z e)
             (sym (map-append (λ (w : Waiter). w.map) (zone_at a y).wait (waiter ∷ []))
             ∙ ap (λ (k : Zone). maps_of k.wait) (sym (get_or-set_same a.zones y after no_zone inside)))
-        | false ↦ λ e. stay a (queued a m y need)
+        | false ↦ λ e. stay a (waiting_at_tail a m y need)
             (ap (λ (k : Zone). k.wait) (get_or-set_other a.zones y z after no_zone (λ q. eqb-false y z e (sym q))))
       ]) refl
 
@@ -75,16 +78,16 @@ module _ (z : ℕ) where
       waiting_in z a ++ queued_by z (Grab m (record { 0 = y }) need nowait) (grabbed m y need nowait a).reply
       ≡ waiting_in z (grabbed m y need nowait a).account
   wait-grabbed m y need nowait a inside =
-      elim (leb need (free a y)) as (λ v. let o : Outcome = if v
+      elim (leb need (free a y)) as (λ v. let o : AccountReply = if v
       then record { account = handed a m y need; reply = Granted (as_pages (take need (zone_at a y).avail)) }
       else (if nowait then record { account = a; reply = NoPages }
-      else record { account = queued a m y need; reply = Queued (free a y) }) in
+      else record { account = waiting_at_tail a m y need; reply = Queued (free a y) }) in
       waiting_in z a ++ queued_by z (Grab m (record { 0 = y }) need nowait) o.reply ≡ waiting_in z o.account) [
         | true ↦ stay a (handed a m y need) (get_or-set_as (λ (k : Zone). k.wait) a.zones y z
             (record (zone_at a y) { avail = drop need (zone_at a y).avail }) no_zone refl)
         | false ↦
-            (elim nowait as (λ v. let o : Outcome = if v then record { account = a; reply = NoPages }
-            else record { account = queued a m y need; reply = Queued (free a y) } in
+            (elim nowait as (λ v. let o : AccountReply = if v then record { account = a; reply = NoPages }
+            else record { account = waiting_at_tail a m y need; reply = Queued (free a y) } in
             waiting_in z a ++ queued_by z (Grab m (record { 0 = y }) need v) o.reply ≡ waiting_in z o.account) [
               | true ↦ append-nil (waiting_in z a)
               | false ↦ wait-queued m y need a inside
@@ -123,7 +126,7 @@ module _ (z : ℕ) where
       waiting_in z a ++ [] ≡ waiting_in z (taken_from ws lane a).account
   wait-called [] lane a = append-nil (waiting_in z a)
   wait-called (w ∷ ws) lane a =
-      elim (eqb w.map.lane.0 lane) as (λ v. let o : Outcome = if v
+      elim (eqb w.map.lane.0 lane) as (λ v. let o : AccountReply = if v
       then record {
         account = handed (record a { ready = ws }) w.map w.zone.0 w.need;
         reply = Called w.map (as_pages (take w.need (zone_at a w.zone.0).avail));
@@ -139,7 +142,7 @@ module _ (z : ℕ) where
       ]
 
   wait-placed : (m : MapId) (n : ℕ) (first : Option ℕ) (a : Account) →
-      waiting_in z a ++ [] ≡ waiting_in z (placed m n first a).account
+      waiting_in z a ++ [] ≡ waiting_in z (memory_placed m n first a).account
   wait-placed m n None a = append-nil (waiting_in z a)
   wait-placed m n (Some first) a = append-nil (waiting_in z a)
 
@@ -147,9 +150,10 @@ module _ (z : ℕ) where
       waiting_in z a ++ queued_by z c (account_step lane c a).reply
       ≡ completed_by z c a ++ waiting_in z (account_step lane c a).account
   wait-step lane (AttachTag t) a may = stay a (attached t a).account ((nobody-attached t a).waits z)
-  wait-step lane (CreateMap m t first_done) a may = stay a (created m t first_done a).account ((nobody-created m t first_done a).waits z)
+  wait-step lane (CreateMap m t first_done) a may = stay a (created m t first_done a).account
+      ((nobody-created m t first_done a).waits z)
   wait-step lane (DestroyMap m y) a may =
-      stay a (without_map a y.0 m) (get_or-set_as (λ (k : Zone). k.wait) a.zones y.0 z _ no_zone refl)
+      stay a (without_zone_map a y.0 m) (get_or-set_as (λ (k : Zone). k.wait) a.zones y.0 z _ no_zone refl)
   wait-step lane (Grab m y need nowait) a may = wait-grabbed m y.0 need nowait a (in_zones a m y.0 may.2)
   wait-step lane (Release m y page) a may = wait-released m y.0 page.0 a
   wait-step lane TakeCallback a may = wait-called a.ready lane a
@@ -172,7 +176,8 @@ module _ (z : ℕ) where
         | true ↦ ap (λ l. r.map ∷ l) (here-joined y rs ds all)
         | false ↦ here-joined y rs ds all
       ]
-  here-joined y [] [] all = (elim (eqb y z) as (λ v. (if v then maps_of [] else []) ≡ maps_of []) [ true ↦ refl | false ↦ refl ])
+  here-joined y [] [] all =
+      (elim (eqb y z) as (λ v. (if v then maps_of [] else []) ≡ maps_of []) [ true ↦ refl | false ↦ refl ])
   here-joined y [] (d ∷ ds) all =
       let of : d.zone.0 ≡ y = All-head (λ (w : Waiter). w.zone.0 ≡ y) d ds all in
       let rest : (if y == z then maps_of ds else []) ≡ here ds =
@@ -184,29 +189,29 @@ module _ (z : ℕ) where
       ]) refl rest
 
   ready-grabbed : (m : MapId) (y need : ℕ) (nowait : Bool) (a : Account) →
-      ready_in z a ++ [] ≡ called_from z (grabbed m y need nowait a).reply a.ready
+      ready_in z a ++ [] ≡ called_of_zone z (grabbed m y need nowait a).reply a.ready
       ++ ready_in z (grabbed m y need nowait a).account
   ready-grabbed m y need nowait a =
-      elim (leb need (free a y)) as (λ v. let o : Outcome = if v
+      elim (leb need (free a y)) as (λ v. let o : AccountReply = if v
       then record { account = handed a m y need; reply = Granted (as_pages (take need (zone_at a y).avail)) }
       else (if nowait then record { account = a; reply = NoPages }
-      else record { account = queued a m y need; reply = Queued (free a y) }) in
-      ready_in z a ++ [] ≡ called_from z o.reply a.ready ++ ready_in z o.account) [
+      else record { account = waiting_at_tail a m y need; reply = Queued (free a y) }) in
+      ready_in z a ++ [] ≡ called_of_zone z o.reply a.ready ++ ready_in z o.account) [
         | true ↦ append-nil (ready_in z a)
         | false ↦
-            (elim nowait as (λ v. let o : Outcome = if v then record { account = a; reply = NoPages }
-            else record { account = queued a m y need; reply = Queued (free a y) } in
-            ready_in z a ++ [] ≡ called_from z o.reply a.ready ++ ready_in z o.account) [
+            (elim nowait as (λ v. let o : AccountReply = if v then record { account = a; reply = NoPages }
+            else record { account = waiting_at_tail a m y need; reply = Queued (free a y) } in
+            ready_in z a ++ [] ≡ called_of_zone z o.reply a.ready ++ ready_in z o.account) [
               | true ↦ append-nil (ready_in z a)
               | false ↦ append-nil (ready_in z a)
             ])
       ]
 
   ready-called : (ws : List Waiter) (lane : ℕ) (a : Account) → a.ready ≡ ws →
-      here ws ++ [] ≡ called_from z (taken_from ws lane a).reply ws ++ here (taken_from ws lane a).account.ready
+      here ws ++ [] ≡ called_of_zone z (taken_from ws lane a).reply ws ++ here (taken_from ws lane a).account.ready
   ready-called [] lane a is = ap here (sym is)
   ready-called (w ∷ ws) lane a is =
-      elim (eqb w.map.lane.0 lane) as (λ v. let o : Outcome = if v
+      elim (eqb w.map.lane.0 lane) as (λ v. let o : AccountReply = if v
       then record {
         account = handed (record a { ready = ws }) w.map w.zone.0 w.need;
         reply = Called w.map (as_pages (take w.need (zone_at a w.zone.0).avail));
@@ -214,7 +219,7 @@ module _ (z : ℕ) where
         account = a;
         reply =
             Nothing;
-      } in here (w ∷ ws) ++ [] ≡ called_from z o.reply (w ∷ ws) ++ here o.account.ready) [
+      } in here (w ∷ ws) ++ [] ≡ called_of_zone z o.reply (w ∷ ws) ++ here o.account.ready) [
         | true ↦ (elim (eqb w.zone.0 z) as (λ v.
             maps_of (cond v (w ∷ filter (λ w. w.zone.0 == z) ws) (filter (λ w. w.zone.0 == z) ws)) ++ []
             ≡ (if v then w.map ∷ [] else []) ++ here ws) [
@@ -225,12 +230,13 @@ module _ (z : ℕ) where
       ]
 
   ready-placed : (m : MapId) (n : ℕ) (first : Option ℕ) (a : Account) →
-      ready_in z a ++ [] ≡ called_from z (placed m n first a).reply a.ready ++ ready_in z (placed m n first a).account
+      ready_in z a ++ [] ≡ called_of_zone z (memory_placed m n first a).reply a.ready
+      ++ ready_in z (memory_placed m n first a).account
   ready-placed m n None a = append-nil (ready_in z a)
   ready-placed m n (Some first) a = append-nil (ready_in z a)
 
-  ready-step : (lane : ℕ) (c : HubCall) (a : Account) → IsWellFormed a →
-      ready_in z a ++ completed_by z c a ≡ called_from z (account_step lane c a).reply a.ready
+  ready-step : (lane : ℕ) (c : HubCall) (a : Account) → IsAccountWellFormed a →
+      ready_in z a ++ completed_by z c a ≡ called_of_zone z (account_step lane c a).reply a.ready
       ++ ready_in z (account_step lane c a).account
   ready-step lane (AttachTag t) a well = append-nil (ready_in z a)
   ready-step lane (CreateMap m t first_done) a well =
@@ -253,16 +259,16 @@ module _ (z : ℕ) where
 
   -- ---- the line
 
-  line-step : (lane : ℕ) (c : HubCall) (a : Account) → MayCall lane c a → IsWellFormed a →
-      line z a ++ queued_by z c (account_step lane c a).reply
-      ≡ called_from z (account_step lane c a).reply a.ready ++ line z (account_step lane c a).account
+  line-step : (lane : ℕ) (c : HubCall) (a : Account) → MayCall lane c a → IsAccountWellFormed a →
+      zone_line z a ++ queued_by z c (account_step lane c a).reply
+      ≡ called_of_zone z (account_step lane c a).reply a.ready ++ zone_line z (account_step lane c a).account
   line-step lane c a may well =
-      let o : Outcome = account_step lane c a in
+      let o : AccountReply = account_step lane c a in
       append_assoc (ready_in z a) (waiting_in z a) (queued_by z c o.reply)
       ∙ ap (λ l. ready_in z a ++ l) (wait-step lane c a may)
       ∙ sym (append_assoc (ready_in z a) (completed_by z c a) (waiting_in z o.account))
       ∙ ap (λ l. l ++ waiting_in z o.account) (ready-step lane c a well)
-      ∙ append_assoc (called_from z o.reply a.ready) (ready_in z o.account) (waiting_in z o.account)
+      ∙ append_assoc (called_of_zone z o.reply a.ready) (ready_in z o.account) (waiting_in z o.account)
 
   -- ---- histories
 
@@ -285,13 +291,14 @@ module _ (z : ℕ) where
       (sym sound.0.reply) (wait-step e.lane.0 e.call a sound.0.may))
       (wait-history b es sound.1)
 
-  pub line-history : (a : Account) (es : List HoldEntry) → IsWellFormed a → IsSound a es →
-      line z a ++ queued_in z es ≡ called_in z a es ++ line z (account_of a es)
-  line-history a [] well sound = append-nil (line z a)
+  pub line-history : (a : Account) (es : List HoldEntry) → IsAccountWellFormed a → IsSound a es →
+      zone_line z a ++ queued_in z es ≡ called_in_zone z a es ++ zone_line z (account_of a es)
+  line-history a [] well sound = append-nil (zone_line z a)
   line-history a (e ∷ es) well sound =
       let b : Account = after_entry e a in
-      chain (line z a) (queued_by z e.call e.reply) (queued_in z es) (called_from z e.reply a.ready) (line z b)
-      (called_in z b es) (line z (account_of b es))
-      (subst (λ r. line z a ++ queued_by z e.call r ≡ called_from z r a.ready ++ line z b)
+      chain (zone_line z a) (queued_by z e.call e.reply) (queued_in z es) (called_of_zone z e.reply a.ready)
+      (zone_line z b)
+      (called_in_zone z b es) (zone_line z (account_of b es))
+      (subst (λ r. zone_line z a ++ queued_by z e.call r ≡ called_of_zone z r a.ready ++ zone_line z b)
       (sym sound.0.reply) (line-step e.lane.0 e.call a sound.0.may well))
       (line-history b es (well-step e.lane.0 e.call a sound.0.may well) sound.1)

@@ -8,7 +8,8 @@ use Rattle.busdma_machine.specs.declared.tags.tag.TagLimits.{TagLimits}
 use Rattle.busdma_machine.specs.declared.bounce.zone.Waiter.{Waiter}
 use Rattle.busdma_machine.specs.declared.bounce.zone.Grown.{Grown as GrownBy}
 use Rattle.busdma_machine.specs.declared.bounce.hold.HubCall.{HubCall}
-use Rattle.busdma_machine.specs.declared.bounce.hold.HubCall.TheVariants.{AttachTag, CreateMap, DestroyMap, Grab, Release}
+use Rattle.busdma_machine.specs.declared.bounce.hold.HubCall.TheVariants.{AttachTag, CreateMap, DestroyMap, Grab}
+use Rattle.busdma_machine.specs.declared.bounce.hold.HubCall.TheVariants.{Release}
 use Rattle.busdma_machine.specs.declared.bounce.hold.HubCall.TheVariants.{TakeCallback, MemAlloc, MemFree}
 use Rattle.busdma_machine.specs.declared.bounce.hold.HubReply.{HubReply}
 use Rattle.busdma_machine.specs.declared.bounce.hold.HubReply.TheVariants.{Nothing, Grown, Granted, Queued, NoPages}
@@ -16,15 +17,15 @@ use Rattle.busdma_machine.specs.declared.bounce.hold.HubReply.TheVariants.{Calle
 use Rattle.busdma_machine.specs.declared.bounce.hold.HoldEntry.{HoldEntry}
 use Rattle.busdma_machine.specs.Bounce.Account.{Account, Zone, zone_at, with_zone, no_zone, free}
 use Rattle.busdma_machine.specs.Bounce.Growth.{serves_tag, new_zone, zones_for}
-use Rattle.busdma_machine.specs.Bounce.Growth.{zone_for_tag as zone_of, with_zone_for, grown}
-use Rattle.busdma_machine.specs.Bounce.Growth.{growth_for_map, with_zone_map as with_map}
-use Rattle.busdma_machine.specs.Bounce.Serving.{handed, waiting_at_tail as queued, returned}
-use Rattle.busdma_machine.specs.Bounce.AccountStep.{AccountReply as Outcome, account_step, as_pages}
+use Rattle.busdma_machine.specs.Bounce.Growth.{zone_for_tag, with_zone_for, grown}
+use Rattle.busdma_machine.specs.Bounce.Growth.{growth_for_map, with_zone_map}
+use Rattle.busdma_machine.specs.Bounce.Serving.{handed, waiting_at_tail, returned}
+use Rattle.busdma_machine.specs.Bounce.AccountStep.{AccountReply, account_step, as_pages}
 use Rattle.busdma_machine.specs.Bounce.AccountStep.{attached, created, grabbed, released}
-use Rattle.busdma_machine.specs.Bounce.AccountStep.{called_from, memory_placed as placed}
+use Rattle.busdma_machine.specs.Bounce.AccountStep.{called_from, memory_placed}
 use Rattle.busdma_machine.specs.Bounce.History.{after_entry, account_of}
 use Rattle.busdma_machine.specs.Bounce.KeptZones.{KeepsZones}
-use Rattle.busdma_machine.proofs.Accounts.Counting.{get_or-set_as}
+use Rattle.busdma_machine.proofs.Accounts.EditedSums.{get_or-set_as}
 use Rattle.busdma_machine.proofs.Accounts.Places.{zone_of-inside}
 use Rattle.busdma_machine.proofs.Accounts.WellFormed.{zones_for-longer}
 
@@ -74,15 +75,16 @@ keeps-either : (a b c : Account) (v : Bool) → KeepsZones a b → KeepsZones a 
 keeps-either a b c true s t = t
 keeps-either a b c false s t = s
 
-keeps-made : (m : MapId) (z : ℕ) (v : Bool) (a : Account) → KeepsZones a (if v then with_map a z m else a)
+keeps-made : (m : MapId) (z : ℕ) (v : Bool) (a : Account) → KeepsZones a (if v then with_zone_map a z m else a)
 keeps-made m z v a =
-    keeps-either a a (with_map a z m) v (keeps-all a a refl) (keeps-with_zone a (with_map a z m) z _ refl refl refl)
+    keeps-either a a (with_zone_map a z m) v (keeps-all a a refl)
+    (keeps-with_zone a (with_zone_map a z m) z _ refl refl refl)
 
 pub keeps-created : (m : MapId) (t : TagLimits) (first_done : Bool) (a : Account) →
     KeepsZones a (created m t first_done a).account
 keeps-created m t first_done a =
     let b : Account = with_zone_for t a in
-    let z : ℕ = zone_of t a.zones in
+    let z : ℕ = zone_for_tag t a.zones in
     let c : Account = grown b z (growth_for_map t first_done b z).added in
     keeps-trans a c _ (keeps-trans a b c (keeps-with_zone_for t a) (keeps-grown b z _))
     (keeps-made m z (growth_for_map t first_done b z).made c)
@@ -90,23 +92,23 @@ keeps-created m t first_done a =
 keeps-grabbed : (m : MapId) (z need : ℕ) (nowait : Bool) (a : Account) →
     KeepsZones a (grabbed m z need nowait a).account
 keeps-grabbed m z need nowait a =
-    elim (leb need (free a z)) as (λ v. let o : Outcome = if v
+    elim (leb need (free a z)) as (λ v. let o : AccountReply = if v
     then record { account = handed a m z need; reply = Granted (as_pages (take need (zone_at a z).avail)) }
     else (if nowait then record { account = a; reply = NoPages }
-    else record { account = queued a m z need; reply = Queued (free a z) }) in KeepsZones a o.account) [
+    else record { account = waiting_at_tail a m z need; reply = Queued (free a z) }) in KeepsZones a o.account) [
       | true ↦ keeps-with_zone a (handed a m z need) z _ refl refl refl
       | false ↦
-          (elim nowait as (λ v. let o : Outcome = if v then record { account = a; reply = NoPages }
-          else record { account = queued a m z need; reply = Queued (free a z) } in KeepsZones a o.account) [
+          (elim nowait as (λ v. let o : AccountReply = if v then record { account = a; reply = NoPages }
+          else record { account = waiting_at_tail a m z need; reply = Queued (free a z) } in KeepsZones a o.account) [
             | true ↦ keeps-all a a refl
-            | false ↦ keeps-with_zone a (queued a m z need) z _ refl refl refl
+            | false ↦ keeps-with_zone a (waiting_at_tail a m z need) z _ refl refl refl
           ])
     ]
 
 keeps-called : (ws : List Waiter) (lane : ℕ) (a : Account) → KeepsZones a (called_from ws lane a).account
 keeps-called [] lane a = keeps-all a a refl
 keeps-called (w ∷ ws) lane a =
-    elim (eqb w.map.lane.0 lane) as (λ v. let o : Outcome = if v
+    elim (eqb w.map.lane.0 lane) as (λ v. let o : AccountReply = if v
     then record {
       account = handed (record a { ready = ws }) w.map w.zone.0 w.need;
       reply = Called w.map (as_pages (take w.need (zone_at a w.zone.0).avail));
@@ -119,7 +121,7 @@ keeps-called (w ∷ ws) lane a =
       | false ↦ keeps-all a a refl
     ]
 
-keeps-placed : (m : MapId) (n : ℕ) (first : Option ℕ) (a : Account) → KeepsZones a (placed m n first a).account
+keeps-placed : (m : MapId) (n : ℕ) (first : Option ℕ) (a : Account) → KeepsZones a (memory_placed m n first a).account
 keeps-placed m n None a = keeps-all a a refl
 keeps-placed m n (Some first) a = keeps-all a _ refl
 
@@ -149,11 +151,12 @@ serves-new : (t : TagLimits) → serves_tag t (new_zone t) ≡ true
 serves-new t =
     rw (le-leb t.alignment (max t.alignment 4096) (omega arith), le-leb t.lowaddr.0 t.lowaddr.0 (omega arith)) refl
 
-serves-found : (t : TagLimits) (zs : List Zone) → serves_tag t (get_or (zones_for t zs) (zone_of t zs) no_zone) ≡ true
+serves-found : (t : TagLimits) (zs : List Zone) → serves_tag t (get_or (zones_for t zs) (zone_for_tag t zs) no_zone)
+    ≡ true
 serves-found t [] = serves-new t
 serves-found t (z ∷ zs) =
     (elim (serves_tag t z) as (λ v. serves_tag t z ≡ v →
-    serves_tag t (get_or (z ∷ (if v then zs else zones_for t zs)) (if v then 0 else suc (zone_of t zs)) no_zone)
+    serves_tag t (get_or (z ∷ (if v then zs else zones_for t zs)) (if v then 0 else suc (zone_for_tag t zs)) no_zone)
     ≡ true) [
       | true ↦ λ e. e
       | false ↦ λ e. serves-found t zs
@@ -165,9 +168,9 @@ serves-kept : (t : TagLimits) (a b : Account) (z : ℕ) → z < length a.zones �
 serves-kept t a b z inside kept serves = rw (kept.lowaddr z inside, kept.alignment z inside) serves
 
 serves-after : (t : TagLimits) (a b : Account) (es : List HoldEntry) → KeepsZones (with_zone_for t a) b →
-    serves_tag t (zone_at (account_of b es) (zone_of t a.zones)) ≡ true
+    serves_tag t (zone_at (account_of b es) (zone_for_tag t a.zones)) ≡ true
 serves-after t a b es kept =
-    serves-kept t (with_zone_for t a) (account_of b es) (zone_of t a.zones) (zone_of-inside t a.zones)
+    serves-kept t (with_zone_for t a) (account_of b es) (zone_for_tag t a.zones) (zone_of-inside t a.zones)
     (keeps-trans (with_zone_for t a) b _ kept (keeps-history b es)) (serves-found t a.zones)
 
 -- the zone that a reply names
@@ -186,7 +189,7 @@ pub serves-created : (m : MapId) (t : TagLimits) (first_done : Bool) (a : Accoun
     serves_tag t (zone_at (account_of (created m t first_done a).account es) g.zone.0) ≡ true
 serves-created m t first_done a g es is =
     let b : Account = with_zone_for t a in
-    let z : ℕ = zone_of t a.zones in
+    let z : ℕ = zone_for_tag t a.zones in
     let growth : GrownBy = growth_for_map t first_done b z in
     subst (λ z. serves_tag t (zone_at (account_of (created m t first_done a).account es) z) ≡ true) (ap told is)
     (serves-after t a (created m t first_done a).account es

@@ -14,28 +14,30 @@ use Rattle.busdma_machine.specs.declared.tags.tag.TagLimits.{TagLimits}
 use Rattle.busdma_machine.specs.declared.bounce.zone.Waiter.{Waiter}
 use Rattle.busdma_machine.specs.declared.bounce.zone.Grown.{Grown as GrownBy}
 use Rattle.busdma_machine.specs.declared.bounce.hold.HubCall.{HubCall}
-use Rattle.busdma_machine.specs.declared.bounce.hold.HubCall.TheVariants.{AttachTag, CreateMap, DestroyMap, Grab, Release}
+use Rattle.busdma_machine.specs.declared.bounce.hold.HubCall.TheVariants.{AttachTag, CreateMap, DestroyMap, Grab}
+use Rattle.busdma_machine.specs.declared.bounce.hold.HubCall.TheVariants.{Release}
 use Rattle.busdma_machine.specs.declared.bounce.hold.HubCall.TheVariants.{TakeCallback, MemAlloc, MemFree}
 use Rattle.busdma_machine.specs.declared.bounce.hold.HubReply.{HubReply}
 use Rattle.busdma_machine.specs.declared.bounce.hold.HubReply.TheVariants.{Nothing, Grown, Granted, Queued, NoPages}
 use Rattle.busdma_machine.specs.declared.bounce.hold.HubReply.TheVariants.{Called, Run, NoRun}
 use Rattle.busdma_machine.specs.declared.bounce.hold.HoldEntry.{HoldEntry}
 use Rattle.busdma_machine.specs.Bounce.Account.{Account, Zone, zone_at, no_zone, free, reserved, active, total}
-use Rattle.busdma_machine.specs.Bounce.AccountStep.{AccountReply as Outcome, account_step, as_pages}
+use Rattle.busdma_machine.specs.Bounce.AccountStep.{AccountReply, account_step, as_pages}
 use Rattle.busdma_machine.specs.Bounce.AccountStep.{attached, created, grabbed, released}
-use Rattle.busdma_machine.specs.Bounce.AccountStep.{called_from, memory_placed as placed}
+use Rattle.busdma_machine.specs.Bounce.AccountStep.{called_from, memory_placed}
 use Rattle.busdma_machine.specs.Bounce.Conditions.{MayCall, times_held}
-use Rattle.busdma_machine.specs.Bounce.Growth.{with_zone_for, zone_for_tag as zone_of, grown}
-use Rattle.busdma_machine.specs.Bounce.Growth.{growth_for_tag, growth_for_map, with_zone_map as with_map}
-use Rattle.busdma_machine.specs.Bounce.Growth.{without_zone_map as without_map}
+use Rattle.busdma_machine.specs.Bounce.Growth.{with_zone_for, zone_for_tag, grown}
+use Rattle.busdma_machine.specs.Bounce.Growth.{growth_for_tag, growth_for_map, with_zone_map}
+use Rattle.busdma_machine.specs.Bounce.Growth.{without_zone_map}
 use Rattle.busdma_machine.specs.Bounce.History.{IsOpening, IsSound, after_entry, account_of}
 use Rattle.busdma_machine.specs.Bounce.LatePages.{grown_by, late_with, late_from, late_pages, to_call}
-use Rattle.busdma_machine.specs.Bounce.Serving.{handed, waiting_at_tail as queued, left_waiting, promised}
-use Rattle.busdma_machine.specs.Bounce.WellFormed.{Lacks, IsWellFormed}
-use Rattle.busdma_machine.proofs.Accounts.Counting.{get_or-set_as}
+use Rattle.busdma_machine.specs.Bounce.Serving.{handed, waiting_at_tail, left_waiting, promised}
+use Rattle.busdma_machine.specs.Bounce.WellFormed.{Lacks, IsAccountWellFormed}
+use Rattle.busdma_machine.proofs.Accounts.EditedSums.{get_or-set_as}
 use Rattle.busdma_machine.proofs.Accounts.Counts.{handed-other, handed-reserved, handed-zone, head-inside}
 use Rattle.busdma_machine.proofs.Accounts.Counts.{in_zones, promised-le, queued-other, queued-reserved, queued-zone}
-use Rattle.busdma_machine.proofs.Accounts.Counts.{release-avail, release-other, release-reserved, release-wait, room_now}
+use Rattle.busdma_machine.proofs.Accounts.Counts.{release-avail, release-other, release-reserved, release-wait}
+use Rattle.busdma_machine.proofs.Accounts.Counts.{room_now}
 use Rattle.busdma_machine.proofs.Accounts.Counts.{shorter-enough, shorter-other, shorter-reserved}
 use Rattle.busdma_machine.proofs.Accounts.Names.{get_or-zones_for}
 use Rattle.busdma_machine.proofs.Accounts.Order.{nobody-attached, nobody-created}
@@ -142,7 +144,7 @@ module _ (z : ℕ) where
   attached-keeps : (t : TagLimits) (a : Account) → Keeps z a (attached t a).reply (attached t a).account
   attached-keeps t a =
       let b : Account = with_zone_for t a in
-      let y : ℕ = zone_of t a.zones in
+      let y : ℕ = zone_for_tag t a.zones in
       let g : GrownBy = growth_for_tag t b y in
       like z a (attached t a).account (Grown g) ((nobody-attached t a).waits z)
       (omega (
@@ -156,7 +158,7 @@ module _ (z : ℕ) where
       Keeps z a (created m t first_done a).reply (created m t first_done a).account
   created-keeps m t first_done a =
       let b : Account = with_zone_for t a in
-      let y : ℕ = zone_of t a.zones in
+      let y : ℕ = zone_for_tag t a.zones in
       let g : GrownBy = growth_for_map t first_done b y in
       let c : Account = grown b y g.added in
       like z a (created m t first_done a).account (Grown g) ((nobody-created m t first_done a).waits z)
@@ -169,19 +171,19 @@ module _ (z : ℕ) where
       ))
     where
       either : (c : Account) (y : ℕ) (v : Bool) →
-          length (zone_at (if v then with_map c y m else c) z).avail ≡ length (zone_at c z).avail
+          length (zone_at (if v then with_zone_map c y m else c) z).avail ≡ length (zone_at c z).avail
       either c y true = get_or-set_as (λ (k : Zone). length k.avail) c.zones y z
           (record (zone_at c y) { maps = (zone_at c y).maps ++ m ∷ [] }) no_zone refl
       either c y false = refl
 
-  without_map-keeps : (m : MapId) (y : ℕ) (a : Account) → Keeps z a Nothing (without_map a y m)
+  without_map-keeps : (m : MapId) (y : ℕ) (a : Account) → Keeps z a Nothing (without_zone_map a y m)
   without_map-keeps m y a =
-      let wait : (zone_at (without_map a y m) z).wait ≡ (zone_at a z).wait =
+      let wait : (zone_at (without_zone_map a y m) z).wait ≡ (zone_at a z).wait =
       get_or-set_as (λ (k : Zone). k.wait) a.zones y z _ no_zone refl in
-      let avail : (zone_at (without_map a y m) z).avail ≡ (zone_at a z).avail =
+      let avail : (zone_at (without_zone_map a y m) z).avail ≡ (zone_at a z).avail =
       get_or-set_as (λ (k : Zone). k.avail) a.zones y z _ no_zone refl in
-      let same : reserved (without_map a y m) z ≡ reserved a z = rw wait refl in
-      like z a (without_map a y m) Nothing wait (omega (arith, same, ap (λ (k : List ℕ). length k) avail))
+      let same : reserved (without_zone_map a y m) z ≡ reserved a z = rw wait refl in
+      like z a (without_zone_map a y m) Nothing wait (omega (arith, same, ap (λ (k : List ℕ). length k) avail))
 
   handed-keeps : (a : Account) (m : MapId) (y need : ℕ) (r : HubReply) → y < length a.zones → need ≤ free a y →
       Keeps z a r (handed a m y need)
@@ -206,54 +208,58 @@ module _ (z : ℕ) where
             )
           ]
 
-  queued-keeps : (a : Account) (m : MapId) (y need : ℕ) → y < length a.zones → IsWellFormed a → free a y < need →
-      Keeps z a (Queued (free a y)) (queued a m y need)
+  queued-keeps : (a : Account) (m : MapId) (y need : ℕ) → y < length a.zones → IsAccountWellFormed a → free a y < need →
+      Keeps z a (Queued (free a y)) (waiting_at_tail a m y need)
   queued-keeps a m y need inside well short =
-      elim (eqb_tells z y) as (λ _. Keeps z a (Queued (free a y)) (queued a m y need)) [
-        | inl h ↦ subst (λ x. Keeps x a (Queued (free a y)) (queued a m y need)) (sym h.1) here
+      elim (eqb_tells z y) as (λ _. Keeps z a (Queued (free a y)) (waiting_at_tail a m y need)) [
+        | inl h ↦ subst (λ x. Keeps x a (Queued (free a y)) (waiting_at_tail a m y need)) (sym h.1) here
         | inr h ↦
             let other = queued-other a m y need inside well short z h.1 in
-            like z a (queued a m y need) (Queued (free a y)) (ap (λ (k : Zone). k.wait) other.zone)
+            like z a (waiting_at_tail a m y need) (Queued (free a y)) (ap (λ (k : Zone). k.wait) other.zone)
             (omega (arith, other.reserved, ap (λ (k : Zone). length k.avail) other.zone))
       ]
     where
-      here : Keeps y a (Queued (free a y)) (queued a m y need)
+      here : Keeps y a (Queued (free a y)) (waiting_at_tail a m y need)
       here n h =
           let waiter : Waiter = record { map = m; zone = record { 0 = y }; need = need; have = free a y } in
           let is = queued-zone a m y need inside well short in
-          let none : free (queued a m y need) y ≡ 0 =
+          let none : free (waiting_at_tail a m y need) y ≡ 0 =
           omega (
             arith,
             queued-reserved a m y need inside well short,
             well.enough y,
             ap (λ (k : Zone). length k.avail) is,
           ) in
-          subst (λ ws. Spare (late_with y n (Queued (free a y)) (zone_at a y).wait) (free (queued a m y need) y) ws)
+          subst (λ ws. Spare (late_with y n (Queued (free a y)) (zone_at a y).wait)
+          (free (waiting_at_tail a m y need) y) ws)
           (sym (ap (λ (k : Zone). k.wait) is))
-          (pushed y n (free a y) (free (queued a m y need) y) (Queued (free a y)) (zone_at a y).wait waiter none refl h)
+          (pushed y n (free a y) (free (waiting_at_tail a m y need) y) (Queued (free a y)) (zone_at a y).wait waiter
+          none refl h)
 
-  grabbed-keeps : (m : MapId) (y need : ℕ) (nowait : Bool) (a : Account) → y < length a.zones → IsWellFormed a →
+  grabbed-keeps : (m : MapId) (y need : ℕ) (nowait : Bool) (a : Account) → y < length a.zones → IsAccountWellFormed a →
       Keeps z a (grabbed m y need nowait a).reply (grabbed m y need nowait a).account
   grabbed-keeps m y need nowait a inside well =
       (elim (leb need (free a y)) as (λ v. leb need (free a y) ≡ v →
-      (let o : Outcome = if v then record {
+      (let o : AccountReply = if v then record {
         account = handed a m y need;
         reply = Granted (as_pages (take need (zone_at a y).avail));
       }
       else (if nowait then record { account = a; reply = NoPages }
-      else record { account = queued a m y need; reply = Queued (free a y) }) in Keeps z a o.reply o.account)) [
+      else record { account = waiting_at_tail a m y need; reply = Queued (free a y) }) in
+      Keeps z a o.reply o.account)) [
         | true ↦ λ e. handed-keeps a m y need (Granted (as_pages (take need (zone_at a y).avail))) inside
             (leb-true need (free a y) e)
         | false ↦ λ e.
-            (elim nowait as (λ v. let o : Outcome = if v then record { account = a; reply = NoPages }
-            else record { account = queued a m y need; reply = Queued (free a y) } in Keeps z a o.reply o.account) [
+            (elim nowait as (λ v. let o : AccountReply = if v then record { account = a; reply = NoPages }
+            else record { account = waiting_at_tail a m y need; reply = Queued (free a y) } in
+            Keeps z a o.reply o.account) [
               | true ↦ like z a a NoPages refl (omega arith)
               | false ↦ queued-keeps a m y need inside well (leb-false need (free a y) e)
             ])
       ]) refl
 
   released-keeps : (m : MapId) (y page : ℕ) (a : Account) (r : HubReply) → y < length a.zones →
-      times_held m y page a ≡ 1 → IsWellFormed a → Keeps z a r (released m y page a).account
+      times_held m y page a ≡ 1 → IsAccountWellFormed a → Keeps z a r (released m y page a).account
   released-keeps m y page a r inside held well =
       elim (eqb_tells z y) as (λ _. Keeps z a r (released m y page a).account) [
         | inl h ↦ subst (λ x. Keeps x a r (released m y page a).account) (sym h.1) here
@@ -281,11 +287,11 @@ module _ (z : ℕ) where
           (sym (release-wait a m y page inside held well))
           (served-spare y n (free a y) (free b y) room r (zone_at a y).wait all h)
 
-  called-keeps : (ws : List Waiter) (lane : ℕ) (a : Account) → a.ready ≡ ws → IsWellFormed a →
+  called-keeps : (ws : List Waiter) (lane : ℕ) (a : Account) → a.ready ≡ ws → IsAccountWellFormed a →
       Keeps z a (called_from ws lane a).reply (called_from ws lane a).account
   called-keeps [] lane a is well = like z a a Nothing refl (omega arith)
   called-keeps (w ∷ ws) lane a is well =
-      elim (eqb w.map.lane.0 lane) as (λ v. let o : Outcome = if v
+      elim (eqb w.map.lane.0 lane) as (λ v. let o : AccountReply = if v
       then record {
         account = handed (record a { ready = ws }) w.map w.zone.0 w.need;
         reply = Called w.map (as_pages (take w.need (zone_at a w.zone.0).avail));
@@ -339,12 +345,12 @@ module _ (z : ℕ) where
           (omega (arith, few))
 
   placed-keeps : (m : MapId) (n : ℕ) (first : Option ℕ) (a : Account) →
-      Keeps z a (placed m n first a).reply (placed m n first a).account
-  placed-keeps m n None a = like z a (placed m n None a).account NoRun refl (omega arith)
+      Keeps z a (memory_placed m n first a).reply (memory_placed m n first a).account
+  placed-keeps m n None a = like z a (memory_placed m n None a).account NoRun refl (omega arith)
   placed-keeps m n (Some first) a =
-      like z a (placed m n (Some first) a).account (Run (record { 0 = first }) n) refl (omega arith)
+      like z a (memory_placed m n (Some first) a).account (Run (record { 0 = first }) n) refl (omega arith)
 
-  step-keeps : (lane : ℕ) (c : HubCall) (a : Account) → MayCall lane c a → IsWellFormed a →
+  step-keeps : (lane : ℕ) (c : HubCall) (a : Account) → MayCall lane c a → IsAccountWellFormed a →
       Keeps z a (account_step lane c a).reply (account_step lane c a).account
   step-keeps lane (AttachTag t) a may well = attached-keeps t a
   step-keeps lane (CreateMap m t first_done) a may well = created-keeps m t first_done a
@@ -358,13 +364,14 @@ module _ (z : ℕ) where
 
   -- ---- histories
 
-  late-history : (a : Account) (es : List HoldEntry) (n : ℕ) → IsWellFormed a → IsSound a es →
+  late-history : (a : Account) (es : List HoldEntry) (n : ℕ) → IsAccountWellFormed a → IsSound a es →
       Spare n (free a z) (zone_at a z).wait →
       Spare (late_from z n a es) (free (account_of a es) z) (zone_at (account_of a es) z).wait
   late-history a [] n well sound h = h
   late-history a (e ∷ es) n well sound h =
       let b : Account = after_entry e a in
-      late-history b es (late_with z n e.reply (zone_at a z).wait) (well-step e.lane.0 e.call a sound.0.may well) sound.1
+      late-history b es (late_with z n e.reply (zone_at a z).wait) (well-step e.lane.0 e.call a sound.0.may well)
+      sound.1
       (subst (λ r. Spare (late_with z n r (zone_at a z).wait) (free b z) (zone_at b z).wait) (sym sound.0.reply)
       (step-keeps e.lane.0 e.call a sound.0.may well n h))
 
@@ -373,7 +380,7 @@ module _ (z : ℕ) where
     abbrev b : Account
     b = account_of a es
 
-    well : IsWellFormed b
+    well : IsAccountWellFormed b
     well = account-well a es opening sound
 
     none-waits : Spare 0 (free a z) (zone_at a z).wait
@@ -403,17 +410,19 @@ module _ (z : ℕ) where
     overtakes-late m need nowait pages got = by (leb need (free b z)) refl got
       where
         by : (v : Bool) → leb need (free b z) ≡ v →
-            (let o : Outcome = if v then record {
+            (let o : AccountReply = if v then record {
               account = handed b m z need;
               reply = Granted (as_pages (take need (zone_at b z).avail));
             }
             else (if nowait then record { account = b; reply = NoPages }
-            else record { account = queued b m z need; reply = Queued (free b z) }) in o.reply ≡ Granted pages) →
+            else record { account = waiting_at_tail b m z need; reply = Queued (free b z) }) in o.reply
+            ≡ Granted pages) →
             need ≤ late_pages z a es
         by true e g = omega (arith, leb-true need (free b z) e, spare-late)
         by false e g = absurd (refused nowait g)
           where
-            refused : (v : Bool) → (let o : Outcome = if v then record { account = b; reply = NoPages }
-                else record { account = queued b m z need; reply = Queued (free b z) } in o.reply ≡ Granted pages) → ⊥
+            refused : (v : Bool) → (let o : AccountReply = if v then record { account = b; reply = NoPages }
+                else record { account = waiting_at_tail b m z need; reply = Queued (free b z) } in o.reply
+                ≡ Granted pages) → ⊥
             refused true q = absurd (cc)
             refused false q = absurd (cc)

@@ -11,24 +11,25 @@ use Rattle.busdma_machine.specs.declared.name.MapId.{MapId}
 use Rattle.busdma_machine.specs.declared.tags.tag.TagLimits.{TagLimits}
 use Rattle.busdma_machine.specs.declared.bounce.zone.Waiter.{Waiter}
 use Rattle.busdma_machine.specs.declared.bounce.hold.HubCall.{HubCall}
-use Rattle.busdma_machine.specs.declared.bounce.hold.HubCall.TheVariants.{AttachTag, CreateMap, DestroyMap, Grab, Release}
+use Rattle.busdma_machine.specs.declared.bounce.hold.HubCall.TheVariants.{AttachTag, CreateMap, DestroyMap, Grab}
+use Rattle.busdma_machine.specs.declared.bounce.hold.HubCall.TheVariants.{Release}
 use Rattle.busdma_machine.specs.declared.bounce.hold.HubCall.TheVariants.{TakeCallback, MemAlloc, MemFree}
 use Rattle.busdma_machine.specs.declared.bounce.hold.HubReply.TheVariants.{Nothing, Granted, Queued, NoPages, Called}
 use Rattle.busdma_machine.specs.declared.bounce.hold.HoldEntry.{HoldEntry}
 use Rattle.busdma_machine.specs.Bounce.Account.{Account, Zone, Held, zone_at, with_zone, no_zone, free, total}
-use Rattle.busdma_machine.specs.Bounce.Growth.{serves_tag, zones_for, zone_for_tag as zone_of}
+use Rattle.busdma_machine.specs.Bounce.Growth.{serves_tag, zones_for, zone_for_tag}
 use Rattle.busdma_machine.specs.Bounce.Growth.{with_zone_for, frames_below, added, grown}
-use Rattle.busdma_machine.specs.Bounce.Growth.{maxpages, wanted_by_tag, wanted_by_map, with_zone_map as with_map}
-use Rattle.busdma_machine.specs.Bounce.Serving.{is_holding, handed, waiting_at_tail as queued, returned, served}
-use Rattle.busdma_machine.specs.Bounce.AccountStep.{AccountReply as Outcome, account_step, as_pages}
+use Rattle.busdma_machine.specs.Bounce.Growth.{maxpages, wanted_by_tag, wanted_by_map, with_zone_map}
+use Rattle.busdma_machine.specs.Bounce.Serving.{is_holding, handed, waiting_at_tail, returned, served}
+use Rattle.busdma_machine.specs.Bounce.AccountStep.{AccountReply, account_step, as_pages}
 use Rattle.busdma_machine.specs.Bounce.AccountStep.{created, grabbed, called_from}
-use Rattle.busdma_machine.specs.Bounce.AccountStep.{memory_placed as placed}
+use Rattle.busdma_machine.specs.Bounce.AccountStep.{memory_placed}
 use Rattle.busdma_machine.specs.Bounce.Conditions.{MayCall, times_held}
 use Rattle.busdma_machine.specs.Bounce.History.{IsRising, IsOpening, IsSound, after_entry, account_of}
 use Rattle.busdma_machine.specs.Bounce.LowPages.{EndsWithin, PagesLieLow}
 use Rattle.busdma_machine.specs.Bounce.Places.{places}
-use Rattle.busdma_machine.specs.Bounce.WellFormed.{IsWellFormed}
-use Rattle.busdma_machine.proofs.Accounts.Counting.{get_or-set_as}
+use Rattle.busdma_machine.specs.Bounce.WellFormed.{IsAccountWellFormed}
+use Rattle.busdma_machine.proofs.Accounts.EditedSums.{get_or-set_as}
 use Rattle.busdma_machine.proofs.Accounts.Names.{and_left, and_right, get_or-zones_for}
 use Rattle.busdma_machine.proofs.Accounts.Places.{where-step, places-opening, times-rising, tail_rises}
 use Rattle.busdma_machine.proofs.Accounts.Rising.{rising-step, above_first}
@@ -144,12 +145,12 @@ low-created : (m : MapId) (t : TagLimits) (first_done : Bool) (a : Account) → 
     PagesLieLow (created m t first_done a).account
 low-created m t first_done a rising low =
     let b : Account = with_zone_for t a in
-    let z : ℕ = zone_of t a.zones in
+    let z : ℕ = zone_for_tag t a.zones in
     let c : Account = grown b z (added b z (wanted_by_map t first_done (zone_at b z) (total b z) (maxpages t a))) in
     let c_low : PagesLieLow c =
     low-grown b z (wanted_by_map t first_done (zone_at b z) (total b z) (maxpages t a))
     rising (low-with_zone_for t a low) in
-    low-either c (with_map c z m) _ c_low (low-same c (with_map c z m) z _ refl refl refl refl c_low)
+    low-either c (with_zone_map c z m) _ c_low (low-same c (with_zone_map c z m) z _ refl refl refl refl c_low)
 
 low-handed : (a : Account) (m : MapId) (z need : ℕ) → PagesLieLow a → PagesLieLow (handed a m z need)
 low-handed a m z need low =
@@ -165,16 +166,16 @@ low-handed a m z need low =
 low-grabbed : (m : MapId) (z need : ℕ) (nowait : Bool) (a : Account) → PagesLieLow a →
     PagesLieLow (grabbed m z need nowait a).account
 low-grabbed m z need nowait a low =
-    elim (leb need (free a z)) as (λ v. let o : Outcome = if v
+    elim (leb need (free a z)) as (λ v. let o : AccountReply = if v
     then record { account = handed a m z need; reply = Granted (as_pages (take need (zone_at a z).avail)) }
     else (if nowait then record { account = a; reply = NoPages }
-    else record { account = queued a m z need; reply = Queued (free a z) }) in PagesLieLow o.account) [
+    else record { account = waiting_at_tail a m z need; reply = Queued (free a z) }) in PagesLieLow o.account) [
       | true ↦ low-handed a m z need low
       | false ↦
-          (elim nowait as (λ v. let o : Outcome = if v then record { account = a; reply = NoPages }
-          else record { account = queued a m z need; reply = Queued (free a z) } in PagesLieLow o.account) [
+          (elim nowait as (λ v. let o : AccountReply = if v then record { account = a; reply = NoPages }
+          else record { account = waiting_at_tail a m z need; reply = Queued (free a z) } in PagesLieLow o.account) [
             | true ↦ low
-            | false ↦ low-same a (queued a m z need) z _ refl refl refl refl low
+            | false ↦ low-same a (waiting_at_tail a m z need) z _ refl refl refl refl low
           ])
     ]
 
@@ -182,7 +183,7 @@ low-called : (ws : List Waiter) (lane : ℕ) (a : Account) → PagesLieLow a →
 low-called [] lane a low = low
 low-called (w ∷ ws) lane a low =
     let b : Account = record a { ready = ws } in
-    elim (eqb w.map.lane.0 lane) as (λ v. let o : Outcome = if v
+    elim (eqb w.map.lane.0 lane) as (λ v. let o : AccountReply = if v
     then record {
       account = handed b w.map w.zone.0 w.need;
       reply = Called w.map (as_pages (take w.need (zone_at a w.zone.0).avail));
@@ -224,14 +225,14 @@ low-released m z page a held low =
     low-same b (served b z) z _ refl refl refl refl b_low
 
 low-placed : (m : MapId) (n : ℕ) (first : Option ℕ) (a : Account) → PagesLieLow a →
-    PagesLieLow (placed m n first a).account
+    PagesLieLow (memory_placed m n first a).account
 low-placed m n None a low = low
 low-placed m n (Some first) a low = record { listed = low.listed; held = low.held }
 
 low-step : (lane : ℕ) (c : HubCall) (a : Account) → MayCall lane c a → IsRising a.bank → PagesLieLow a →
     PagesLieLow (account_step lane c a).account
 low-step lane (AttachTag t) a may rising low =
-    low-grown (with_zone_for t a) _ (wanted_by_tag t (total (with_zone_for t a) (zone_of t a.zones))) rising
+    low-grown (with_zone_for t a) _ (wanted_by_tag t (total (with_zone_for t a) (zone_for_tag t a.zones))) rising
     (low-with_zone_for t a low)
 low-step lane (CreateMap m t first_done) a may rising low = low-created m t first_done a rising low
 low-step lane (DestroyMap m z) a may rising low = low-same a _ z.0 _ refl refl refl refl low
@@ -241,7 +242,8 @@ low-step lane TakeCallback a may rising low = low-called a.ready lane a low
 low-step lane (MemAlloc m t) a may rising low = low-placed m _ _ a low
 low-step lane (MemFree m) a may rising low = record { listed = low.listed; held = low.held }
 
-low-history : (a : Account) (es : List HoldEntry) → IsWellFormed a → ((p : ℕ) → places p a ≤ 1) → IsRising a.bank →
+low-history : (a : Account) (es : List HoldEntry) → IsAccountWellFormed a → ((p : ℕ) → places p a ≤ 1) →
+    IsRising a.bank →
     PagesLieLow a → IsSound a es → PagesLieLow (account_of a es)
 low-history a [] well once rising low sound = low
 low-history a (e ∷ es) well once rising low sound =

@@ -9,22 +9,23 @@ use Rattle.busdma_machine.specs.declared.name.MapId.{MapId}
 use Rattle.busdma_machine.specs.declared.bounce.zone.Waiter.{Waiter}
 use Rattle.busdma_machine.specs.declared.tags.tag.TagLimits.{TagLimits}
 use Rattle.busdma_machine.specs.declared.bounce.hold.HubReply.TheVariants.{Granted, Queued, NoPages}
-use Rattle.busdma_machine.specs.Bounce.Account.{Account, Zone, Held, Memory, same_map, zone_at, with_zone, no_zone, free}
+use Rattle.busdma_machine.specs.Bounce.Account.{Account, Zone, Held, Memory, same_map, zone_at, with_zone, no_zone}
+use Rattle.busdma_machine.specs.Bounce.Account.{free}
 use Rattle.busdma_machine.specs.Bounce.Account.{total}
 use Rattle.busdma_machine.specs.Bounce.Growth.{serves_tag, new_zone, zones_for}
-use Rattle.busdma_machine.specs.Bounce.Growth.{zone_for_tag as zone_of, with_zone_for, added, grown}
+use Rattle.busdma_machine.specs.Bounce.Growth.{zone_for_tag, with_zone_for, added, grown}
 use Rattle.busdma_machine.specs.Bounce.Growth.{maxpages, wanted_by_map}
-use Rattle.busdma_machine.specs.Bounce.Growth.{with_zone_map as with_map, without_zone_map as without_map}
-use Rattle.busdma_machine.specs.Bounce.Serving.{is_holding, handed, waiting_at_tail as queued}
+use Rattle.busdma_machine.specs.Bounce.Growth.{with_zone_map, without_zone_map}
+use Rattle.busdma_machine.specs.Bounce.Serving.{is_holding, handed, waiting_at_tail}
 use Rattle.busdma_machine.specs.Bounce.Serving.{returned, completed, left_waiting, served}
-use Rattle.busdma_machine.specs.Bounce.MemoryRuns.{with_memory_run as with_memory}
-use Rattle.busdma_machine.specs.Bounce.MemoryRuns.{without_memory_run as without_memory, frames_of}
-use Rattle.busdma_machine.specs.Bounce.AccountStep.{AccountReply as Outcome, as_pages, attached}
-use Rattle.busdma_machine.specs.Bounce.AccountStep.{created, grabbed, released, memory_placed as placed}
-use Rattle.busdma_machine.proofs.Accounts.Counting.{get_or-set_as, sum_by-set_less, sum_by-set_like}
-use Rattle.busdma_machine.proofs.Accounts.Counting.{count_by-filter_keeps, count_by-map_none, count_by-append}
-use Rattle.busdma_machine.proofs.Accounts.Counting.{count_by-one_no, count_by-push_no}
-use Rattle.busdma_machine.specs.Bounce.Share.{Share, Same, share, is_waiting, waiters}
+use Rattle.busdma_machine.specs.Bounce.MemoryRuns.{with_memory_run}
+use Rattle.busdma_machine.specs.Bounce.MemoryRuns.{without_memory_run, frames_of}
+use Rattle.busdma_machine.specs.Bounce.AccountStep.{AccountReply, as_pages, attached}
+use Rattle.busdma_machine.specs.Bounce.AccountStep.{created, grabbed, released, memory_placed}
+use Rattle.busdma_machine.proofs.Accounts.EditedSums.{get_or-set_as, sum_by-set_less, sum_by-set_like}
+use Rattle.busdma_machine.proofs.Accounts.EditedSums.{count_by-filter_keeps, count_by-map_none, count_by-append}
+use Rattle.busdma_machine.proofs.Accounts.EditedSums.{count_by-one_no, count_by-push_no}
+use Rattle.busdma_machine.specs.Bounce.Share.{Share, Same, share, is_waiter, waiters}
 
 pub Same-refl : (s : Share) → Same s s
 Same-refl s =
@@ -144,7 +145,7 @@ pub record OnName (m : MapId) (test : Waiter → Bool) : Type 0 where
 pub any_waiter : (m : MapId) → OnName m (λ w. same_map m w.map)
 any_waiter m = record { apart = λ w e. e; have = λ w k. refl }
 
-pub one_waiter : (m : MapId) (z need : ℕ) → OnName m (is_waiting m z need)
+pub one_waiter : (m : MapId) (z need : ℕ) → OnName m (is_waiter m z need)
 one_waiter m z need =
     record { apart = λ w e. and_none (eqb w.need need) _ (and_none (eqb w.zone.0 z) _ e); have = λ w k. refl }
 
@@ -160,7 +161,7 @@ other_zones m a b made in_zones waits held mems = record {
   in_zones = in_zones;
   holds = ap (λ hs. count_by (λ (h : Held). same_map m h.map) hs) held;
   holds_page = λ z p. ap (λ hs. count_by (is_holding m z p) hs) held;
-  waits = λ z need. waits (is_waiting m z need) (one_waiter m z need);
+  waits = λ z need. waits (is_waiter m z need) (one_waiter m z need);
   listed = waits (λ w. same_map m w.map) (any_waiter m);
   mems = ap (λ xs. count_by (λ (x : Memory). same_map m x.mem) xs) mems;
   frames = ap (λ xs. frames_of m xs) mems;
@@ -215,7 +216,7 @@ module _ (m n : MapId) (off : same_map m n ≡ false) where
             (λ q. and_none (eqb q p) _ (and_none (eqb z y) _ off)),
       )))
 
-  pub name-queued : (a : Account) (z need : ℕ) → Same (share m a) (share m (queued a n z need))
+  pub name-queued : (a : Account) (z need : ℕ) → Same (share m a) (share m (waiting_at_tail a n z need))
   name-queued a z need =
       let w : Waiter = record { map = n; zone = record { 0 = z }; need = need; have = free a z } in
       name-with_zone m a z _ refl (λ test on. count_by-push_no test (zone_at a z).wait w (on.apart w off))
@@ -223,25 +224,25 @@ module _ (m n : MapId) (off : same_map m n ≡ false) where
   pub name-grabbed : (a : Account) (z need : ℕ) (nowait : Bool) →
       Same (share m a) (share m (grabbed n z need nowait a).account)
   name-grabbed a z need nowait =
-      elim (leb need (free a z)) as (λ v. let o : Outcome = if v
+      elim (leb need (free a z)) as (λ v. let o : AccountReply = if v
       then record { account = handed a n z need; reply = Granted (as_pages (take need (zone_at a z).avail)) }
       else (if nowait then record { account = a; reply = NoPages }
-      else record { account = queued a n z need; reply = Queued (free a z) }) in
+      else record { account = waiting_at_tail a n z need; reply = Queued (free a z) }) in
       Same (share m a) (share m o.account)) [
         | true ↦ name-handed a z need
         | false ↦
-            (elim nowait as (λ v. let o : Outcome = if v then record { account = a; reply = NoPages }
-            else record { account = queued a n z need; reply = Queued (free a z) } in
+            (elim nowait as (λ v. let o : AccountReply = if v then record { account = a; reply = NoPages }
+            else record { account = waiting_at_tail a n z need; reply = Queued (free a z) } in
             Same (share m a) (share m o.account)) [ true ↦ Same-refl (share m a) | false ↦ name-queued a z need ])
       ]
 
-  pub name-without_map : (a : Account) (z : ℕ) → Same (share m a) (share m (without_map a z n))
+  pub name-without_map : (a : Account) (z : ℕ) → Same (share m a) (share m (without_zone_map a z n))
   name-without_map a z =
       name-with_zone m a z _
       (count_by-filter_keeps (same_map m) (λ k. not (same_map n k)) (zone_at a z).maps
       (λ k h. let none : same_map n k ≡ false = off_name m n k off h in rw none refl)) (λ test on. refl)
 
-  pub name-with_map : (a : Account) (z : ℕ) → Same (share m a) (share m (with_map a z n))
+  pub name-with_map : (a : Account) (z : ℕ) → Same (share m a) (share m (with_zone_map a z n))
   name-with_map a z = name-with_zone m a z _ (count_by-push_no (same_map m) (zone_at a z).maps n off) (λ test on. refl)
 
   still : (z page : ℕ) (h : Held) → same_map m h.map ≡ true → not (is_holding n z page h) ≡ true
@@ -279,7 +280,7 @@ module _ (m n : MapId) (off : same_map m n ≡ false) where
             ]) refl
       ]) refl
 
-  pub name-with_memory : (a : Account) (first k : ℕ) → Same (share m a) (share m (with_memory a n first k))
+  pub name-with_memory : (a : Account) (first k : ℕ) → Same (share m a) (share m (with_memory_run a n first k))
   name-with_memory a first k =
       record {
         made = λ z. refl;
@@ -292,11 +293,12 @@ module _ (m n : MapId) (off : same_map m n ≡ false) where
         frames = frames-push a.mems _ off;
       }
 
-  pub name-placed : (a : Account) (k : ℕ) (first : Option ℕ) → Same (share m a) (share m (placed n k first a).account)
+  pub name-placed : (a : Account) (k : ℕ) (first : Option ℕ) →
+      Same (share m a) (share m (memory_placed n k first a).account)
   name-placed a k None = Same-refl (share m a)
   name-placed a k (Some first) = name-with_memory a first k
 
-  pub name-without_memory : (a : Account) → Same (share m a) (share m (without_memory a n))
+  pub name-without_memory : (a : Account) → Same (share m a) (share m (without_memory_run a n))
   name-without_memory a =
       let keeps : (x : Memory) → same_map m x.mem ≡ true → not (same_map n x.mem) ≡ true =
       (λ x h. let none : same_map n x.mem ≡ false = off_name m n x.mem off h in rw none refl) in
@@ -357,10 +359,10 @@ name-grown m a z n =
     (name-with_zone m (record a { bank = drop n a.bank }) z _ refl (λ test on. refl))
 
 pub name-grown_for : (m : MapId) (t : TagLimits) (a : Account) (n : ℕ) →
-    Same (share m a) (share m (grown (with_zone_for t a) (zone_of t a.zones) n))
+    Same (share m a) (share m (grown (with_zone_for t a) (zone_for_tag t a.zones) n))
 name-grown_for m t a n =
     Same-trans (share m a) (share m (with_zone_for t a)) _ (name-with_zone_for m t a)
-    (name-grown m (with_zone_for t a) (zone_of t a.zones) n)
+    (name-grown m (with_zone_for t a) (zone_for_tag t a.zones) n)
 
 pub name-attached : (m : MapId) (t : TagLimits) (a : Account) → Same (share m a) (share m (attached t a).account)
 name-attached m t a = name-grown_for m t a _
@@ -374,10 +376,10 @@ pub name-created : (m n : MapId) → same_map m n ≡ false → (t : TagLimits) 
     Same (share m a) (share m (created n t first_done a).account)
 name-created m n off t first_done a =
     let b : Account = with_zone_for t a in
-    let z : ℕ = zone_of t a.zones in
+    let z : ℕ = zone_for_tag t a.zones in
     let c : Account = grown b z (added b z (wanted_by_map t first_done (zone_at b z) (total b z) (maxpages t a))) in
     let same : Same (share m a) (share m c) = name-grown_for m t a _ in
-    either m a c (with_map c z n) _ same (Same-trans (share m a) (share m c) _ same (name-with_map m n off c z))
+    either m a c (with_zone_map c z n) _ same (Same-trans (share m a) (share m c) _ same (name-with_map m n off c z))
 
 pub name-released : (m n : MapId) → same_map m n ≡ false → (a : Account) (z page : ℕ) →
     Same (share m a) (share m (released n z page a).account)

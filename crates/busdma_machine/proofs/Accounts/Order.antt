@@ -8,22 +8,25 @@ use Rattle.busdma_machine.specs.declared.name.MapId.{MapId}
 use Rattle.busdma_machine.specs.declared.tags.tag.TagLimits.{TagLimits}
 use Rattle.busdma_machine.specs.declared.bounce.zone.Waiter.{Waiter}
 use Rattle.busdma_machine.specs.declared.bounce.hold.HubCall.{HubCall}
-use Rattle.busdma_machine.specs.declared.bounce.hold.HubCall.TheVariants.{AttachTag, CreateMap, DestroyMap, Grab, Release}
+use Rattle.busdma_machine.specs.declared.bounce.hold.HubCall.TheVariants.{AttachTag, CreateMap, DestroyMap, Grab}
+use Rattle.busdma_machine.specs.declared.bounce.hold.HubCall.TheVariants.{Release}
 use Rattle.busdma_machine.specs.declared.bounce.hold.HubCall.TheVariants.{TakeCallback, MemAlloc, MemFree}
 use Rattle.busdma_machine.specs.declared.bounce.hold.HubReply.TheVariants.{Nothing, Granted, Queued, NoPages, Called}
 use Rattle.busdma_machine.specs.declared.bounce.hold.HoldEntry.{HoldEntry}
 use Rattle.busdma_machine.specs.Bounce.Account.{Account, Zone, zone_at, no_zone, free, total}
-use Rattle.busdma_machine.specs.Bounce.Growth.{with_zone_for, zone_for_tag as zone_of, added}
-use Rattle.busdma_machine.specs.Bounce.Growth.{grown, maxpages, wanted_by_map, with_zone_map as with_map}
-use Rattle.busdma_machine.specs.Bounce.Serving.{complete, handed, waiting_at_tail as queued}
+use Rattle.busdma_machine.specs.Bounce.Growth.{with_zone_for, zone_for_tag, added}
+use Rattle.busdma_machine.specs.Bounce.Growth.{grown, maxpages, wanted_by_map, with_zone_map}
+use Rattle.busdma_machine.specs.Bounce.Serving.{complete, handed, waiting_at_tail}
 use Rattle.busdma_machine.specs.Bounce.Serving.{returned, completed, left_waiting, served}
-use Rattle.busdma_machine.specs.Bounce.AccountStep.{AccountReply as Outcome, account_step, as_pages}
+use Rattle.busdma_machine.specs.Bounce.AccountStep.{AccountReply, account_step, as_pages}
 use Rattle.busdma_machine.specs.Bounce.AccountStep.{attached, created, grabbed, released}
-use Rattle.busdma_machine.specs.Bounce.AccountStep.{called_from, memory_placed as placed}
+use Rattle.busdma_machine.specs.Bounce.AccountStep.{called_from, memory_placed}
 use Rattle.busdma_machine.specs.Bounce.History.{IsSound, after_entry, account_of}
 use Rattle.busdma_machine.specs.Bounce.ServingOrder.{ServesNobody, lacking, first_gets, TooFew, ServesFront}
-use Rattle.busdma_machine.specs.Bounce.ServingOrder.{ServesInOrder, maps_of, joined_by, called_by, joined, called}
-use Rattle.busdma_machine.proofs.Accounts.Counting.{get_or-set_as}
+use Rattle.busdma_machine.specs.Bounce.ServingOrder.{ServesInOrder, maps_of, joined_by}
+use Rattle.busdma_machine.specs.Bounce.ServingOrder.{map_called_by}
+use Rattle.busdma_machine.specs.Bounce.ServingOrder.{maps_joined, maps_called}
+use Rattle.busdma_machine.proofs.Accounts.EditedSums.{get_or-set_as}
 use Rattle.busdma_machine.proofs.Accounts.Names.{get_or-zones_for}
 
 -- a change that keeps the lists of maps and the held pages
@@ -50,9 +53,9 @@ nobody-grown a z n =
     nobody-like a (grown a z n) refl refl (λ y. get_or-set_as (λ (k : Zone). k.wait) a.zones z y
     (record (zone_at a z) { avail = (zone_at a z).avail ++ take n a.bank }) no_zone refl)
 
-nobody-with_map : (a : Account) (z : ℕ) (m : MapId) → ServesNobody a (with_map a z m)
+nobody-with_map : (a : Account) (z : ℕ) (m : MapId) → ServesNobody a (with_zone_map a z m)
 nobody-with_map a z m =
-    nobody-like a (with_map a z m) refl refl
+    nobody-like a (with_zone_map a z m) refl refl
     (λ y. get_or-set_as (λ (k : Zone). k.wait) a.zones z y
     (record (zone_at a z) { maps = (zone_at a z).maps ++ m ∷ [] }) no_zone refl)
 
@@ -68,10 +71,10 @@ pub nobody-created : (m : MapId) (t : TagLimits) (first_done : Bool) (a : Accoun
     ServesNobody a (created m t first_done a).account
 nobody-created m t first_done a =
     let b : Account = with_zone_for t a in
-    let z : ℕ = zone_of t a.zones in
+    let z : ℕ = zone_for_tag t a.zones in
     let c : Account = grown b z (added b z (wanted_by_map t first_done (zone_at b z) (total b z) (maxpages t a))) in
     let same : ServesNobody a c = nobody-trans a b c (nobody-with_zone_for t a) (nobody-grown b z _) in
-    nobody-either a c (with_map c z m) _ same (nobody-trans a c _ same (nobody-with_map c z m))
+    nobody-either a c (with_zone_map c z m) _ same (nobody-trans a c _ same (nobody-with_map c z m))
 
 -- serving begins at the front of the list
 pub serves_front : (pages : ℕ) (ws : List Waiter) → ServesFront pages ws (completed pages ws) (left_waiting pages ws)
@@ -126,10 +129,10 @@ released-order a m z page inside =
 
 -- callbacks leave in the order in which maps joined
 queue-called : (ws : List Waiter) (lane : ℕ) (a : Account) → a.ready ≡ ws →
-    maps_of a.ready ++ [] ≡ called_by (called_from ws lane a).reply ++ maps_of (called_from ws lane a).account.ready
+    maps_of a.ready ++ [] ≡ map_called_by (called_from ws lane a).reply ++ maps_of (called_from ws lane a).account.ready
 queue-called [] lane a is = append-nil (maps_of a.ready)
 queue-called (w ∷ ws) lane a is =
-    elim (eqb w.map.lane.0 lane) as (λ v. let o : Outcome = if v
+    elim (eqb w.map.lane.0 lane) as (λ v. let o : AccountReply = if v
     then record {
       account = handed (record a { ready = ws }) w.map w.zone.0 w.need;
       reply = Called w.map (as_pages (take w.need (zone_at a w.zone.0).avail));
@@ -137,37 +140,38 @@ queue-called (w ∷ ws) lane a is =
       account = a;
       reply =
           Nothing;
-    } in maps_of a.ready ++ [] ≡ called_by o.reply ++ maps_of o.account.ready) [
+    } in maps_of a.ready ++ [] ≡ map_called_by o.reply ++ maps_of o.account.ready) [
       | true ↦ append-nil (maps_of a.ready) ∙ ap maps_of is
       | false ↦ append-nil (maps_of a.ready)
     ]
 
 queue-grabbed : (m : MapId) (z need : ℕ) (nowait : Bool) (a : Account) →
-    maps_of a.ready ++ [] ≡ called_by (grabbed m z need nowait a).reply
+    maps_of a.ready ++ [] ≡ map_called_by (grabbed m z need nowait a).reply
     ++ maps_of (grabbed m z need nowait a).account.ready
 queue-grabbed m z need nowait a =
-    elim (leb need (free a z)) as (λ v. let o : Outcome = if v
+    elim (leb need (free a z)) as (λ v. let o : AccountReply = if v
     then record { account = handed a m z need; reply = Granted (as_pages (take need (zone_at a z).avail)) }
     else (if nowait then record { account = a; reply = NoPages }
-    else record { account = queued a m z need; reply = Queued (free a z) }) in
-    maps_of a.ready ++ [] ≡ called_by o.reply ++ maps_of o.account.ready) [
+    else record { account = waiting_at_tail a m z need; reply = Queued (free a z) }) in
+    maps_of a.ready ++ [] ≡ map_called_by o.reply ++ maps_of o.account.ready) [
       | true ↦ append-nil (maps_of a.ready)
       | false ↦
-          (elim nowait as (λ v. let o : Outcome = if v then record { account = a; reply = NoPages }
-          else record { account = queued a m z need; reply = Queued (free a z) } in
-          maps_of a.ready ++ [] ≡ called_by o.reply ++ maps_of o.account.ready) [
+          (elim nowait as (λ v. let o : AccountReply = if v then record { account = a; reply = NoPages }
+          else record { account = waiting_at_tail a m z need; reply = Queued (free a z) } in
+          maps_of a.ready ++ [] ≡ map_called_by o.reply ++ maps_of o.account.ready) [
             | true ↦ append-nil (maps_of a.ready)
             | false ↦ append-nil (maps_of a.ready)
           ])
     ]
 
 queue-placed : (m : MapId) (n : ℕ) (first : Option ℕ) (a : Account) →
-    maps_of a.ready ++ [] ≡ called_by (placed m n first a).reply ++ maps_of (placed m n first a).account.ready
+    maps_of a.ready ++ [] ≡ map_called_by (memory_placed m n first a).reply
+    ++ maps_of (memory_placed m n first a).account.ready
 queue-placed m n None a = append-nil (maps_of a.ready)
 queue-placed m n (Some first) a = append-nil (maps_of a.ready)
 
 queue-step : (lane : ℕ) (c : HubCall) (a : Account) →
-    maps_of a.ready ++ joined_by c a ≡ called_by (account_step lane c a).reply
+    maps_of a.ready ++ joined_by c a ≡ map_called_by (account_step lane c a).reply
     ++ maps_of (account_step lane c a).account.ready
 queue-step lane (AttachTag t) a = append-nil (maps_of a.ready)
 queue-step lane (CreateMap m t first_done) a =
@@ -182,14 +186,14 @@ queue-step lane (MemAlloc m t) a = queue-placed m _ _ a
 queue-step lane (MemFree m) a = append-nil (maps_of a.ready)
 
 pub queue-history : (a : Account) (es : List HoldEntry) → IsSound a es →
-    maps_of a.ready ++ joined a es ≡ called es ++ maps_of (account_of a es).ready
+    maps_of a.ready ++ maps_joined a es ≡ maps_called es ++ maps_of (account_of a es).ready
 queue-history a [] sound = append-nil (maps_of a.ready)
 queue-history a (e ∷ es) sound =
     let b : Account = after_entry e a in
-    let one : maps_of a.ready ++ joined_by e.call a ≡ called_by e.reply ++ maps_of b.ready =
-    queue-step e.lane.0 e.call a ∙ ap (λ r. called_by r ++ maps_of b.ready) (sym sound.0.reply) in
-    sym (append_assoc (maps_of a.ready) (joined_by e.call a) (joined b es))
-    ∙ ap (λ l. l ++ joined b es) one
-    ∙ append_assoc (called_by e.reply) (maps_of b.ready) (joined b es)
-    ∙ ap (λ l. called_by e.reply ++ l) (queue-history b es sound.1)
-    ∙ sym (append_assoc (called_by e.reply) (called es) (maps_of (account_of b es).ready))
+    let one : maps_of a.ready ++ joined_by e.call a ≡ map_called_by e.reply ++ maps_of b.ready =
+    queue-step e.lane.0 e.call a ∙ ap (λ r. map_called_by r ++ maps_of b.ready) (sym sound.0.reply) in
+    sym (append_assoc (maps_of a.ready) (joined_by e.call a) (maps_joined b es))
+    ∙ ap (λ l. l ++ maps_joined b es) one
+    ∙ append_assoc (map_called_by e.reply) (maps_of b.ready) (maps_joined b es)
+    ∙ ap (λ l. map_called_by e.reply ++ l) (queue-history b es sound.1)
+    ∙ sym (append_assoc (map_called_by e.reply) (maps_called es) (maps_of (account_of b es).ready))

@@ -9,27 +9,29 @@ use Rattle.busdma_machine.specs.declared.name.MapId.{MapId}
 use Rattle.busdma_machine.specs.declared.tags.tag.TagLimits.{TagLimits}
 use Rattle.busdma_machine.specs.declared.bounce.zone.Waiter.{Waiter}
 use Rattle.busdma_machine.specs.declared.bounce.hold.HubCall.{HubCall}
-use Rattle.busdma_machine.specs.declared.bounce.hold.HubCall.TheVariants.{AttachTag, CreateMap, DestroyMap, Grab, Release}
+use Rattle.busdma_machine.specs.declared.bounce.hold.HubCall.TheVariants.{AttachTag, CreateMap, DestroyMap, Grab}
+use Rattle.busdma_machine.specs.declared.bounce.hold.HubCall.TheVariants.{Release}
 use Rattle.busdma_machine.specs.declared.bounce.hold.HubCall.TheVariants.{TakeCallback, MemAlloc, MemFree}
 use Rattle.busdma_machine.specs.declared.bounce.hold.HubReply.TheVariants.{Nothing, Granted, Queued, NoPages, Called}
 use Rattle.busdma_machine.specs.declared.bounce.hold.HoldEntry.{HoldEntry}
-use Rattle.busdma_machine.specs.Bounce.Account.{Account, Zone, Held, Memory, same_map, zone_at, with_zone, no_zone, free}
+use Rattle.busdma_machine.specs.Bounce.Account.{Account, Zone, Held, Memory, same_map, zone_at, with_zone, no_zone}
+use Rattle.busdma_machine.specs.Bounce.Account.{free}
 use Rattle.busdma_machine.specs.Bounce.Account.{total}
-use Rattle.busdma_machine.specs.Bounce.Growth.{serves_tag, zones_for, zone_for_tag as zone_of}
+use Rattle.busdma_machine.specs.Bounce.Growth.{serves_tag, zones_for, zone_for_tag}
 use Rattle.busdma_machine.specs.Bounce.Growth.{with_zone_for, added, grown, maxpages}
-use Rattle.busdma_machine.specs.Bounce.Growth.{wanted_by_map, with_zone_map as with_map}
-use Rattle.busdma_machine.specs.Bounce.Serving.{is_holding, handed, waiting_at_tail as queued}
+use Rattle.busdma_machine.specs.Bounce.Growth.{wanted_by_map, with_zone_map}
+use Rattle.busdma_machine.specs.Bounce.Serving.{is_holding, handed, waiting_at_tail}
 use Rattle.busdma_machine.specs.Bounce.Serving.{returned, completed, left_waiting, served}
-use Rattle.busdma_machine.specs.Bounce.MemoryRuns.{in_run, with_memory_run as with_memory, put_in}
-use Rattle.busdma_machine.specs.Bounce.MemoryRuns.{put_all, frames_of, without_memory_run as without_memory}
-use Rattle.busdma_machine.specs.Bounce.AccountStep.{AccountReply as Outcome, account_step, as_pages}
+use Rattle.busdma_machine.specs.Bounce.MemoryRuns.{in_run, with_memory_run, put_in}
+use Rattle.busdma_machine.specs.Bounce.MemoryRuns.{put_all, frames_of, without_memory_run}
+use Rattle.busdma_machine.specs.Bounce.AccountStep.{AccountReply, account_step, as_pages}
 use Rattle.busdma_machine.specs.Bounce.AccountStep.{created, grabbed, called_from}
-use Rattle.busdma_machine.specs.Bounce.AccountStep.{memory_placed as placed}
+use Rattle.busdma_machine.specs.Bounce.AccountStep.{memory_placed}
 use Rattle.busdma_machine.specs.Bounce.Conditions.{MayCall, times_held}
 use Rattle.busdma_machine.specs.Bounce.History.{IsRising, IsOpening, IsSound, after_entry, account_of}
 use Rattle.busdma_machine.specs.Bounce.Places.{times, places, frames_where, frame_total}
-use Rattle.busdma_machine.specs.Bounce.WellFormed.{IsWellFormed}
-use Rattle.busdma_machine.proofs.Accounts.Counting.{count_by-append, sum_by-set_like}
+use Rattle.busdma_machine.specs.Bounce.WellFormed.{IsAccountWellFormed}
+use Rattle.busdma_machine.proofs.Accounts.EditedSums.{count_by-append, sum_by-set_like}
 use Rattle.busdma_machine.proofs.Accounts.Counts.{in_zones, head-inside}
 use Rattle.busdma_machine.proofs.Accounts.Names.{sum_by-zones_for, and_left}
 use Rattle.busdma_machine.proofs.Accounts.WellFormed.{held-inside, well-step, well-opening}
@@ -148,10 +150,10 @@ where-zones_for : (chosen : ℕ → Bool) (t : TagLimits) (a : Account) →
 where-zones_for chosen t a = omega (arith, sum_by-zones_for t (λ (k : Zone). count_by chosen k.avail) refl a.zones)
 
 -- the zone of a tag is among the zones once a missing one is added
-pub zone_of-inside : (t : TagLimits) (zs : List Zone) → zone_of t zs < length (zones_for t zs)
+pub zone_of-inside : (t : TagLimits) (zs : List Zone) → zone_for_tag t zs < length (zones_for t zs)
 zone_of-inside t [] = omega arith
 zone_of-inside t (z ∷ zs) =
-    elim (serves_tag t z) as (λ v. (if v then 0 else suc (zone_of t zs)) < length
+    elim (serves_tag t z) as (λ v. (if v then 0 else suc (zone_for_tag t zs)) < length
     (z ∷ (if v then zs else zones_for t zs))) [
       | true ↦ omega arith
       | false ↦ omega (arith, zone_of-inside t zs)
@@ -216,7 +218,7 @@ where-served chosen a z =
 
 -- frames go to a memory, and come back
 where-with_memory : (chosen : ℕ → Bool) (a : Account) (m : MapId) (first n : ℕ) →
-    frames_where chosen (with_memory a m first n) ≡ frames_where chosen a
+    frames_where chosen (with_memory_run a m first n) ≡ frames_where chosen a
 where-with_memory chosen a m first n =
     let x : Memory = record { mem = m; frames = filter (in_run first n) a.bank } in
     omega (
@@ -250,14 +252,15 @@ mems-split chosen m (x ∷ xs) =
     ]
 
 where-without_memory : (chosen : ℕ → Bool) (a : Account) (m : MapId) →
-    frames_where chosen (without_memory a m) ≡ frames_where chosen a
+    frames_where chosen (without_memory_run a m) ≡ frames_where chosen a
 where-without_memory chosen a m =
     omega (arith, count-put_all chosen (frames_of m a.mems) a.bank, mems-split chosen m a.mems)
 
 -- each call
 where-grown_for : (chosen : ℕ → Bool) (t : TagLimits) (a : Account) (n : ℕ) →
-    frames_where chosen (grown (with_zone_for t a) (zone_of t a.zones) n) ≡ frames_where chosen a
-where-grown_for chosen t a n = where-grown chosen (with_zone_for t a) (zone_of t a.zones) n (zone_of-inside t a.zones)
+    frames_where chosen (grown (with_zone_for t a) (zone_for_tag t a.zones) n) ≡ frames_where chosen a
+where-grown_for chosen t a n = where-grown chosen (with_zone_for t a) (zone_for_tag t a.zones) n
+    (zone_of-inside t a.zones)
     ∙ where-zones_for chosen t a
 
 where-either : (chosen : ℕ → Bool) (k : ℕ) (b c : Account) (v : Bool) → frames_where chosen b ≡ k →
@@ -269,34 +272,34 @@ where-created : (chosen : ℕ → Bool) (m : MapId) (t : TagLimits) (first_done 
     frames_where chosen (created m t first_done a).account ≡ frames_where chosen a
 where-created chosen m t first_done a =
     let b : Account = with_zone_for t a in
-    let z : ℕ = zone_of t a.zones in
+    let z : ℕ = zone_for_tag t a.zones in
     let c : Account = grown b z (added b z (wanted_by_map t first_done (zone_at b z) (total b z) (maxpages t a))) in
     let same : frames_where chosen c ≡ frames_where chosen a = where-grown_for chosen t a _ in
-    where-either chosen (frames_where chosen a) c (with_map c z m) _ same (where-same chosen c z _ refl ∙ same)
+    where-either chosen (frames_where chosen a) c (with_zone_map c z m) _ same (where-same chosen c z _ refl ∙ same)
 
 where-grabbed : (chosen : ℕ → Bool) (m : MapId) (z need : ℕ) (nowait : Bool) (a : Account) → z < length a.zones →
     frames_where chosen (grabbed m z need nowait a).account ≡ frames_where chosen a
 where-grabbed chosen m z need nowait a inside =
-    elim (leb need (free a z)) as (λ v. let o : Outcome = if v
+    elim (leb need (free a z)) as (λ v. let o : AccountReply = if v
     then record { account = handed a m z need; reply = Granted (as_pages (take need (zone_at a z).avail)) }
     else (if nowait then record { account = a; reply = NoPages }
-    else record { account = queued a m z need; reply = Queued (free a z) }) in
+    else record { account = waiting_at_tail a m z need; reply = Queued (free a z) }) in
     frames_where chosen o.account ≡ frames_where chosen a) [
       | true ↦ where-handed chosen a m z need inside
       | false ↦
-          (elim nowait as (λ v. let o : Outcome = if v then record { account = a; reply = NoPages }
-          else record { account = queued a m z need; reply = Queued (free a z) } in
+          (elim nowait as (λ v. let o : AccountReply = if v then record { account = a; reply = NoPages }
+          else record { account = waiting_at_tail a m z need; reply = Queued (free a z) } in
           frames_where chosen o.account ≡ frames_where chosen a) [
             | true ↦ refl
             | false ↦ where-same chosen a z _ refl
           ])
     ]
 
-where-called : (chosen : ℕ → Bool) (ws : List Waiter) (lane : ℕ) (a : Account) → a.ready ≡ ws → IsWellFormed a →
+where-called : (chosen : ℕ → Bool) (ws : List Waiter) (lane : ℕ) (a : Account) → a.ready ≡ ws → IsAccountWellFormed a →
     frames_where chosen (called_from ws lane a).account ≡ frames_where chosen a
 where-called chosen [] lane a is well = refl
 where-called chosen (w ∷ ws) lane a is well =
-    elim (eqb w.map.lane.0 lane) as (λ v. let o : Outcome = if v
+    elim (eqb w.map.lane.0 lane) as (λ v. let o : AccountReply = if v
     then record {
       account = handed (record a { ready = ws }) w.map w.zone.0 w.need;
       reply = Called w.map (as_pages (take w.need (zone_at a w.zone.0).avail));
@@ -310,11 +313,11 @@ where-called chosen (w ∷ ws) lane a is well =
     ]
 
 where-placed : (chosen : ℕ → Bool) (m : MapId) (n : ℕ) (first : Option ℕ) (a : Account) →
-    frames_where chosen (placed m n first a).account ≡ frames_where chosen a
+    frames_where chosen (memory_placed m n first a).account ≡ frames_where chosen a
 where-placed chosen m n None a = refl
 where-placed chosen m n (Some first) a = where-with_memory chosen a m first n
 
-pub where-step : (chosen : ℕ → Bool) (lane : ℕ) (c : HubCall) (a : Account) → MayCall lane c a → IsWellFormed a →
+pub where-step : (chosen : ℕ → Bool) (lane : ℕ) (c : HubCall) (a : Account) → MayCall lane c a → IsAccountWellFormed a →
     frames_where chosen (account_step lane c a).account ≡ frames_where chosen a
 where-step chosen lane (AttachTag t) a may well = where-grown_for chosen t a _
 where-step chosen lane (CreateMap m t first_done) a may well = where-created chosen m t first_done a
@@ -328,7 +331,7 @@ where-step chosen lane TakeCallback a may well = where-called chosen a.ready lan
 where-step chosen lane (MemAlloc m t) a may well = where-placed chosen m _ _ a
 where-step chosen lane (MemFree m) a may well = where-without_memory chosen a m
 
-pub where-history : (chosen : ℕ → Bool) (a : Account) (es : List HoldEntry) → IsWellFormed a → IsSound a es →
+pub where-history : (chosen : ℕ → Bool) (a : Account) (es : List HoldEntry) → IsAccountWellFormed a → IsSound a es →
     frames_where chosen (account_of a es) ≡ frames_where chosen a
 where-history chosen a [] well sound = refl
 where-history chosen a (e ∷ es) well sound =

@@ -9,21 +9,22 @@ use Rattle.busdma_machine.specs.declared.name.MapId.{MapId}
 use Rattle.busdma_machine.specs.declared.bounce.zone.Waiter.{Waiter}
 use Rattle.busdma_machine.specs.declared.tags.tag.TagLimits.{TagLimits}
 use Rattle.busdma_machine.specs.declared.bounce.hold.HubCall.{HubCall}
-use Rattle.busdma_machine.specs.declared.bounce.hold.HubCall.TheVariants.{AttachTag, CreateMap, DestroyMap, Grab, Release}
+use Rattle.busdma_machine.specs.declared.bounce.hold.HubCall.TheVariants.{AttachTag, CreateMap, DestroyMap, Grab}
+use Rattle.busdma_machine.specs.declared.bounce.hold.HubCall.TheVariants.{Release}
 use Rattle.busdma_machine.specs.declared.bounce.hold.HubCall.TheVariants.{TakeCallback, MemAlloc, MemFree}
 use Rattle.busdma_machine.specs.declared.bounce.hold.HubReply.TheVariants.{Nothing, Granted, Queued, NoPages, Called}
 use Rattle.busdma_machine.specs.declared.bounce.hold.HoldEntry.{HoldEntry}
 use Rattle.busdma_machine.specs.Bounce.Account.{Account, zone_at, free}
-use Rattle.busdma_machine.specs.Bounce.Growth.{with_zone_for, zone_for_tag as zone_of}
-use Rattle.busdma_machine.specs.Bounce.Growth.{grown, growth_for_map, with_zone_map as with_map}
-use Rattle.busdma_machine.specs.Bounce.Serving.{handed, waiting_at_tail as queued}
+use Rattle.busdma_machine.specs.Bounce.Growth.{with_zone_for, zone_for_tag}
+use Rattle.busdma_machine.specs.Bounce.Growth.{grown, growth_for_map, with_zone_map}
+use Rattle.busdma_machine.specs.Bounce.Serving.{handed, waiting_at_tail}
 use Rattle.busdma_machine.specs.Bounce.MemoryRuns.{in_run, put_in, put_all, frames_of}
-use Rattle.busdma_machine.specs.Bounce.AccountStep.{AccountReply as Outcome, account_step, as_pages}
+use Rattle.busdma_machine.specs.Bounce.AccountStep.{AccountReply, account_step, as_pages}
 use Rattle.busdma_machine.specs.Bounce.AccountStep.{created, grabbed, called_from}
-use Rattle.busdma_machine.specs.Bounce.AccountStep.{memory_placed as placed}
+use Rattle.busdma_machine.specs.Bounce.AccountStep.{memory_placed}
 use Rattle.busdma_machine.specs.Bounce.History.{IsRising, IsOpening, IsSound, after_entry, account_of}
 use Rattle.busdma_machine.specs.Bounce.Places.{times, places}
-use Rattle.busdma_machine.specs.Bounce.WellFormed.{IsWellFormed}
+use Rattle.busdma_machine.specs.Bounce.WellFormed.{IsAccountWellFormed}
 use Rattle.busdma_machine.proofs.Accounts.Places.{count-put_all, times-rising, places-opening, where-step, mems-split}
 use Rattle.busdma_machine.proofs.Accounts.WellFormed.{well-step, well-opening}
 
@@ -108,22 +109,22 @@ rising-created : (m : MapId) (t : TagLimits) (first_done : Bool) (a : Account) �
     IsRising (created m t first_done a).account.bank
 rising-created m t first_done a rising =
     let b : Account = with_zone_for t a in
-    let z : ℕ = zone_of t a.zones in
+    let z : ℕ = zone_for_tag t a.zones in
     let c : Account = grown b z (growth_for_map t first_done b z).added in
     let rest : IsRising c.bank = drop_rises _ a.bank rising in
-    either_rises c (with_map c z m) _ rest rest
+    either_rises c (with_zone_map c z m) _ rest rest
 
 rising-grabbed : (m : MapId) (z need : ℕ) (nowait : Bool) (a : Account) → IsRising a.bank →
     IsRising (grabbed m z need nowait a).account.bank
 rising-grabbed m z need nowait a rising =
-    elim (leb need (free a z)) as (λ v. let o : Outcome = if v
+    elim (leb need (free a z)) as (λ v. let o : AccountReply = if v
     then record { account = handed a m z need; reply = Granted (as_pages (take need (zone_at a z).avail)) }
     else (if nowait then record { account = a; reply = NoPages }
-    else record { account = queued a m z need; reply = Queued (free a z) }) in IsRising o.account.bank) [
+    else record { account = waiting_at_tail a m z need; reply = Queued (free a z) }) in IsRising o.account.bank) [
       | true ↦ rising
       | false ↦
-          (elim nowait as (λ v. let o : Outcome = if v then record { account = a; reply = NoPages }
-          else record { account = queued a m z need; reply = Queued (free a z) } in
+          (elim nowait as (λ v. let o : AccountReply = if v then record { account = a; reply = NoPages }
+          else record { account = waiting_at_tail a m z need; reply = Queued (free a z) } in
           IsRising o.account.bank) [ true ↦ rising | false ↦ rising ])
     ]
 
@@ -131,7 +132,7 @@ rising-called : (ws : List Waiter) (lane : ℕ) (a : Account) → IsRising a.ban
     IsRising (called_from ws lane a).account.bank
 rising-called [] lane a rising = rising
 rising-called (w ∷ ws) lane a rising =
-    elim (eqb w.map.lane.0 lane) as (λ v. let o : Outcome = if v
+    elim (eqb w.map.lane.0 lane) as (λ v. let o : AccountReply = if v
     then record {
       account = handed (record a { ready = ws }) w.map w.zone.0 w.need;
       reply = Called w.map (as_pages (take w.need (zone_at a w.zone.0).avail));
@@ -145,7 +146,7 @@ rising-called (w ∷ ws) lane a rising =
     ]
 
 rising-placed : (m : MapId) (n : ℕ) (first : Option ℕ) (a : Account) → IsRising a.bank →
-    IsRising (placed m n first a).account.bank
+    IsRising (memory_placed m n first a).account.bank
 rising-placed m n None a rising = rising
 rising-placed m n (Some first) a rising = filter_rises (λ f. not (in_run first n f)) a.bank rising
 
@@ -161,7 +162,8 @@ rising-step lane (MemAlloc m t) a once rising = rising-placed m _ _ a rising
 rising-step lane (MemFree m) a once rising =
     all_put_rise (frames_of m a.mems) a.bank rising (λ p. omega (arith, once p, mems-split (λ f. f == p) m a.mems))
 
-rising-history : (a : Account) (es : List HoldEntry) → IsWellFormed a → ((p : ℕ) → places p a ≤ 1) → IsRising a.bank →
+rising-history : (a : Account) (es : List HoldEntry) → IsAccountWellFormed a → ((p : ℕ) → places p a ≤ 1) →
+    IsRising a.bank →
     IsSound a es → IsRising (account_of a es).bank
 rising-history a [] well once rising sound = rising
 rising-history a (e ∷ es) well once rising sound =

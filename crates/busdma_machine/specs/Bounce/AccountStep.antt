@@ -7,7 +7,8 @@ use Rattle.busdma_machine.specs.declared.tags.tag.TagLimits.{TagLimits}
 use Rattle.busdma_machine.specs.declared.bounce.zone.Grown.{Grown as GrownBy}
 use Rattle.busdma_machine.specs.declared.bounce.zone.Waiter.{Waiter}
 use Rattle.busdma_machine.specs.declared.bounce.hold.HubCall.{HubCall}
-use Rattle.busdma_machine.specs.declared.bounce.hold.HubCall.TheVariants.{AttachTag, CreateMap, DestroyMap, Grab, Release}
+use Rattle.busdma_machine.specs.declared.bounce.hold.HubCall.TheVariants.{AttachTag, CreateMap, DestroyMap, Grab}
+use Rattle.busdma_machine.specs.declared.bounce.hold.HubCall.TheVariants.{Release}
 use Rattle.busdma_machine.specs.declared.bounce.hold.HubCall.TheVariants.{TakeCallback, MemAlloc, MemFree}
 use Rattle.busdma_machine.specs.declared.bounce.hold.HubReply.{HubReply}
 use Rattle.busdma_machine.specs.declared.bounce.hold.HubReply.TheVariants.{Nothing, Grown, Granted, Queued, NoPages}
@@ -73,7 +74,8 @@ called_from (w ∷ ws) lane a =
 -- a memory gets the n frames from the first of a run on, if there is a run
 abbrev pub memory_placed : MapId → ℕ → Option ℕ → Account → AccountReply
 memory_placed m n None a = record { account = a; reply = NoRun }
-memory_placed m n (Some first) a = record { account = with_memory_run a m first n; reply = Run (record { 0 = first }) n }
+memory_placed m n (Some first) a =
+    record { account = with_memory_run a m first n; reply = Run (record { 0 = first }) n }
 
 -- the account after a lane's call, and the reply
 abbrev pub account_step : ℕ → HubCall → Account → AccountReply

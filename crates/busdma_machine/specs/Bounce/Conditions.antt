@@ -3,7 +3,8 @@ use Rattle.std.specs.Prelude.{◌≡◌, ℕ, ◌+◌, ◌≤◌, List, IsTrue}
 use Rattle.std.specs.List.{count_by, sum_by}
 use Rattle.busdma_machine.specs.declared.name.MapId.{MapId}
 use Rattle.busdma_machine.specs.declared.bounce.hold.HubCall.{HubCall}
-use Rattle.busdma_machine.specs.declared.bounce.hold.HubCall.TheVariants.{AttachTag, CreateMap, DestroyMap, Grab, Release}
+use Rattle.busdma_machine.specs.declared.bounce.hold.HubCall.TheVariants.{AttachTag, CreateMap, DestroyMap, Grab}
+use Rattle.busdma_machine.specs.declared.bounce.hold.HubCall.TheVariants.{Release}
 use Rattle.busdma_machine.specs.declared.bounce.hold.HubCall.TheVariants.{TakeCallback, MemAlloc, MemFree}
 use Rattle.busdma_machine.specs.Bounce.Account.{Account, Zone, zone_at, same_map}
 use Rattle.busdma_machine.specs.Bounce.Serving.{is_holding}

@@ -5,10 +5,12 @@ use Rattle.busdma_machine.specs.declared.name.MapId.{MapId}
 use Rattle.busdma_machine.specs.declared.bounce.hold.HubCall.{HubCall}
 use Rattle.busdma_machine.specs.declared.bounce.hold.HubCall.TheVariants.{TakeCallback}
 use Rattle.busdma_machine.specs.declared.bounce.hold.HubReply.{HubReply}
-use Rattle.busdma_machine.specs.declared.bounce.hold.HubReply.TheVariants.{Nothing, Granted, Queued, NoPages, Run, NoRun}
+use Rattle.busdma_machine.specs.declared.bounce.hold.HubReply.TheVariants.{Nothing, Granted, Queued, NoPages, Run}
+use Rattle.busdma_machine.specs.declared.bounce.hold.HubReply.TheVariants.{NoRun}
 use Rattle.busdma_machine.specs.declared.bounce.hold.HoldEntry.{HoldEntry}
 use Rattle.busdma_machine.specs.declared.bounce.door.Grabbed.{Grabbed}
-use Rattle.busdma_machine.specs.declared.bounce.door.Grabbed.TheVariants.{Granted as GrantedPages, Queued as QueuedPages}
+use Rattle.busdma_machine.specs.declared.bounce.door.Grabbed.TheVariants.{Granted as GrantedPages}
+use Rattle.busdma_machine.specs.declared.bounce.door.Grabbed.TheVariants.{Queued as QueuedPages}
 use Rattle.busdma_machine.specs.declared.bounce.door.Grabbed.TheVariants.{NoPages as NoPagesFree}
 use Rattle.busdma_machine.specs.Bounce.Account.{Account}
 use Rattle.busdma_machine.specs.Bounce.AccountStep.{account_step, as_pages}
@@ -44,7 +46,7 @@ pub record Passes (d : Seen) (others : List HoldEntry) (e : Seen) : Type 0 where
 
 -- the call was made: the door's new history is the old one, then holds of lanes that the door does not serve, then the
 -- call with the account's reply
-pub record Holds (d : Seen) (lane : ℕ) (c : HubCall) (r : HubReply) (e : Seen) : Type 0 where
+pub record HoldsAtDoor (d : Seen) (lane : ℕ) (c : HubCall) (r : HubReply) (e : Seen) : Type 0 where
   pub between : Seen
   pub others : List HoldEntry
   pub passes : Passes d others between
@@ -61,7 +63,7 @@ pub record Misses (d : Seen) (lane : ℕ) (e : Seen) : Type 0 where
   pub reply : (account_step lane TakeCallback (account e)).reply ≡ Nothing
 
 -- memory ran out and the call was not made; only holds of lanes that the door does not serve may have been added
-pub record Fails (d e : Seen) : Type 0 where
+pub record FailsAtDoor (d e : Seen) : Type 0 where
   pub others : List HoldEntry
   pub passes : Passes d others e
 

@@ -23,9 +23,9 @@ completed_by z (Release m y page) a = if y.0 == z then joined_by (Release m y pa
 completed_by z _ a = []
 
 -- the map of a zone whose callback a reply calls, if the callback list was this one before the call
-abbrev pub called_from : ℕ → HubReply → List Waiter → List MapId
-called_from z (Called m pages) (w ∷ ws) = if w.zone.0 == z then m ∷ [] else []
-called_from z _ _ = []
+abbrev pub called_of_zone : ℕ → HubReply → List Waiter → List MapId
+called_of_zone z (Called m pages) (w ∷ ws) = if w.zone.0 == z then m ∷ [] else []
+called_of_zone z _ _ = []
 
 -- the maps that begin to wait for pages of a zone in a history, in order
 abbrev pub queued_in : ℕ → List HoldEntry → List MapId
@@ -38,9 +38,9 @@ completed_in z a [] = []
 completed_in z a (e ∷ es) = completed_by z e.call a ++ completed_in z (after_entry e a) es
 
 -- the maps of a zone whose callbacks are called in a history, in order
-abbrev pub called_in : ℕ → Account → List HoldEntry → List MapId
-called_in z a [] = []
-called_in z a (e ∷ es) = called_from z e.reply a.ready ++ called_in z (after_entry e a) es
+abbrev pub called_in_zone : ℕ → Account → List HoldEntry → List MapId
+called_in_zone z a [] = []
+called_in_zone z a (e ∷ es) = called_of_zone z e.reply a.ready ++ called_in_zone z (after_entry e a) es
 
 -- the maps that wait for pages of a zone, in order
 abbrev pub waiting_in : ℕ → Account → List MapId
@@ -51,5 +51,5 @@ abbrev pub ready_in : ℕ → Account → List MapId
 ready_in z a = maps_of (filter (λ w. w.zone.0 == z) a.ready)
 
 -- the line of a zone: its maps in the callback list, followed by its maps that wait
-abbrev pub line : ℕ → Account → List MapId
-line z a = ready_in z a ++ waiting_in z a
+abbrev pub zone_line : ℕ → Account → List MapId
+zone_line z a = ready_in z a ++ waiting_in z a

@@ -40,14 +40,14 @@ account_of a [] = a
 account_of a (e ∷ es) = account_of (after_entry e a) es
 
 -- a call with this reply is entered in the history, unless it asked for a callback and found none
-abbrev pub is_kept : HubCall → HubReply → Bool
-is_kept TakeCallback Nothing = false
-is_kept _ _ = true
+abbrev pub is_entry : HubCall → HubReply → Bool
+is_entry TakeCallback Nothing = false
+is_entry _ _ = true
 
 -- an entry that belongs in the history: the account allows its call, and its reply is the account's
 pub record IsSoundEntry (e : HoldEntry) (a : Account) : Type 0 where
   pub may : MayCall e.lane.0 e.call a
-  pub kept : IsTrue (is_kept e.call e.reply)
+  pub kept : IsTrue (is_entry e.call e.reply)
   pub reply : e.reply ≡ (account_step e.lane.0 e.call a).reply
 
 -- a history is sound: each entry is sound in the account before it

@@ -61,16 +61,16 @@ joined_by (Release m z page) a =
 joined_by _ a = []
 
 -- the map whose callback a reply calls, if it calls one
-abbrev pub called_by : HubReply → List MapId
-called_by (Called m pages) = m ∷ []
-called_by _ = []
+abbrev pub map_called_by : HubReply → List MapId
+map_called_by (Called m pages) = m ∷ []
+map_called_by _ = []
 
 -- the maps that a history moves to the callback list, in order
-abbrev pub joined : Account → List HoldEntry → List MapId
-joined a [] = []
-joined a (e ∷ es) = joined_by e.call a ++ joined (after_entry e a) es
+abbrev pub maps_joined : Account → List HoldEntry → List MapId
+maps_joined a [] = []
+maps_joined a (e ∷ es) = joined_by e.call a ++ maps_joined (after_entry e a) es
 
 -- the maps whose callbacks a history calls, in order
-abbrev pub called : List HoldEntry → List MapId
-called [] = []
-called (e ∷ es) = called_by e.reply ++ called es
+abbrev pub maps_called : List HoldEntry → List MapId
+maps_called [] = []
+maps_called (e ∷ es) = map_called_by e.reply ++ maps_called es

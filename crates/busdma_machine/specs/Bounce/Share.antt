@@ -33,8 +33,8 @@ pub record Same (s t : Share) : Type 0 where
   pub frames : t.frames ≡ s.frames
 
 -- a waiter is this map, and needs `need` pages of this zone
-abbrev pub is_waiting : MapId → ℕ → ℕ → Waiter → Bool
-is_waiting m z need w = (w.need == need) && ((w.zone.0 == z) && same_map m w.map)
+abbrev pub is_waiter : MapId → ℕ → ℕ → Waiter → Bool
+is_waiter m z need w = (w.need == need) && ((w.zone.0 == z) && same_map m w.map)
 
 -- how many waiters pass a test, in the zones' waiting lists and the callback list together
 abbrev pub waiters : (Waiter → Bool) → Account → ℕ
@@ -47,7 +47,7 @@ share m a = record {
   in_zones = times_in_zones m a.zones;
   holds = pages_held m a;
   holds_page = λ z page. times_held m z page a;
-  waits = λ z need. waiters (is_waiting m z need) a;
+  waits = λ z need. waiters (is_waiter m z need) a;
   listed = times_listed m a;
   mems = memories m a;
   frames = frames_of m a.mems;

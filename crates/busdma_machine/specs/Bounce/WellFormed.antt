@@ -11,7 +11,7 @@ pub record Lacks (z : ℕ) (w : Waiter) : Type 0 where
 -- the lists of an account fit together: no map holds a page of a zone that does not exist, no zone has more pages
 -- promised than in its list, each waiting map is in the list of its own zone and lacks pages, and each map in the
 -- callback list needs at least one page
-pub record IsWellFormed (a : Account) : Type 0 where
+pub record IsAccountWellFormed (a : Account) : Type 0 where
   pub inside : (z : ℕ) → length a.zones ≤ z → active a z ≡ 0
   pub enough : (z : ℕ) → reserved a z ≤ length (zone_at a z).avail
   pub waits : (z : ℕ) → All (Lacks z) (zone_at a z).wait

@@ -31,24 +31,24 @@ low_tag = record {
 }
 
 -- the map that the operation at place n of driver 0's script made
-abbrev pub map_of : ℕ → MapId
-map_of n = record { lane = record { 0 = 0 }; made_at = n }
+abbrev pub example_map : ℕ → MapId
+example_map n = record { lane = record { 0 = 0 }; made_at = n }
 
 -- the twelve calls of the example, each with its lane
-abbrev pub calls : List (ℕ × HubCall)
-calls =
-    (0, CreateMap (map_of 1) low_tag false)
-    ∷ (0, CreateMap (map_of 2) low_tag true)
-    ∷ (0, Grab (map_of 1) (record { 0 = 0 }) 2 false)
-    ∷ (0, Grab (map_of 2) (record { 0 = 0 }) 2 true)
-    ∷ (0, Grab (map_of 2) (record { 0 = 0 }) 2 false)
-    ∷ (0, Release (map_of 1) (record { 0 = 0 }) (record { 0 = 0x10000 }))
-    ∷ (0, Release (map_of 1) (record { 0 = 0 }) (record { 0 = 0x11000 }))
+abbrev pub example_calls : List (ℕ × HubCall)
+example_calls =
+    (0, CreateMap (example_map 1) low_tag false)
+    ∷ (0, CreateMap (example_map 2) low_tag true)
+    ∷ (0, Grab (example_map 1) (record { 0 = 0 }) 2 false)
+    ∷ (0, Grab (example_map 2) (record { 0 = 0 }) 2 true)
+    ∷ (0, Grab (example_map 2) (record { 0 = 0 }) 2 false)
+    ∷ (0, Release (example_map 1) (record { 0 = 0 }) (record { 0 = 0x10000 }))
+    ∷ (0, Release (example_map 1) (record { 0 = 0 }) (record { 0 = 0x11000 }))
     ∷ (1, TakeCallback)
     ∷ (0, TakeCallback)
-    ∷ (0, DestroyMap (map_of 1) (record { 0 = 0 }))
-    ∷ (0, MemAlloc (map_of 3) (record low_tag { boundary = 4096 }))
-    ∷ (0, MemAlloc (map_of 4) low_tag)
+    ∷ (0, DestroyMap (example_map 1) (record { 0 = 0 }))
+    ∷ (0, MemAlloc (example_map 3) (record low_tag { boundary = 4096 }))
+    ∷ (0, MemAlloc (example_map 4) low_tag)
     ∷ []
 
 -- the reply to each call of the example
@@ -62,7 +62,7 @@ replies =
     ∷ Served 0
     ∷ Served 1
     ∷ Nothing
-    ∷ Called (map_of 2) (as_pages (0x11000 ∷ 0x10000 ∷ []))
+    ∷ Called (example_map 2) (as_pages (0x11000 ∷ 0x10000 ∷ []))
     ∷ Nothing
     ∷ NoRun
     ∷ Run (record { 0 = 0x12000 }) 2

@@ -55,11 +55,11 @@ others_of (Of e false r ∷ ps) = e ∷ others_of ps
 others_of (Unmapped n ∷ ps) = others_of ps
 
 -- the entries of a stream: an entry begins at each extent that opens, and ends before the next that does
-abbrev pub entries_of : List Part → List Entry
-entries_of [] = []
-entries_of (Of e true r ∷ ps) = record { rounded = r; parts = e ∷ others_of ps } ∷ entries_of ps
-entries_of (Of e false r ∷ ps) = entries_of ps
-entries_of (Unmapped n ∷ ps) = entries_of ps
+abbrev pub stream_entries : List Part → List Entry
+stream_entries [] = []
+stream_entries (Of e true r ∷ ps) = record { rounded = r; parts = e ∷ others_of ps } ∷ stream_entries ps
+stream_entries (Of e false r ∷ ps) = stream_entries ps
+stream_entries (Unmapped n ∷ ps) = stream_entries ps
 
 -- the offset of the first byte of a stream that cannot be reached, if there is one
 abbrev pub unmapped_of : List Part → Option ℕ
@@ -70,8 +70,8 @@ unmapped_of (Unmapped n ∷ ps) = Some n
 -- the stream of a load: its first extent opens an entry, and its entries have at most 2^20 bytes
 pub record IsStream (ps : List Part) : Type 0 where
   pub opens : others_of ps ≡ []
-  pub entries : AllByRecursion IsEntry (entries_of ps)
-  pub bytes : entries_bytes (entries_of ps) ≤ 2 ^ 20
+  pub entries : AllByRecursion IsEntry (stream_entries ps)
+  pub bytes : entries_bytes (stream_entries ps) ≤ 2 ^ 20
 
 -- extents as parts of a stream; `opens` says whether the first of them opens an entry
 abbrev pub extent_parts : Bool → Bool → List Extent → List Part

@@ -16,5 +16,5 @@ abbrev pub page_addresses : List FrameBytes → List ℕ
 page_addresses pages = map page_address pages
 
 -- the frame numbers of pages, in order
-abbrev pub frames_of : List FrameBytes → List ℕ
-frames_of pages = map (λ p. p.frame) pages
+abbrev pub page_frames : List FrameBytes → List ℕ
+page_frames pages = map (λ p. p.frame) pages

@@ -7,22 +7,24 @@ ghost use Rattle.busdma_machine.specs.declared.bounce.hold.HubCall.{HubCall};
 ghost use Rattle.busdma_machine.specs.declared.bounce.hold.HoldEntry.{HoldEntry};
 ghost use Rattle.busdma_machine.specs.Bounce.Account.{Account, free, reserved, active, total, counts};
 ghost use Rattle.busdma_machine.specs.Bounce.Conditions.{MayCall};
-ghost use Rattle.busdma_machine.specs.Bounce.FirstCome.{called_in, completed_in, line, queued_in, waiting_in};
+ghost use Rattle.busdma_machine.specs.Bounce.FirstCome.{called_in_zone, completed_in, zone_line, queued_in, waiting_in};
 ghost use Rattle.busdma_machine.specs.Bounce.History.{IsRising, IsOpening, IsSound, account_of};
-ghost use Rattle.busdma_machine.specs.Bounce.WellFormed.{IsWellFormed};
+ghost use Rattle.busdma_machine.specs.Bounce.WellFormed.{IsAccountWellFormed as IsWellFormed};
 ghost use Rattle.busdma_machine.specs.Bounce.SameFor.{SameFor};
 ghost use Rattle.busdma_machine.specs.Bounce.MemoryRuns.{frames_of};
 ghost use Rattle.busdma_machine.specs.Bounce.Places.{places, times_lent, frame_total};
 ghost use Rattle.busdma_machine.specs.Bounce.AccountStep.{attached, created, released};
 ghost use Rattle.busdma_machine.specs.Bounce.Serving.{returned};
-ghost use Rattle.busdma_machine.specs.Bounce.ServingOrder.{ServesNobody, ServesInOrder, maps_of, joined, called};
-ghost use Rattle.busdma_machine.specs.Bounce.WorkedExample.{small_machine, calls, replies, counts_after, answers};
+ghost use Rattle.busdma_machine.specs.Bounce.ServingOrder.{ServesNobody, ServesInOrder};
+ghost use Rattle.busdma_machine.specs.Bounce.ServingOrder.{maps_of, maps_joined, maps_called as called};
+ghost use Rattle.busdma_machine.specs.Bounce.WorkedExample.{small_machine, example_calls};
+ghost use Rattle.busdma_machine.specs.Bounce.WorkedExample.{replies, counts_after, answers};
 ghost use Rattle.busdma_machine.specs.Bounce.WorkedExample.{after_calls};
 
 /// Twelve calls over a small machine have the replies and the counts that were worked out by hand.
 pub fn twelve_calls()
-    ensures replies { answers small_machine calls ≡ replies }
-    ensures counts { counts (after_calls small_machine calls) 0 0 ≡ counts_after }
+    ensures replies { answers small_machine example_calls ≡ replies }
+    ensures counts { counts (after_calls small_machine example_calls) 0 0 ≡ counts_after }
 {}
 
 /// Sound entries of other lanes keep the condition of a lane's call. They also keep all that the
@@ -96,7 +98,7 @@ pub fn release_serves_in_order()
 /// that are still in it.
 pub fn callbacks_keep_their_order()
     ensures { (a : Account) (es : List HoldEntry) → IsSound a es →
-        maps_of a.ready ++ joined a es ≡ called es ++ maps_of (account_of a es).ready }
+        maps_of a.ready ++ maps_joined a es ≡ called es ++ maps_of (account_of a es).ready }
 {}
 
 /// In each zone, maps are served first come, first served. The maps that waited, followed by those that
@@ -107,5 +109,5 @@ pub fn first_come_is_first_served()
     ensures completed { (a : Account) (es : List HoldEntry) (z : ℕ) → IsSound a es →
         waiting_in z a ++ queued_in z es ≡ completed_in z a es ++ waiting_in z (account_of a es) }
     ensures called { (a : Account) (es : List HoldEntry) (z : ℕ) → IsWellFormed a → IsSound a es →
-        line z a ++ queued_in z es ≡ called_in z a es ++ line z (account_of a es) }
+        zone_line z a ++ queued_in z es ≡ called_in_zone z a es ++ zone_line z (account_of a es) }
 {}

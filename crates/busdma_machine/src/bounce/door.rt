@@ -7,7 +7,8 @@ ghost use Rattle.busdma_machine.specs.declared.bounce.hold.HubReply.TheVariants.
 ghost use Rattle.busdma_machine.specs.declared.bounce.hold.HubReply.TheVariants.{Called as CalledFor};
 ghost use Rattle.busdma_machine.specs.Bounce.AccountStep.{as_pages};
 ghost use Rattle.busdma_machine.specs.Machine.PageList.{page_address, page_addresses};
-ghost use Rattle.busdma_machine.specs.Bounce.Door.{Seen, Allows, Holds, Misses, Fails, IsRow, ArePagesOf, grab_reply};
+ghost use Rattle.busdma_machine.specs.Bounce.Door.{Seen, Allows, HoldsAtDoor as Holds, Misses};
+ghost use Rattle.busdma_machine.specs.Bounce.Door.{FailsAtDoor, IsRow, ArePagesOf, grab_reply};
 ghost use Rattle.busdma_machine.specs.Bounce.Door.{memory_reply};
 
 use crate::bounce::Grown;
@@ -70,7 +71,7 @@ pub trait HubDoor {
         requires { Allows (seen self.old) lane.0 (AttachTag tag.now) }
         ensures held { IfOk result (λ r.
             Holds (seen self.old) lane.0 (AttachTag tag.now) (GrownBy r) (seen self.new)) }
-        ensures no_memory { OnErr result (Fails (seen self.old) (seen self.new)) }
+        ensures no_memory { OnErr result (FailsAtDoor (seen self.old) (seen self.new)) }
         ensures fixed { fixed self.new ≡ fixed self.old };
 
     /// Makes a map of a tag that could bounce. `first_done` says that the tag's first allocation is
@@ -93,7 +94,7 @@ pub trait HubDoor {
         requires { Allows (seen self.old) map.lane.0 (CreateMap map tag.now first_done) }
         ensures held { IfOk result (λ r. Holds (seen self.old) map.lane.0
             (CreateMap map tag.now first_done) (GrownBy r) (seen self.new)) }
-        ensures no_memory { OnErr result (Fails (seen self.old) (seen self.new)) }
+        ensures no_memory { OnErr result (FailsAtDoor (seen self.old) (seen self.new)) }
         ensures fixed { fixed self.new ≡ fixed self.old };
 
     /// Ends a map that holds no page and is in no list. Takes no memory. After `bus_dmamap_destroy(9)`.
@@ -123,7 +124,7 @@ pub trait HubDoor {
         requires { Allows (seen self.old) map.lane.0 (Grab map zone need nowait) }
         ensures held { IfOk result (λ r. Holds (seen self.old) map.lane.0
             (Grab map zone need nowait) (grab_reply r) (seen self.new)) }
-        ensures no_memory { OnErr result (Fails (seen self.old) (seen self.new)) }
+        ensures no_memory { OnErr result (FailsAtDoor (seen self.old) (seen self.new)) }
         ensures fixed { fixed self.new ≡ fixed self.old };
 
     /// Gives a page back to the zone from which the map got it, and returns how many waiting maps this
@@ -168,7 +169,7 @@ pub trait HubDoor {
             (MemAlloc mem tag.now) (memory_reply r) (seen self.new)) }
         ensures row { IfOk result (λ r. IfSome r (λ pages. IsRow (page_addresses pages.items))) }
         ensures few { IfOk result (λ r. IfSome r (λ pages. length pages.items ≤ 8192)) }
-        ensures no_memory { OnErr result (Fails (seen self.old) (seen self.new)) }
+        ensures no_memory { OnErr result (FailsAtDoor (seen self.old) (seen self.new)) }
         ensures fixed { fixed self.new ≡ fixed self.old };
 
     /// Ends a memory and takes back its frames, all of them in rising order. Takes no memory. After

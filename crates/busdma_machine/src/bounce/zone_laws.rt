@@ -17,10 +17,10 @@ ghost use Rattle.busdma_machine.specs.Bounce.History.{IsFrame, IsOpening, IsSoun
 ghost use Rattle.busdma_machine.specs.Bounce.KeptZones.{KeepsZones};
 ghost use Rattle.busdma_machine.specs.Bounce.LatePages.{late_pages, to_call};
 ghost use Rattle.busdma_machine.specs.Bounce.LowPages.{PagesLieLow};
-ghost use Rattle.busdma_machine.specs.Bounce.ServingOrder.{called};
-ghost use Rattle.busdma_machine.specs.Bounce.Share.{is_waiting, waiters};
-ghost use Rattle.busdma_machine.specs.Bounce.StuckExample.{both_waiting, entries_of, roomy_machine, two_loads};
-ghost use Rattle.busdma_machine.specs.Bounce.WellFormed.{IsWellFormed};
+ghost use Rattle.busdma_machine.specs.Bounce.ServingOrder.{maps_called};
+ghost use Rattle.busdma_machine.specs.Bounce.Share.{is_waiter, waiters};
+ghost use Rattle.busdma_machine.specs.Bounce.StuckExample.{both_waiting, example_entries, roomy_machine, two_loads};
+ghost use Rattle.busdma_machine.specs.Bounce.WellFormed.{IsAccountWellFormed};
 
 /// No call removes a zone, or changes its lowaddr or its alignment.
 pub fn zones_stay()
@@ -49,7 +49,7 @@ pub fn pages_lie_low()
 /// still has such a number after a sound history. If a sound history begins with an opening, each frame
 /// afterwards begins at a multiple of 4096 and has a number below 2^30.
 pub fn frames_lie_below_maxmem()
-    ensures history { (a : Account) (es : List HoldEntry) → IsWellFormed a → IsSound a es →
+    ensures history { (a : Account) (es : List HoldEntry) → IsAccountWellFormed a → IsSound a es →
         LiesBelowMaxmem a → LiesBelowMaxmem (account_of a es) }
     ensures whole { (a : Account) (es : List HoldEntry) → IsOpening a → IsSound a es →
         EachFrame IsFrame (account_of a es) }
@@ -59,11 +59,11 @@ pub fn frames_lie_below_maxmem()
 /// until its callback is called, whatever else is called. Entries of other lanes never change this.
 pub fn waiting_map_stays()
     ensures until_called { (m : MapId) (z need : ℕ) (a : Account) (es : List HoldEntry) →
-        IsSound a es → (Contains (called es) m → ⊥) → 0 < waiters (is_waiting m z need) a →
-        waiters (is_waiting m z need) (account_of a es) ≡ waiters (is_waiting m z need) a }
+        IsSound a es → (Contains (maps_called es) m → ⊥) → 0 < waiters (is_waiter m z need) a →
+        waiters (is_waiter m z need) (account_of a es) ≡ waiters (is_waiter m z need) a }
     ensures others { (m : MapId) (z need : ℕ) (a : Account) (es : List HoldEntry) →
         IsSound a es → All (λ e. e.lane.0 ≢ m.lane.0) es →
-        waiters (is_waiting m z need) (account_of a es) ≡ waiters (is_waiting m z need) a }
+        waiters (is_waiter m z need) (account_of a es) ≡ waiters (is_waiter m z need) a }
 {}
 
 /// In a zone in which maps wait, late pages are those that came by the growth of the zone since its waiting
@@ -87,6 +87,6 @@ pub fn waiting_zone_lacks_pages()
 /// Two loads of three pages each wait for ever in a zone of four pages, because each has two of them
 /// promised. Two of the pages came to the zone while the first load waited.
 pub fn two_loads_wait_for_ever()
-    ensures counts { counts (account_of roomy_machine (entries_of roomy_machine two_loads)) 0 0 ≡ both_waiting }
-    ensures late { late_pages 0 roomy_machine (entries_of roomy_machine two_loads) ≡ 2 }
+    ensures counts { counts (account_of roomy_machine (example_entries roomy_machine two_loads)) 0 0 ≡ both_waiting }
+    ensures late { late_pages 0 roomy_machine (example_entries roomy_machine two_loads) ≡ 2 }
 {}

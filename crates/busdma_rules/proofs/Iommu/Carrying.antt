@@ -9,7 +9,7 @@ use Rattle.busdma_machine.specs.declared.machine.chunk.Entry.{Entry}
 use Rattle.busdma_machine.specs.Machine.Entry.{AreJoined, IsEntry, entries_addresses}
 use Rattle.busdma_machine.specs.Runs.{IsExtent, addresses, byte_count, run_of}
 use Rattle.busdma_rules.specs.Segments.Trace.{RisesByOne, bus_addresses, bus_trace, chunk_len}
-use Rattle.busdma_rules.proofs.Segments.Chunking.{run_split}
+use Rattle.busdma_rules.proofs.Segments.ChunkLaws.{run_split}
 use Rattle.busdma_rules.specs.Iommu.Device.{device_begin, device_chunk, device_chunks, load_frames}
 
 -- the device pages from `page` on are mapped to these frames

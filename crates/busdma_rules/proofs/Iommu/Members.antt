@@ -4,7 +4,7 @@ use Rattle.std.proofs.Common.{length, Some, slice_get, refl, sym, ap, subst, ari
 use Rattle.std.specs.List.{Contains, filter, list_any}
 use Rattle.std.proofs.lemmas.Bool.{false≢true, ne_eqb}
 use Rattle.std.proofs.lemmas.Bool.Decides.{nat_tests}
-use Rattle.busdma_rules.specs.Iommu.Space.{AreRuns, DeviceRun, begins_at, run_end as end_of}
+use Rattle.busdma_rules.specs.Iommu.Space.{AreSpaceRuns, DeviceRun, begins_at, run_end}
 use Rattle.busdma_rules.specs.Iommu.Space.{gap, has_page, meets, put_run}
 use Rattle.busdma_rules.proofs.Iommu.Runs.{get-at, gap-free}
 
@@ -80,7 +80,7 @@ unmet first k r (q ∷ qs) none h = by (meets first k q) refl none (unmet first 
     ]
 
 -- no live run has a page of the gap
-pub gap-new : (low high k p : ℕ) (n r : DeviceRun) (rs : List DeviceRun) → AreRuns low high rs → 1 ≤ k →
+pub gap-new : (low high k p : ℕ) (n r : DeviceRun) (rs : List DeviceRun) → AreSpaceRuns low high rs → 1 ≤ k →
     n.first ≡ gap low k rs → length n.frames ≡ k → Contains rs r → has_page p n ≡ true → has_page p r ≡ false
 gap-new low high k p n r rs h some at is there has =
     let free : meets n.first k r ≡ false =
@@ -89,7 +89,7 @@ gap-new low high k p n r rs h some at is there has =
     grind (arith, nat_tests, free, has, is)
 
 -- a live run begins at or after the lowest page, and has a page
-pub live-is : (low high : ℕ) (rs : List DeviceRun) (r : DeviceRun) → AreRuns low high rs → Contains rs r →
+pub live-is : (low high : ℕ) (rs : List DeviceRun) (r : DeviceRun) → AreSpaceRuns low high rs → Contains rs r →
     (low ≤ r.first) × (1 ≤ length r.frames)
 live-is low high [] r h there = absurd (in-none r there)
 live-is low high (q ∷ qs) r h there =
@@ -99,6 +99,6 @@ live-is low high (q ∷ qs) r h there =
         omega (arith, h.0.some, ap (λ (x : DeviceRun). length x.frames) e),
       )
       | inr k ↦
-          let rest = live-is (end_of q) high qs r h.1 k in
+          let rest = live-is (run_end q) high qs r h.1 k in
           (omega (arith, h.0.behind, rest.0), rest.1)
     ])

@@ -9,7 +9,7 @@ use Rattle.std.specs.FinMap.{get, insert, get-insert}
 use Rattle.busdma_rules.specs.declared.position.Position.{Position}
 use Rattle.busdma_rules.specs.Lending.Loans.{Loan, Loans, loan_of, no_loan, addresses_of}
 use Rattle.busdma_machine.specs.Machine.Wire.{stretch}
-use Rattle.busdma_rules.specs.Lending.Syncing.{marked, marked_range, synced}
+use Rattle.busdma_rules.specs.Lending.SyncEffects.{marked, marked_range, synced}
 
 addresses_of-marked : (ops : ℕ) (ps : List Position) → addresses_of (map (marked ops) ps) ≡ addresses_of ps
 addresses_of-marked ops [] = refl

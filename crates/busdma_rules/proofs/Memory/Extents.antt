@@ -9,7 +9,7 @@ use Rattle.busdma_machine.specs.declared.machine.address.Extent.{Extent}
 use Rattle.busdma_machine.specs.Machine.Entry.{AreJoined}
 use Rattle.busdma_machine.specs.Runs.{run_of, addresses, IsExtent}
 use Rattle.busdma_rules.specs.Memory.Translation.{Translation}
-use Rattle.busdma_rules.specs.Memory.Extents.{extents_of, reached_addresses as reached, then_reached, with_byte}
+use Rattle.busdma_rules.specs.Memory.Extents.{extents_of, reached_addresses, then_reached, with_byte}
 use Rattle.busdma_rules.proofs.Memory.Paged.{IsPaged}
 
 -- an extent of n bytes from an address on
@@ -118,27 +118,28 @@ module _ (Has : ℕ → Type 0) (t : Translation) (is : IsPaged Has t) where
         elim (eqb_tells ((va + 1) % 4096) 0) [ inl e ↦ inl (there ∙ e.1) | inr e ↦ inr (is.next va p q h k e.1) ],
       )
 
-  leads : (va p n : ℕ) → t va ≡ Some p → Leads p (extents_of (reached t (va + 1) n))
+  leads : (va p n : ℕ) → t va ≡ Some p → Leads p (extents_of (reached_addresses t (va + 1) n))
   leads va p zero h = tt
   leads va p (suc n) h = leads_to (t (va + 1)) (λ q k. next_byte va p q h k)
     where
       leads_to : (o : Option ℕ) → ((q : ℕ) → o ≡ Some q → (q % 4096 ≡ (p + 1) % 4096)
-          × ((q % 4096 ≡ 0) ⊎ (q ≡ p + 1))) → Leads p (extents_of (then_reached o (reached t (va + 1 + 1) n)))
+          × ((q % 4096 ≡ 0) ⊎ (q ≡ p + 1))) → Leads p (extents_of (then_reached o (reached_addresses t (va + 1 + 1) n)))
       leads_to None next = tt
       leads_to (Some q) next =
-          let b = begins q (extents_of (reached t (va + 1 + 1) n)) in
+          let b = begins q (extents_of (reached_addresses t (va + 1 + 1) n)) in
           subst (Leads p) (sym b.are) (subst (λ a. (a % 4096 ≡ (p + 1) % 4096)
           × ((a % 4096 ≡ 0) ⊎ (a ≡ p + 1))) (sym b.at) (next q refl))
 
-  pub reached_extents : (va n : ℕ) → AreExtents Has (reached t va n) (extents_of (reached t va n))
+  pub reached_extents : (va n : ℕ) → AreExtents Has (reached_addresses t va n) (extents_of (reached_addresses t va n))
   reached_extents va zero = no_extents Has
   reached_extents va (suc n) =
       these (t va) (λ p e. (is.low va p e, is.has va p e, leads va p n e)) (reached_extents (va + 1) n)
     where
       these : (o : Option ℕ) → ((p : ℕ) → o ≡ Some p →
-          (p < 2 ^ 42) × Has p × Leads p (extents_of (reached t (va + 1) n))) →
-          AreExtents Has (reached t (va + 1) n) (extents_of (reached t (va + 1) n)) →
-          AreExtents Has (then_reached o (reached t (va + 1) n)) (extents_of (then_reached o (reached t (va + 1) n)))
+          (p < 2 ^ 42) × Has p × Leads p (extents_of (reached_addresses t (va + 1) n))) →
+          AreExtents Has (reached_addresses t (va + 1) n) (extents_of (reached_addresses t (va + 1) n)) →
+          AreExtents Has (then_reached o (reached_addresses t (va + 1) n))
+          (extents_of (then_reached o (reached_addresses t (va + 1) n)))
       these None facts others = no_extents Has
       these (Some p) facts others =
           let f = facts p refl in

@@ -12,7 +12,7 @@ use Rattle.busdma_machine.specs.Machine.Entry.{HasPart, IsEntry, entries_address
 use Rattle.busdma_machine.specs.Runs.{addresses, run_of}
 use Rattle.busdma_machine.specs.Machine.Spans.{span_addresses}
 use Rattle.busdma_rules.specs.Memory.Translation.{Translation, physical_or_0}
-use Rattle.busdma_rules.specs.Memory.Extents.{extents_of, reached_addresses as reached}
+use Rattle.busdma_rules.specs.Memory.Extents.{extents_of, reached_addresses}
 use Rattle.busdma_rules.specs.Memory.Vectors.{entries_of, judged_spans, with_entry}
 use Rattle.busdma_rules.proofs.Memory.Extents.{AreExtents, begins, reached_extents}
 use Rattle.busdma_rules.proofs.Memory.Paged.{IsPaged}
@@ -20,7 +20,7 @@ use Rattle.busdma_rules.proofs.Memory.Walks.{judged-run, reached_all, refused_at
 
 module _ (t : Translation) (s : Span) (ss : List Span) (offset : ℕ) where
   abbrev bytes : List ℕ
-  bytes = reached t s.va.0 s.len
+  bytes = reached_addresses t s.va.0 s.len
 
   pub first_judged : (b : Bool) → nat_eq (length bytes) s.len ≡ b →
       judged_spans t offset (s ∷ ss) ≡ (if b then judged_spans t (offset + s.len) ss
@@ -48,7 +48,7 @@ module _ (Has : ℕ → Type 0) (rounded : Bool) (t : Translation) (is : IsPaged
       AllByRecursion P (entries_of rounded t spans)
   all_entries P h [] = tt
   all_entries P h (s ∷ ss) =
-      let pas = reached t s.va.0 s.len in
+      let pas = reached_addresses t s.va.0 s.len in
       let others = all_entries P h ss in
       entry_all P rounded pas (if nat_eq (length pas) s.len then entries_of rounded t ss else [])
       (λ some. h pas some (reached_extents Has t is s.va.0 s.len))
@@ -66,9 +66,9 @@ module _ (Has : ℕ → Type 0) (rounded : Bool) (t : Translation) (is : IsPaged
   entries_have = all_entries (λ e. AllByRecursion (λ x. Has x.pa.0) e.parts) (λ pas some are. are.have)
 
   entry_bytes : (s : Span) (es : List Entry) →
-      entries_addresses (with_entry rounded (reached t s.va.0 s.len) es)
-      ≡ reached t s.va.0 s.len ++ entries_addresses es
-  entry_bytes s es = by_bytes (reached t s.va.0 s.len) (reached_extents Has t is s.va.0 s.len).bytes
+      entries_addresses (with_entry rounded (reached_addresses t s.va.0 s.len) es)
+      ≡ reached_addresses t s.va.0 s.len ++ entries_addresses es
+  entry_bytes s es = by_bytes (reached_addresses t s.va.0 s.len) (reached_extents Has t is s.va.0 s.len).bytes
     where
       by_bytes : (pas : List ℕ) → addresses (extents_of pas) ≡ pas →
           entries_addresses (with_entry rounded pas es) ≡ pas ++ entries_addresses es
@@ -80,20 +80,20 @@ module _ (Has : ℕ → Type 0) (rounded : Bool) (t : Translation) (is : IsPaged
       entries_addresses (entries_of rounded t spans) ≡ map (physical_or_0 t) (span_addresses spans)
   entries_bytes offset [] h = refl
   entries_bytes offset (s ∷ ss) h =
-      by_count (nat_eq (length (reached t s.va.0 s.len)) s.len) refl (entries_bytes (offset + s.len) ss)
+      by_count (nat_eq (length (reached_addresses t s.va.0 s.len)) s.len) refl (entries_bytes (offset + s.len) ss)
     where
-      by_count : (b : Bool) → nat_eq (length (reached t s.va.0 s.len)) s.len ≡ b →
+      by_count : (b : Bool) → nat_eq (length (reached_addresses t s.va.0 s.len)) s.len ≡ b →
           (judged_spans t (offset + s.len) ss ≡ Fine →
           entries_addresses (entries_of rounded t ss) ≡ map (physical_or_0 t) (span_addresses ss)) →
           entries_addresses (entries_of rounded t (s ∷ ss)) ≡ map (physical_or_0 t) (span_addresses (s ∷ ss))
       by_count true e others =
           ap entries_addresses (first_entry t s ss offset rounded true e) ∙ entry_bytes s (entries_of rounded t ss)
           ∙ ap (λ pas. pas ++ entries_addresses (entries_of rounded t ss))
-          (reached_all t s.va.0 s.len (eqb-true (length (reached t s.va.0 s.len)) s.len e))
+          (reached_all t s.va.0 s.len (eqb-true (length (reached_addresses t s.va.0 s.len)) s.len e))
           ∙ ap (λ qs. map (physical_or_0 t) (run_of s.va.0 s.len) ++ qs)
           (others (sym (first_judged t s ss offset true e) ∙ h))
           ∙ sym (map-append (physical_or_0 t) (run_of s.va.0 s.len) (span_addresses ss))
       by_count false e others = absurd (refused (sym (first_judged t s ss offset false e) ∙ h))
         where
-          refused : refused_at (offset + length (reached t s.va.0 s.len)) ≡ Fine → ⊥
+          refused : refused_at (offset + length (reached_addresses t s.va.0 s.len)) ≡ Fine → ⊥
           refused r = cc

@@ -9,7 +9,7 @@ use Rattle.busdma_machine.specs.declared.report.Judged.TheVariants.{Refused}
 use Rattle.busdma_machine.specs.Judging.{judged, refused_or}
 use Rattle.busdma_machine.specs.Runs.{run_of}
 use Rattle.busdma_rules.specs.Memory.Translation.{Translation, missing, physical_or_0, unreached}
-use Rattle.busdma_rules.specs.Memory.Extents.{reached_addresses as reached, then_reached}
+use Rattle.busdma_rules.specs.Memory.Extents.{reached_addresses, then_reached}
 
 eqb_suc : (a b : ℕ) → nat_eq (suc a) (suc b) ≡ nat_eq a b
 eqb_suc a b = elim (eqb_tells a b) [
@@ -23,26 +23,26 @@ refused_at k = Refused (record { name = name.Unmapped; at = k })
 -- the judgement of a run of bytes followed by other bytes
 pub judged-run : (t : Translation) (va n k : ℕ) (rest : List ℕ) →
     judged (unreached t) k (run_of va n ++ rest)
-    ≡ (if nat_eq (length (reached t va n)) n then judged (unreached t) (k + n) rest
-    else refused_at (k + length (reached t va n)))
+    ≡ (if nat_eq (length (reached_addresses t va n)) n then judged (unreached t) (k + n) rest
+    else refused_at (k + length (reached_addresses t va n)))
 judged-run t va zero k rest =
     let none : k ≡ k + 0 = omega arith in
     ap (λ j. judged (unreached t) j rest) none
 judged-run t va (suc n) k rest = first (t va) (judged-run t (va + 1) n (k + 1) rest)
   where
     first : (o : Option ℕ) → judged (unreached t) (k + 1) (run_of (va + 1) n ++ rest)
-        ≡ (if nat_eq (length (reached t (va + 1) n)) n then judged (unreached t) (k + 1 + n) rest
-        else refused_at (k + 1 + length (reached t (va + 1) n))) →
+        ≡ (if nat_eq (length (reached_addresses t (va + 1) n)) n then judged (unreached t) (k + 1 + n) rest
+        else refused_at (k + 1 + length (reached_addresses t (va + 1) n))) →
         refused_or (missing o) k (judged (unreached t) (k + 1) (run_of (va + 1) n ++ rest))
-        ≡ (if nat_eq (length (then_reached o (reached t (va + 1) n))) (suc n)
+        ≡ (if nat_eq (length (then_reached o (reached_addresses t (va + 1) n))) (suc n)
         then judged (unreached t) (k + suc n) rest
-        else refused_at (k + length (then_reached o (reached t (va + 1) n))))
+        else refused_at (k + length (then_reached o (reached_addresses t (va + 1) n))))
     first None others =
         let none : k ≡ k + 0 = omega arith in
         ap refused_at none ∙ ap (λ b. if b then judged (unreached t) (k + suc n) rest else refused_at (k + 0))
         (sym (ne_eqb 0 (suc n) (omega arith)))
     first (Some p) others =
-        let l = length (reached t (va + 1) n) in
+        let l = length (reached_addresses t (va + 1) n) in
         let reached_one : k + 1 + l ≡ k + suc l = omega arith in
         let all_one : k + 1 + n ≡ k + suc n = omega arith in
         others ∙ ap (λ j. if nat_eq l n then judged (unreached t) (k + 1 + n) rest else refused_at j) reached_one
@@ -50,13 +50,14 @@ judged-run t va (suc n) k rest = first (t va) (judged-run t (va + 1) n (k + 1) r
         ∙ ap (λ b. if b then judged (unreached t) (k + suc n) rest else refused_at (k + suc l)) (sym (eqb_suc l n))
 
 -- if all bytes are reached, they are at their physical addresses
-pub reached_all : (t : Translation) (va n : ℕ) → length (reached t va n) ≡ n →
-    reached t va n ≡ map (physical_or_0 t) (run_of va n)
+pub reached_all : (t : Translation) (va n : ℕ) → length (reached_addresses t va n) ≡ n →
+    reached_addresses t va n ≡ map (physical_or_0 t) (run_of va n)
 reached_all t va zero h = refl
 reached_all t va (suc n) h = first (t va) h (λ e. reached_all t (va + 1) n e)
   where
-    first : (o : Option ℕ) → length (then_reached o (reached t (va + 1) n)) ≡ suc n →
-        (length (reached t (va + 1) n) ≡ n → reached t (va + 1) n ≡ map (physical_or_0 t) (run_of (va + 1) n)) →
-        then_reached o (reached t (va + 1) n) ≡ unwrap_or o 0 ∷ map (physical_or_0 t) (run_of (va + 1) n)
+    first : (o : Option ℕ) → length (then_reached o (reached_addresses t (va + 1) n)) ≡ suc n →
+        (length (reached_addresses t (va + 1) n) ≡ n → reached_addresses t (va + 1) n
+        ≡ map (physical_or_0 t) (run_of (va + 1) n)) →
+        then_reached o (reached_addresses t (va + 1) n) ≡ unwrap_or o 0 ∷ map (physical_or_0 t) (run_of (va + 1) n)
     first None e others = absurd (omega arith)
     first (Some p) e others = ap (λ pas. p ∷ pas) (others (omega arith))

@@ -11,7 +11,8 @@ use Rattle.busdma_machine.specs.declared.tags.tag.TagLimits.{TagLimits}
 use Rattle.busdma_machine.specs.Runs.{run_of}
 use Rattle.busdma_rules.specs.Segments.Obeying.{HasAlignedSizes}
 use Rattle.busdma_rules.specs.Segments.Pieces.{piece_len, pieces_of}
-use Rattle.busdma_rules.specs.Segments.Segmentation.{IsSegmentation, Run, grown, joint, run_pieces, segment_of}
+use Rattle.busdma_rules.specs.Segments.Segmentation.{IsSegmentation, PieceRun, pieces_grown}
+use Rattle.busdma_rules.specs.Segments.Segmentation.{joint, run_pieces, segment_of}
 use Rattle.busdma_rules.proofs.Segments.Places.{piece_fits, piece_some, pieces_step}
 use Rattle.busdma_rules.proofs.Segments.Numbers.{above, most}
 use Rattle.busdma_rules.proofs.Segments.OneWindow.{all_second}
@@ -19,11 +20,11 @@ use Rattle.busdma_rules.proofs.Segments.OneWindow.{all_second}
 abbrev pub IsAligned : TagLimits → Segment → Type 0
 IsAligned t s = s.addr.0 % t.alignment ≡ 0
 
-grown_begins : (s : Segment) (ps : List Segment) → (grown s ps).addr ≡ s.addr
+grown_begins : (s : Segment) (ps : List Segment) → (pieces_grown s ps).addr ≡ s.addr
 grown_begins s [] = refl
 grown_begins s (p ∷ ps) = grown_begins (joint s p) ps
 
-runs_aligned : (t : TagLimits) (rs : List Run) → AllByRecursion (IsAligned t) (flat_map run_pieces rs) →
+runs_aligned : (t : TagLimits) (rs : List PieceRun) → AllByRecursion (IsAligned t) (flat_map run_pieces rs) →
     AllByRecursion (IsAligned t) (map segment_of rs)
 runs_aligned t [] h = tt
 runs_aligned t (r ∷ rs) h = (

@@ -11,10 +11,11 @@ use Rattle.busdma_machine.specs.declared.machine.chunk.Chunk.{Chunk}
 use Rattle.busdma_machine.specs.declared.tags.tag.TagLimits.{TagLimits}
 use Rattle.busdma_machine.specs.Runs.{run_of}
 use Rattle.busdma_rules.specs.Segments.Pieces.{chunk_pieces, piece_len, pieces_of}
-use Rattle.busdma_rules.specs.Segments.Segmentation.{EachJoins, AreRuns, IsSegmentation, Run, grown, joint, may_join}
+use Rattle.busdma_rules.specs.Segments.Segmentation.{EachJoins, AreRuns, IsSegmentation}
+use Rattle.busdma_rules.specs.Segments.Segmentation.{PieceRun, pieces_grown, joint, may_join}
 use Rattle.busdma_rules.specs.Segments.Segmentation.{run_pieces, segment_bytes, segment_of}
 use Rattle.busdma_rules.specs.Segments.Trace.{IsPlaced, RisesByOne, bus_addresses, bus_extent, bus_trace, chunk_len}
-use Rattle.busdma_rules.proofs.Segments.Chunking.{run_split}
+use Rattle.busdma_rules.proofs.Segments.ChunkLaws.{run_split}
 use Rattle.busdma_rules.proofs.Segments.Places.{piece_fits, piece_some, pieces_step}
 
 -- ---- runs of pieces
@@ -31,7 +32,7 @@ pub begins_at_end : (t : TagLimits) (s p : Segment) → may_join t s p ≡ true 
 begins_at_end t s p h = number_is p.addr.0 (s.addr.0 + s.len) (first_true _ _ _ h)
 
 grown_bytes : (t : TagLimits) (s : Segment) (ps : List Segment) → EachJoins t s ps →
-    segment_bytes (grown s ps ∷ []) ≡ segment_bytes (s ∷ ps)
+    segment_bytes (pieces_grown s ps ∷ []) ≡ segment_bytes (s ∷ ps)
 grown_bytes t s [] h = refl
 grown_bytes t s (p ∷ ps) h =
     let e = begins_at_end t s p h.0 in
@@ -40,7 +41,7 @@ grown_bytes t s (p ∷ ps) h =
     ∙ ap (λ a. run_of s.addr.0 s.len ++ run_of a p.len) (sym e))
     ∙ append_assoc (run_of s.addr.0 s.len) (run_of p.addr.0 p.len) (segment_bytes ps))
 
-runs_bytes : (t : TagLimits) (rs : List Run) → AreRuns t rs →
+runs_bytes : (t : TagLimits) (rs : List PieceRun) → AreRuns t rs →
     segment_bytes (map segment_of rs) ≡ segment_bytes (flat_map run_pieces rs)
 runs_bytes t [] h = refl
 runs_bytes t (r ∷ rs) h =

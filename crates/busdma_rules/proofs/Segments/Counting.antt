@@ -19,8 +19,8 @@ use Rattle.busdma_rules.specs.Segments.Building.{IsPlaceable, placed_pieces, tag
 use Rattle.busdma_rules.specs.Segments.Chunks.{bounced_of, chunk_limit, chunk_of, chunks_from, chunks_of}
 use Rattle.busdma_rules.specs.Segments.Chunks.{chunks_of_bytes, chunks_within, need_of}
 use Rattle.busdma_rules.specs.Segments.Pieces.{chunk_pieces, pieces_of}
-use Rattle.busdma_rules.specs.Segments.Trace.{bus_addresses, chunk_len, first_page, in_page, chunks_in_pages as placed}
-use Rattle.busdma_rules.proofs.Segments.Chunking.{limit_reaches}
+use Rattle.busdma_rules.specs.Segments.Trace.{bus_addresses, chunk_len, first_page, in_page, chunks_in_pages}
+use Rattle.busdma_rules.proofs.Segments.ChunkLaws.{limit_reaches}
 use Rattle.busdma_rules.proofs.Segments.Places.{run_length}
 use Rattle.busdma_rules.proofs.Segments.Sound.{made_len}
 
@@ -38,15 +38,18 @@ need_first c cs =
 -- ---- chunks in their pages
 
 pub placed_append : (keep : Bool) (xs ys : List Chunk) (pages : List Pa) →
-    placed keep (xs ++ ys) pages ≡ placed keep xs pages ++ placed keep ys (drop (need_of xs) pages)
+    chunks_in_pages keep (xs ++ ys) pages ≡ chunks_in_pages keep xs pages
+    ++ chunks_in_pages keep ys (drop (need_of xs) pages)
 placed_append keep [] ys pages = refl
 placed_append keep (c ∷ cs) ys pages =
-    elim c.bounced as (λ b. cond b (in_page keep (first_page pages) c ∷ placed keep (cs ++ ys) (drop 1 pages))
-    (c ∷ placed keep (cs ++ ys) pages)
-    ≡ cond b (in_page keep (first_page pages) c ∷ placed keep cs (drop 1 pages)) (c ∷ placed keep cs pages)
-    ++ placed keep ys (drop (length (cond b (c ∷ bounced_of cs) (bounced_of cs))) pages)) [
+    elim c.bounced as (λ b. cond b (in_page keep (first_page pages) c ∷ chunks_in_pages keep (cs ++ ys) (drop 1 pages))
+    (c ∷ chunks_in_pages keep (cs ++ ys) pages)
+    ≡ cond b (in_page keep (first_page pages) c ∷ chunks_in_pages keep cs (drop 1 pages))
+    (c ∷ chunks_in_pages keep cs pages)
+    ++ chunks_in_pages keep ys (drop (length (cond b (c ∷ bounced_of cs) (bounced_of cs))) pages)) [
       | true ↦ ap (λ zs. in_page keep (first_page pages) c ∷ zs) (placed_append keep cs ys (drop 1 pages)
-          ∙ ap (λ ps. placed keep cs (drop 1 pages) ++ placed keep ys ps) (drop-drop (need_of cs) 1 pages
+          ∙ ap (λ ps. chunks_in_pages keep cs (drop 1 pages) ++ chunks_in_pages keep ys ps)
+          (drop-drop (need_of cs) 1 pages
           ∙ ap (λ k. drop k pages) (one_more (need_of cs))))
       | false ↦ ap (λ zs. c ∷ zs) (placed_append keep cs ys pages)
     ]
@@ -69,15 +72,17 @@ bounced_append t xs ys pages =
     ∙ filter-append (λ (c : Chunk). c.bounced) (tag_placed t xs pages) (tag_placed t ys (drop (need_of xs) pages))
 
 -- pages do not change which chunks are bounced
-pub placed_need : (keep : Bool) (cs : List Chunk) (pages : List Pa) → need_of (placed keep cs pages) ≡ need_of cs
+pub placed_need : (keep : Bool) (cs : List Chunk) (pages : List Pa) → need_of (chunks_in_pages keep cs pages)
+    ≡ need_of cs
 placed_need keep [] pages = refl
 placed_need keep (c ∷ cs) pages =
     (elim c.bounced as (λ b. c.bounced ≡ b →
-    need_of (cond b (in_page keep (first_page pages) c ∷ placed keep cs (drop 1 pages)) (c ∷ placed keep cs pages))
+    need_of (cond b (in_page keep (first_page pages) c ∷ chunks_in_pages keep cs (drop 1 pages))
+    (c ∷ chunks_in_pages keep cs pages))
     ≡ length (cond b (c ∷ bounced_of cs) (bounced_of cs))) [
-      | true ↦ λ w. need_first (in_page keep (first_page pages) c) (placed keep cs (drop 1 pages))
+      | true ↦ λ w. need_first (in_page keep (first_page pages) c) (chunks_in_pages keep cs (drop 1 pages))
           ∙ (rw w (omega (arith, placed_need keep cs (drop 1 pages))))
-      | false ↦ λ w. need_first c (placed keep cs pages) ∙ (rw w (omega (arith, placed_need keep cs pages)))
+      | false ↦ λ w. need_first c (chunks_in_pages keep cs pages) ∙ (rw w (omega (arith, placed_need keep cs pages)))
     ]) refl
 
 -- ---- bytes

@@ -21,8 +21,8 @@ use Rattle.busdma_rules.specs.Segments.Chunks.{chunk_limit, chunk_of, chunks_fro
 use Rattle.busdma_rules.specs.Segments.Chunks.{chunks_within}
 use Rattle.busdma_rules.specs.Segments.Begun.{begun_chunk}
 use Rattle.busdma_rules.specs.Segments.Trace.{chunk_extents, chunk_len}
-use Rattle.busdma_rules.proofs.Segments.Chunking.{Fits, carried, chunk_begins, drop_past, ends_frame, joined_rest}
-use Rattle.busdma_rules.proofs.Segments.Chunking.{limit_close, limit_reaches, nothing_fits, run_split}
+use Rattle.busdma_rules.proofs.Segments.ChunkLaws.{Fits, carried, chunk_begins, drop_past, ends_frame, joined_rest}
+use Rattle.busdma_rules.proofs.Segments.ChunkLaws.{limit_close, limit_reaches, nothing_fits, run_split}
 use Rattle.busdma_rules.proofs.Segments.Counting.{addresses_length, chunk_bytes, within_bytes}
 use Rattle.busdma_rules.proofs.Segments.Places.{run_length}
 use Rattle.busdma_rules.proofs.Segments.Sound.{made_len}

@@ -3,15 +3,16 @@ use Rattle.std.proofs.Common.{◌≡◌, List, [], ◌∷◌, ◌++◌, map, tru
 use Rattle.std.specs.List.{flat_map}
 use Rattle.busdma_machine.specs.declared.machine.address.Segment.{Segment}
 use Rattle.busdma_machine.specs.declared.tags.tag.TagLimits.{TagLimits}
-use Rattle.busdma_rules.specs.Segments.Segmentation.{Run, segments_from, segmentation, joint, may_join, grown}
+use Rattle.busdma_rules.specs.Segments.Segmentation.{PieceRun, segments_from, segmentation}
+use Rattle.busdma_rules.specs.Segments.Segmentation.{joint, may_join, pieces_grown}
 use Rattle.busdma_rules.specs.Segments.Segmentation.{segment_of, run_pieces, AreRuns, IsSegmentation}
 
 -- runs of pieces, the first of which begins with s
 record RunsFrom (t : TagLimits) (s : Segment) (ps segs : List Segment) : Type 0 where
   others : List Segment
-  later : List Run
+  later : List PieceRun
   pieces : others ++ flat_map run_pieces later ≡ ps
-  segments : grown s others ∷ map segment_of later ≡ segs
+  segments : pieces_grown s others ∷ map segment_of later ≡ segs
   runs : AreRuns t (record { first = s; others = others } ∷ later)
 
 joined_run : (t : TagLimits) (s p : Segment) (ps segs : List Segment) → may_join t s p ≡ true →

@@ -24,9 +24,9 @@ use Rattle.busdma_rules.specs.Segments.Obeying.{segments_bytes}
 use Rattle.busdma_rules.specs.Segments.Pieces.{chunk_pieces, pieces_of}
 use Rattle.busdma_rules.specs.Segments.Segmentation.{segment_bytes}
 use Rattle.busdma_rules.specs.Segments.Trace.{IsPlaced, bus_addresses, bus_extent, bus_trace, chunk_len, first_page}
-use Rattle.busdma_rules.specs.Segments.Trace.{in_page, page_offset, chunks_in_pages as placed}
+use Rattle.busdma_rules.specs.Segments.Trace.{in_page, page_offset, chunks_in_pages}
 use Rattle.busdma_rules.proofs.Segments.Bytes.{all_rise, bus_is_run, pieces_bytes, segmentation_bytes}
-use Rattle.busdma_rules.proofs.Segments.Chunking.{limit_reaches}
+use Rattle.busdma_rules.proofs.Segments.ChunkLaws.{limit_reaches}
 use Rattle.busdma_rules.proofs.Segments.Counting.{chunk_bytes}
 use Rattle.busdma_rules.proofs.Segments.Covering.{chunks_at}
 use Rattle.busdma_rules.proofs.Segments.Positions.{all_at, all_middle, chunk_at, each_at, each_from, placed_at}
@@ -224,7 +224,7 @@ all_well t m (c ∷ cs) pages eff s j p =
     let keep = keep_pg_offset t.flags in
     (elim c.bounced as (λ b. c.bounced ≡ b →
     AllByRecursion (StartsWell t) (cond b
-    (in_page keep (first_page pages) c ∷ placed keep cs (drop 1 pages)) (c ∷ placed keep cs pages))) [
+    (in_page keep (first_page pages) c ∷ chunks_in_pages keep cs (drop 1 pages)) (c ∷ chunks_in_pages keep cs pages))) [
       | true ↦ λ w. (
         paged_well t c (first_page pages) eff s.0 w (page_first t pages p),
         all_well t m cs (drop 1 pages) eff s.1 j.1 (pages_later t pages p),

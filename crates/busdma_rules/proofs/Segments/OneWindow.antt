@@ -9,7 +9,8 @@ use Rattle.busdma_machine.specs.declared.tags.tag.TagLimits.{TagLimits}
 use Rattle.busdma_machine.specs.Runs.{run_of}
 use Rattle.busdma_rules.specs.Segments.Obeying.{LiesInWindow}
 use Rattle.busdma_rules.specs.Segments.Pieces.{chunk_pieces, piece_len, pieces_of}
-use Rattle.busdma_rules.specs.Segments.Segmentation.{AreRuns, EachJoins, IsSegmentation, Run, grown, joint, may_join}
+use Rattle.busdma_rules.specs.Segments.Segmentation.{AreRuns, EachJoins, IsSegmentation}
+use Rattle.busdma_rules.specs.Segments.Segmentation.{PieceRun, pieces_grown, joint, may_join}
 use Rattle.busdma_rules.specs.Segments.Segmentation.{run_pieces, same_window, segment_of}
 use Rattle.busdma_rules.specs.Segments.Trace.{RisesByOne, bus_addresses, chunk_len}
 use Rattle.busdma_rules.proofs.Segments.Bytes.{begins_at_end}
@@ -90,7 +91,7 @@ joint_good t s p x y j =
     }
 
 grown_good : (t : TagLimits) (s : Segment) (ps : List Segment) → IsGood t s → AllByRecursion (IsGood t) ps →
-    EachJoins t s ps → IsGood t (grown s ps)
+    EachJoins t s ps → IsGood t (pieces_grown s ps)
 grown_good t s [] x y j = x
 grown_good t s (p ∷ ps) x y j = grown_good t (joint s p) ps (joint_good t s p x y.0 j.0) y.1 j.1
 
@@ -102,7 +103,7 @@ pub all_second : {X : Type 0} (P : X → Type 0) (xs ys : List X) → AllByRecur
 all_second P [] ys h = h
 all_second P (x ∷ xs) ys h = all_second P xs ys h.1
 
-runs_good : (t : TagLimits) (rs : List Run) → AreRuns t rs → AllByRecursion (IsGood t) (flat_map run_pieces rs) →
+runs_good : (t : TagLimits) (rs : List PieceRun) → AreRuns t rs → AllByRecursion (IsGood t) (flat_map run_pieces rs) →
     AllByRecursion (IsGood t) (map segment_of rs)
 runs_good t [] j h = tt
 runs_good t (r ∷ rs) j h =

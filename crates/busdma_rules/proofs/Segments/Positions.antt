@@ -12,7 +12,7 @@ use Rattle.busdma_machine.specs.Runs.{run_of}
 use Rattle.busdma_rules.specs.Segments.Obeying.{segments_bytes}
 use Rattle.busdma_rules.specs.Segments.Segmentation.{segment_bytes}
 use Rattle.busdma_rules.specs.Segments.Trace.{IsPlaced, bus_addresses, bus_extent, bus_trace, chunk_len, first_page}
-use Rattle.busdma_rules.specs.Segments.Trace.{in_page, chunks_in_pages as placed}
+use Rattle.busdma_rules.specs.Segments.Trace.{in_page, chunks_in_pages}
 use Rattle.busdma_rules.proofs.Segments.Bytes.{bus_is_run}
 use Rattle.busdma_rules.proofs.Segments.Counting.{chunk_bytes}
 use Rattle.busdma_rules.proofs.Segments.Places.{run_length}
@@ -51,12 +51,13 @@ all_at P (x ∷ xs) (suc k) d h l = all_at P xs k d h.1 (omega arith)
 
 pub placed_at : (keep : Bool) (cs : List Chunk) (pages : List Pa) (before other : List Chunk) →
     chunk_bytes other ≡ chunk_bytes before → EachAfter (λ b c. c.at ≡ chunk_bytes b) before cs →
-    EachAfter (λ b c. c.at ≡ chunk_bytes b) other (placed keep cs pages)
+    EachAfter (λ b c. c.at ≡ chunk_bytes b) other (chunks_in_pages keep cs pages)
 placed_at keep [] pages before other e h = tt
 placed_at keep (c ∷ cs) pages before other e h =
     let one = sum_by-append chunk_len before (c ∷ []) in
     (elim c.bounced as (λ b. EachAfter (λ b c. c.at ≡ chunk_bytes b) other
-    (cond b (in_page keep (first_page pages) c ∷ placed keep cs (drop 1 pages)) (c ∷ placed keep cs pages))) [
+    (cond b (in_page keep (first_page pages) c ∷ chunks_in_pages keep cs (drop 1 pages))
+    (c ∷ chunks_in_pages keep cs pages))) [
       | true ↦ (
         h.0 ∙ sym e,
         placed_at keep cs (drop 1 pages) (before ++ c ∷ []) (other

@@ -21,8 +21,8 @@ use Rattle.busdma_rules.specs.Segments.Building.{IsPlaceable, tag_placed}
 use Rattle.busdma_rules.specs.Segments.Chunks.{rounded_up, to_frame_end, chunk_limit, first_extent, extent_from}
 use Rattle.busdma_rules.specs.Segments.Chunks.{chunk_of, chunks_within, chunks_of_bytes, chunks_from, chunks_of}
 use Rattle.busdma_rules.specs.Segments.Trace.{IsPage, IsPlaced, chunk_len}
-use Rattle.busdma_rules.specs.Segments.Trace.{first_page, in_page, page_offset, chunks_in_pages as placed}
-use Rattle.busdma_rules.proofs.Segments.Chunking.{limit_reaches}
+use Rattle.busdma_rules.specs.Segments.Trace.{first_page, in_page, page_offset, chunks_in_pages}
+use Rattle.busdma_rules.proofs.Segments.ChunkLaws.{limit_reaches}
 
 -- ---- alignments divide a frame
 
@@ -205,7 +205,8 @@ placed_are t (c ∷ cs) pages h p =
     let keep = keep_pg_offset t.flags in
     (elim c.bounced as (λ b. c.bounced ≡ b →
     AllByRecursion IsPlaced
-    (cond b (in_page keep (first_page pages) c ∷ placed keep cs (drop 1 pages)) (c ∷ placed keep cs pages))) [
+    (cond b (in_page keep (first_page pages) c ∷ chunks_in_pages keep cs (drop 1 pages))
+    (c ∷ chunks_in_pages keep cs pages))) [
       | true ↦ λ w. (
         in_page_placed t c (first_page pages) h.0 w (page_first pages p),
         placed_are t cs (drop 1 pages) h.1 (pages_later pages p),

@@ -81,14 +81,14 @@ pub record IsRunIn (low high : ℕ) (r : DeviceRun) : Type 0 where
   pub numbered : All (λ f. f < 2 ^ 30) r.frames
 
 -- runs of device pages from `low` on and below `high` that rise: each begins at or after the end of the one before it
-abbrev pub AreRuns : ℕ → ℕ → List DeviceRun → Type 0
-AreRuns low high [] = Unit {0}
-AreRuns low high (r ∷ rs) = IsRunIn low high r × AreRuns (run_end r) high rs
+abbrev pub AreSpaceRuns : ℕ → ℕ → List DeviceRun → Type 0
+AreSpaceRuns low high [] = Unit {0}
+AreSpaceRuns low high (r ∷ rs) = IsRunIn low high r × AreSpaceRuns (run_end r) high rs
 
 -- what is true of each space: the addresses of its pages are below 2^64, and its runs rise from page 1 on
 pub record IsSpace (s : Space) : Type 0 where
   pub few : s.pages ≤ 2 ^ 52
-  pub runs : AreRuns 1 s.pages s.runs
+  pub runs : AreSpaceRuns 1 s.pages s.runs
 
 -- the first page from `low` on at which k pages fit before, between or after runs that rise. This is what private steps
 -- of the code do; no public clause cites it.

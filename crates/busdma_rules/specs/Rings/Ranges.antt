@@ -7,22 +7,22 @@ use Rattle.busdma_machine.specs.declared.machine.address.Segment.{Segment}
 use Rattle.busdma_machine.specs.Runs.{run_of}
 
 -- how many bytes segments have together
-abbrev pub byte_count : List Segment → ℕ
-byte_count segments = sum_by (λ s. s.len) segments
+abbrev pub segments_byte_count : List Segment → ℕ
+segments_byte_count segments = sum_by (λ s. s.len) segments
 
 -- the bus addresses of the bytes of segments, in order
 abbrev pub bus_bytes : List Segment → List ℕ
 bus_bytes segments = flat_map (λ s. run_of s.addr.0 s.len) segments
 
 -- a segment has all `len` bytes from a bus address on
-abbrev pub holds : ℕ → ℕ → Segment → Bool
-holds addr len s = nat_le s.addr.0 addr && nat_le (addr + len) (s.addr.0 + s.len)
+abbrev pub segment_holds : ℕ → ℕ → Segment → Bool
+segment_holds addr len s = nat_le s.addr.0 addr && nat_le (addr + len) (s.addr.0 + s.len)
 
 -- the place in a load of the `len` bytes from a bus address on, by the first segment that has all of them
 abbrev pub place_of : ℕ → ℕ → List Segment → Option ℕ
 place_of addr len [] = None
 place_of addr len (s ∷ ss) =
-    if holds addr len s then Some (addr - s.addr.0) else option_map (λ at. s.len + at) (place_of addr len ss)
+    if segment_holds addr len s then Some (addr - s.addr.0) else option_map (λ at. s.len + at) (place_of addr len ss)
 
 -- the bus address of the byte `off` of a load, if its segment has all of the `len` bytes from there on
 abbrev pub address_of : ℕ → ℕ → List Segment → Option ℕ

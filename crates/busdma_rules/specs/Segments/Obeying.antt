@@ -11,8 +11,8 @@ use Rattle.busdma_machine.specs.Tags.TagFlags.{keep_pg_offset}
 use Rattle.busdma_rules.specs.Segments.Trace.{IsPage}
 
 -- the device reaches each byte of the segment
-abbrev pub IsReached : TagLimits → Segment → Type 0
-IsReached t s = (k : ℕ) → k < s.len → excluded t (s.addr.0 + k) ≡ false
+abbrev pub IsSegmentReached : TagLimits → Segment → Type 0
+IsSegmentReached t s = (k : ℕ) → k < s.len → excluded t (s.addr.0 + k) ≡ false
 
 -- the segment crosses no multiple of the boundary, if there is a boundary
 abbrev pub LiesInWindow : TagLimits → Segment → Type 0
@@ -38,7 +38,7 @@ pub record IsObeying (t : TagLimits) (chunks : List Chunk) (before : List Segmen
   pub some : 1 ≤ s.len
   pub short : s.len ≤ t.maxsegsz
   pub window : LiesInWindow t s
-  pub reached : IsReached t s
+  pub reached : IsSegmentReached t s
   pub begins : (c : Chunk) → Contains chunks c → c.at ≡ segments_bytes before → BeginsWith t s c
   pub aligned : keep_pg_offset t.flags ≡ false → HasAlignedSizes t → s.addr.0 % t.alignment ≡ 0
 

@@ -7,7 +7,7 @@ use Rattle.busdma_machine.specs.declared.tags.tag.TagLimits.{TagLimits}
 use Rattle.busdma_machine.specs.Runs.{run_of}
 
 -- a run: one or more pieces, in order
-pub record Run : Type 0 where
+pub record PieceRun : Type 0 where
   pub first : Segment
   pub others : List Segment
 
@@ -25,16 +25,16 @@ abbrev pub may_join : TagLimits → Segment → Segment → Bool
 may_join t s p = p.addr.0 == s.addr.0 + s.len && nat_le (s.len + p.len) t.maxsegsz && same_window t s p
 
 -- the segment of s and the pieces that follow it
-abbrev pub grown : Segment → List Segment → Segment
-grown s [] = s
-grown s (p ∷ ps) = grown (joint s p) ps
+abbrev pub pieces_grown : Segment → List Segment → Segment
+pieces_grown s [] = s
+pieces_grown s (p ∷ ps) = pieces_grown (joint s p) ps
 
 -- the segment of a run: it begins with the first piece, and has the bytes of all its pieces
-abbrev pub segment_of : Run → Segment
-segment_of r = grown r.first r.others
+abbrev pub segment_of : PieceRun → Segment
+segment_of r = pieces_grown r.first r.others
 
 -- the pieces of a run, in order
-abbrev pub run_pieces : Run → List Segment
+abbrev pub run_pieces : PieceRun → List Segment
 run_pieces r = r.first ∷ r.others
 
 -- each of these pieces can join the ones before it, which are s at first
@@ -43,18 +43,18 @@ EachJoins t s [] = Unit {0}
 EachJoins t s (p ∷ ps) = (may_join t s p ≡ true) × EachJoins t (joint s p) ps
 
 -- the first piece of the next run, if there is one, cannot join s
-abbrev pub NextIsApart : TagLimits → Segment → List Run → Type 0
+abbrev pub NextIsApart : TagLimits → Segment → List PieceRun → Type 0
 NextIsApart t s [] = Unit {0}
 NextIsApart t s (r ∷ rs) = may_join t s r.first ≡ false
 
 -- in each run each piece can join the ones before it, and the first piece of the next run cannot join the run before it
-abbrev pub AreRuns : TagLimits → List Run → Type 0
+abbrev pub AreRuns : TagLimits → List PieceRun → Type 0
 AreRuns t [] = Unit {0}
 AreRuns t (r ∷ rs) = EachJoins t r.first r.others × NextIsApart t (segment_of r) rs × AreRuns t rs
 
 -- pieces join to these segments: each segment is a run of pieces, and the runs have all pieces in order
 pub record IsSegmentation (t : TagLimits) (segments pieces : List Segment) : Type 0 where
-  pub runs : List Run
+  pub runs : List PieceRun
   pub pieces_are : flat_map run_pieces runs ≡ pieces
   pub segments_are : map segment_of runs ≡ segments
   pub joined : AreRuns t runs

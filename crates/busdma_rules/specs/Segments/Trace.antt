@@ -35,7 +35,8 @@ first_page pages = slice_index_or pages 0 (record { 0 = 0 })
 abbrev pub chunks_in_pages : Bool → List Chunk → List Pa → List Chunk
 chunks_in_pages keep [] pages = []
 chunks_in_pages keep (c ∷ cs) pages =
-    if c.bounced then in_page keep (first_page pages) c ∷ chunks_in_pages keep cs (drop 1 pages) else c ∷ chunks_in_pages keep cs pages
+    if c.bounced then in_page keep (first_page pages) c ∷ chunks_in_pages keep cs (drop 1 pages) else c
+    ∷ chunks_in_pages keep cs pages
 
 -- the bus addresses of the bytes of a chunk: from this address in its page on, or their physical addresses if it has no
 -- page

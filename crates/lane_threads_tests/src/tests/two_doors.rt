@@ -3,9 +3,9 @@
 ghost use Rattle.std.specs.Prelude.{◌≡◌, [], Some, None, All, IfOk};
 ghost use Rattle.busdma_machine.specs.Machine.PageList.{page_addresses};
 ghost use Rattle.lane_agreement.specs.View.{Idle, Loaded, Waiting};
-ghost use Rattle.lane_threads.specs.PassDoor.{seen, place_of};
+ghost use Rattle.lane_threads.specs.PassDoor.{seen, door_place};
 ghost use Rattle.lane_threads_tests.specs.Passes.{StartsAt};
-ghost use Rattle.lane_threads_tests.specs.Knowing.{Knows, HasMaps, in_zone};
+ghost use Rattle.lane_threads_tests.specs.Knowing.{Knows, HasMaps, is_known_in_zone as in_zone};
 
 use crate::tests::opening::{LOW, ZONE, open, pass_of};
 use crate::tests::replies::same_reply;
@@ -55,7 +55,7 @@ fn make_maps<R: Wait>(
     requires { Knows 0 (HasMaps None None []) (seen door.old) }
     ensures maps { IfOk result (λ _.
         Knows 0 (HasMaps (in_zone 0 Idle) (in_zone 0 Idle) []) (seen door.new)) }
-    ensures place { place_of door.new ≡ place_of door.old }
+    ensures place { door_place door.new ≡ door_place door.old }
 {
     let grown = door.create_map(alloc, ONE, &LOW, false)?;
     assert!(rt; grown.made && grown.zone.0 == 0);
@@ -74,7 +74,7 @@ fn load_maps<R: Wait>(
     ensures maps { IfOk result (λ pages. Knows 0
         (HasMaps (in_zone 0 (Loaded (page_addresses pages.items))) (in_zone 0 (Waiting 2)) [])
         (seen door.new)) }
-    ensures place { place_of door.new ≡ place_of door.old }
+    ensures place { door_place door.new ≡ door_place door.old }
 {
     let loaded = door.grab(alloc, ONE, ZONE, 2, false)?;
     let Grabbed::Granted(pages) = loaded else {
@@ -97,7 +97,7 @@ fn release_pages<R: Wait>(rt: &impl Abort, door: &mut PassDoor<'_, R>, pages: Pa
         (HasMaps (in_zone 0 (Loaded (page_addresses pages.items))) (in_zone 0 (Waiting 2)) [])
         (seen door.old) }
     ensures maps { Knows 0 (HasMaps (in_zone 0 Idle) (in_zone 0 (Waiting 2)) []) (seen door.new) }
-    ensures place { place_of door.new ≡ place_of door.old }
+    ensures place { door_place door.new ≡ door_place door.old }
 {
     let mut pages = pages;
     let Some(second) = pages.pop() else {
@@ -117,7 +117,7 @@ fn take_callback<R: Wait>(rt: &impl Abort, door: &mut PassDoor<'_, R>) -> PageLi
     ensures maps { Knows 0
         (HasMaps (in_zone 0 Idle) (in_zone 0 (Loaded (page_addresses result.items))) [])
         (seen door.new) }
-    ensures place { place_of door.new ≡ place_of door.old }
+    ensures place { door_place door.new ≡ door_place door.old }
 {
     let Some(called) = door.take_callback(LaneId(0)) else {
         panic!(rt; "the second map has its pages")
@@ -134,7 +134,7 @@ fn make_memories<R: Wait>(
     door: &mut PassDoor<'_, R>,
 ) -> Result<PageList, AllocError>
     requires { (two : _) × Knows 0 (HasMaps (in_zone 0 Idle) two []) (seen door.old) }
-    ensures place { place_of door.new ≡ place_of door.old }
+    ensures place { door_place door.new ≡ door_place door.old }
 {
     door.destroy_map(ONE, ZONE);
     let none = door.mem_alloc(alloc, THREE, &CUT)?;

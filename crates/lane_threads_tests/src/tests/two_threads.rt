@@ -2,7 +2,7 @@
 
 ghost use Rattle.std.specs.Prelude.{◌≡◌, ◌+◌, ◌≤◌, [], Some, None, All, IfOk, IfSome};
 ghost use denote.Param.Send.{IsSync};
-ghost use Rattle.lane_threads.specs.PassDoor.{seen, place_of};
+ghost use Rattle.lane_threads.specs.PassDoor.{seen, door_place};
 ghost use Rattle.lane_threads_tests.specs.Passes.{StartsAt};
 ghost use Rattle.lane_threads_tests.specs.Knowing.{Knows, HasIdle, HasNone};
 
@@ -24,7 +24,7 @@ const ROUNDS: u32 = 1000;
 fn grab_and_release<R: Wait>(alloc: Global, door: &mut PassDoor<'_, R>, map: MapId) -> Option<()>
     requires { Knows map.lane.0 (HasIdle map.made_at) (seen door.old) }
     ensures idle { IfSome result (λ _. Knows map.lane.0 (HasIdle map.made_at) (seen door.new)) }
-    ensures place { place_of door.new ≡ place_of door.old }
+    ensures place { door_place door.new ≡ door_place door.old }
 {
     let Ok(grabbed) = door.grab(alloc, map, ZONE, 1, true) else {
         return None;
@@ -45,7 +45,7 @@ fn grab_and_release<R: Wait>(alloc: Global, door: &mut PassDoor<'_, R>, map: Map
 fn make_map<R: Wait>(alloc: Global, door: &mut PassDoor<'_, R>, map: MapId) -> Option<()>
     requires { Knows map.lane.0 HasNone (seen door.old) }
     ensures idle { IfSome result (λ _. Knows map.lane.0 (HasIdle map.made_at) (seen door.new)) }
-    ensures place { place_of door.new ≡ place_of door.old }
+    ensures place { door_place door.new ≡ door_place door.old }
 {
     let Ok(grown) = door.create_map(alloc, map, &LOW, false) else {
         return None;
@@ -60,7 +60,7 @@ fn make_map<R: Wait>(alloc: Global, door: &mut PassDoor<'_, R>, map: MapId) -> O
 // Makes a map, and grabs and releases a thousand times.
 fn work<R: Wait>(alloc: Global, door: &mut PassDoor<'_, R>, map: MapId) -> Option<()>
     requires { Knows map.lane.0 HasNone (seen door.old) }
-    ensures { place_of door.new ≡ place_of door.old }
+    ensures { door_place door.new ≡ door_place door.old }
 {
     make_map(alloc, door, map)?;
     for _ in 0..ROUNDS {

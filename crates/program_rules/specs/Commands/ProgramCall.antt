@@ -2,7 +2,7 @@
 use Rattle.std.specs.Prelude.{◌≡◌, ℕ, List, Option, Some, None}
 use Rattle.program_rules.specs.declared.program_end.ProgramEnd.{ProgramEnd}
 use Rattle.program_rules.specs.Commands.Edges.{StreamEdges, ReadNothing, WroteNothing}
-use Rattle.program_rules.specs.Commands.Line.{Prints}
+use Rattle.program_rules.specs.Commands.ErrorLine.{Prints}
 use Rattle.program_rules.specs.Commands.Keeps.{Keeps}
 
 -- the outcome if there was no memory for the words

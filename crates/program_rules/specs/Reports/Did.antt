@@ -41,7 +41,8 @@ object_text (Some name) = codes " " ++ name
 
 -- the text of an operation: its word and its object
 abbrev pub op_text : List Op → Op → List ℕ
-op_text script o = word.op_word_text (about o).word ++ object_text (option_map (object_name script) (object_of (about o)))
+op_text script o = word.op_word_text (about o).word
+    ++ object_text (option_map (object_name script) (object_of (about o)))
 
 -- the text of a resend: its word and the object of the send
 abbrev pub again_text : List Op → Op → List ℕ
@@ -53,7 +54,8 @@ item_of_load script load_at place = option_map_or (λ op. slice_get (items_of op
 
 -- the text of an item: its word and the name that it uses
 abbrev pub item_text : List Op → Item → List ℕ
-item_text script i = word.item_word_text (about_item i).word ++ (codes " " ++ name_made_at script (about_item i).uses.made_at)
+item_text script i = word.item_word_text (about_item i).word
+    ++ (codes " " ++ name_made_at script (about_item i).uses.made_at)
 
 -- the text of the operation at this place of a script; it is empty if there is none
 abbrev pub op_text_at : List Op → ℕ → List ℕ

@@ -5,7 +5,7 @@ use Rattle.busdma_base.specs.declared.journals.journal.JournalEntry.{JournalEntr
 use Rattle.busdma_base.specs.declared.scenarios.scenario.Scenario.{Scenario}
 use Rattle.program_rules.specs.Reports.Report.{entry_line, journal_end_line}
 use Rattle.program_rules.specs.Reports.Zone.{zone_lines}
-use Rattle.program_rules.specs.Verdicts.Lines.{lines}
+use Rattle.program_rules.specs.Verdicts.TextLines.{lines}
 
 -- the lines of these entries; the first has the number n
 abbrev pub entry_lines : Scenario → ℕ → List JournalEntry → List (List ℕ)

@@ -4,7 +4,7 @@ use Rattle.busdma_base.specs.declared.journals.journal.Journal.{Journal}
 use Rattle.busdma_base.specs.declared.journals.journal.JournalEntry.{JournalEntry}
 use Rattle.busdma_base.specs.declared.scenarios.scenario.Scenario.{Scenario}
 use Rattle.program_rules.specs.Reports.Report.{entry_line}
-use Rattle.program_rules.specs.Verdicts.Lines.{lines, alike_lines}
+use Rattle.program_rules.specs.Verdicts.TextLines.{lines, alike_lines}
 use Rattle.program_rules.specs.Verdicts.ReportLines.{entry_lines, closing_lines}
 use Rattle.ideal_world.specs.Ends.{IsAtRest}
 use Rattle.ideal_world.specs.Legal.{Leads, journal_of}

@@ -4,7 +4,7 @@ use Rattle.std.specs.List.{list_any}
 use Rattle.std.specs.Str.{bytes_eq}
 use Rattle.serde_json.specs.Data.{Data, Members, no_members, member}
 use Rattle.serde_json.specs.Find.{get, as_object}
-use Rattle.scenario_format.specs.Json.Place.{DocumentPlace, key, item}
+use Rattle.scenario_format.specs.Json.DocumentPlaces.{DocumentPlace, key, item}
 use Rattle.scenario_format.specs.Json.Read.{Read, ◌>>=◌, refuse}
 use Rattle.scenario_format.specs.declared.refusal.RefusalKind.TheVariants.{BadField}
 

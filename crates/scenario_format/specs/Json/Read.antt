@@ -1,6 +1,6 @@
 -- What reading gives: a value, or the first refusal.
 use Rattle.std.specs.Prelude.{Result, Ok, Err}
-use Rattle.scenario_format.specs.Json.Place.{DocumentPlace, path_text}
+use Rattle.scenario_format.specs.Json.DocumentPlaces.{DocumentPlace, path_text}
 use Rattle.scenario_format.specs.declared.refusal.RefusalKind.{RefusalKind}
 use Rattle.scenario_format.specs.declared.refusal.Refusal.{Refusal}
 

@@ -5,7 +5,7 @@ use Rattle.busdma_machine.specs.declared.machine.bio.Bio.{Bio}
 use Rattle.busdma_machine.specs.declared.machine.bio.Bio.TheVariants as bio
 use Rattle.busdma_base.specs.declared.scenarios.scenario.PageRun.{PageRun}
 use Rattle.busdma_base.specs.Scenarios.PageRuns.{has_frame}
-use Rattle.scenario_format.specs.Json.Place.{DocumentPlace, key}
+use Rattle.scenario_format.specs.Json.DocumentPlaces.{DocumentPlace, key}
 use Rattle.scenario_format.specs.Json.Read.{Read, ◌>>=◌, refuse}
 use Rattle.scenario_format.specs.Json.Field.{Spot, members_of, required, only_keys, one_of}
 use Rattle.scenario_format.specs.Json.Number.{read_number, number_field}

@@ -7,7 +7,7 @@ use Rattle.busdma_base.specs.Scenarios.Limits.{access_limit, steps_limit, reads_
 use Rattle.busdma_base.specs.Scenarios.Operations.{read_by, read_by_item, loaded_by}
 use Rattle.busdma_base.specs.Scenarios.Script.{steps_of}
 use Rattle.busdma_base.specs.Scenarios.Valid.{read_of, loaded_of}
-use Rattle.scenario_format.specs.Json.Place.{DocumentPlace}
+use Rattle.scenario_format.specs.Json.DocumentPlaces.{DocumentPlace}
 use Rattle.scenario_format.specs.Json.Read.{Read, ◌>>=◌, refuse}
 use Rattle.scenario_format.specs.declared.refusal.RefusalKind.TheVariants.{Limit}
 use Rattle.scenario_format.specs.declared.refusal.LimitName.TheVariants as limit

@@ -7,7 +7,7 @@ use Rattle.busdma_machine.specs.Tags.TagFlags.{tag_table}
 use Rattle.busdma_rules.specs.Tags.LoadFlags.{load_table}
 use Rattle.busdma_rules.specs.Tags.MemFlags.{mem_table}
 use Rattle.busdma_rules.specs.Tags.SyncOps.{sync_table}
-use Rattle.scenario_format.specs.Json.Place.{DocumentPlace}
+use Rattle.scenario_format.specs.Json.DocumentPlaces.{DocumentPlace}
 use Rattle.scenario_format.specs.Json.Read.{Read, ◌>>=◌, refuse}
 use Rattle.scenario_format.specs.Json.Field.{Spot, field, required, item_of}
 use Rattle.scenario_format.specs.Json.Text.{read_text}

@@ -4,7 +4,7 @@ use Rattle.std.specs.List.{list_any}
 use Rattle.busdma_base.specs.declared.scenarios.script.Op.{Op}
 use Rattle.busdma_base.specs.declared.scenarios.operations.NameUse.{NameUse}
 use Rattle.busdma_base.specs.Scenarios.Names.{makes, makes_for}
-use Rattle.scenario_format.specs.Json.Place.{DocumentPlace, key}
+use Rattle.scenario_format.specs.Json.DocumentPlaces.{DocumentPlace, key}
 use Rattle.scenario_format.specs.Json.Read.{Read, ◌>>=◌, refuse}
 use Rattle.scenario_format.specs.Json.Field.{Spot, field, required}
 use Rattle.scenario_format.specs.Json.Text.{read_name}
@@ -31,7 +31,8 @@ known_or place (Some n) = Ok n
 
 -- the earlier operation that made the name at this place, for this use
 unfoldable pub read_use : NameUse → List Op → Spot → Read ℕ
-read_use u before here = read_name here >>= (λ name. known_or here.place (first_operation_place (makes_for u name) 0 before))
+read_use u before here =
+    read_name here >>= (λ name. known_or here.place (first_operation_place (makes_for u name) 0 before))
 
 -- the earlier operation that made the name at a key, for this use
 unfoldable pub used_name : NameUse → List ℕ → List Op → Spot → Read ℕ

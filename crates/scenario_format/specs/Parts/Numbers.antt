@@ -1,6 +1,6 @@
 -- Numbers of fewer bits than a scenario's numbers have.
 use Rattle.std.specs.Prelude.{ℕ, ◌^◌, List, Ok, if◌then◌else◌, nat_lt}
-use Rattle.scenario_format.specs.Json.Place.{DocumentPlace, key}
+use Rattle.scenario_format.specs.Json.DocumentPlaces.{DocumentPlace, key}
 use Rattle.scenario_format.specs.Json.Read.{Read, ◌>>=◌, refuse}
 use Rattle.scenario_format.specs.Json.Field.{Spot}
 use Rattle.scenario_format.specs.Json.Number.{number_field, number_or}

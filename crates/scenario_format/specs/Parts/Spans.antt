@@ -3,7 +3,7 @@ use Rattle.std.specs.Prelude.{List, [], ◌∷◌, length, Ok, if◌then◌else�
 use Rattle.serde_json.specs.Data.{Data}
 use Rattle.busdma_machine.specs.declared.machine.address.Span.{Span}
 use Rattle.busdma_base.specs.Scenarios.Limits.{entries_limit}
-use Rattle.scenario_format.specs.Json.Place.{DocumentPlace}
+use Rattle.scenario_format.specs.Json.DocumentPlaces.{DocumentPlace}
 use Rattle.scenario_format.specs.Json.Read.{Read, ◌>>=◌, refuse}
 use Rattle.scenario_format.specs.Json.Field.{Spot, required, only_keys, one_of}
 use Rattle.scenario_format.specs.Json.Number.{number_field}

@@ -1,7 +1,7 @@
 -- The words of operations and items, as they are read.
 use Rattle.std.specs.Prelude.{ℕ, List, Option, Some, None, Ok, codes}
 use Rattle.busdma_base.specs.Scenarios.Words.{op_word_of, item_word_of}
-use Rattle.scenario_format.specs.Json.Place.{DocumentPlace, key}
+use Rattle.scenario_format.specs.Json.DocumentPlaces.{DocumentPlace, key}
 use Rattle.scenario_format.specs.Json.Read.{Read, ◌>>=◌, refuse}
 use Rattle.scenario_format.specs.Json.Field.{Spot, required}
 use Rattle.scenario_format.specs.Json.Text.{read_text}

@@ -6,7 +6,7 @@ use Rattle.busdma_base.specs.declared.scenarios.scenario.PageRun.{PageRun}
 use Rattle.busdma_base.specs.declared.scenarios.scenario.Driver.{Driver}
 use Rattle.busdma_base.specs.declared.scenarios.script.Op.{Op}
 use Rattle.busdma_base.specs.Scenarios.Limits.{drivers_limit}
-use Rattle.scenario_format.specs.Json.Place.{DocumentPlace}
+use Rattle.scenario_format.specs.Json.DocumentPlaces.{DocumentPlace}
 use Rattle.scenario_format.specs.Json.Read.{Read, ◌>>=◌, refuse}
 use Rattle.scenario_format.specs.Json.Field.{Spot, field, required, only_keys, one_of}
 use Rattle.scenario_format.specs.Json.Items.{read_items, each}
@@ -41,4 +41,5 @@ drivers_judged place ds = if nat_lt drivers_limit (length ds) then refuse (Limit
 
 -- the list of drivers
 unfoldable pub read_drivers : List FrameRun → Spot → Read (List Driver)
-read_drivers frames here = read_items here >>= (λ ds. drivers_judged here.place ds >>= each (read_driver frames) here [])
+read_drivers frames here =
+    read_items here >>= (λ ds. drivers_judged here.place ds >>= each (read_driver frames) here [])

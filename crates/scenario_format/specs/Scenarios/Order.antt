@@ -5,7 +5,7 @@ use Rattle.serde_json.specs.Data.{Data}
 use Rattle.busdma_base.specs.declared.journals.journal.Actor.{Actor}
 use Rattle.busdma_base.specs.declared.journals.journal.Side.{Side}
 use Rattle.busdma_base.specs.declared.journals.journal.Side.TheVariants as side
-use Rattle.scenario_format.specs.Json.Place.{DocumentPlace}
+use Rattle.scenario_format.specs.Json.DocumentPlaces.{DocumentPlace}
 use Rattle.scenario_format.specs.Json.Read.{Read, ◌>>=◌, refuse}
 use Rattle.scenario_format.specs.Json.Field.{Spot, field}
 use Rattle.scenario_format.specs.Json.Number.{of_kind}
@@ -60,7 +60,8 @@ order_judged place ds = if nat_lt order_limit (length ds) then refuse (Limit lim
 
 -- the list of actors
 unfoldable pub read_order : ℕ → Spot → Read (List Actor)
-read_order drivers here = read_items here >>= (λ ds. order_judged here.place ds >>= each (λ _. read_actor drivers) here [])
+read_order drivers here =
+    read_items here >>= (λ ds. order_judged here.place ds >>= each (λ _. read_actor drivers) here [])
 
 -- the actors of a list, or none if there is no list
 abbrev pub order_or_none : ℕ → Option Spot → Read (List Actor)

@@ -6,7 +6,7 @@ use Rattle.serde_json.specs.Read.{read}
 use Rattle.busdma_base.specs.declared.scenarios.scenario.FrameRun.{FrameRun}
 use Rattle.busdma_base.specs.declared.scenarios.scenario.Driver.{Driver}
 use Rattle.busdma_base.specs.declared.scenarios.scenario.Scenario.{Scenario}
-use Rattle.scenario_format.specs.Json.Place.{DocumentPlace, top, key}
+use Rattle.scenario_format.specs.Json.DocumentPlaces.{DocumentPlace, top, key}
 use Rattle.scenario_format.specs.Json.Read.{Read, ◌>>=◌, refuse}
 use Rattle.scenario_format.specs.Json.Field.{Spot, required, only_keys, one_of}
 use Rattle.scenario_format.specs.Json.Number.{number_or}

@@ -4,7 +4,7 @@ use Rattle.busdma_base.specs.declared.scenarios.script.Op.{Op}
 use Rattle.busdma_base.specs.declared.scenarios.script.Item.{Item}
 use Rattle.busdma_base.specs.declared.scenarios.script.Item.TheVariants as item
 use Rattle.busdma_base.specs.Scenarios.Operations.{bytes_of}
-use Rattle.scenario_format.specs.Json.Place.{key}
+use Rattle.scenario_format.specs.Json.DocumentPlaces.{key}
 use Rattle.scenario_format.specs.Json.Read.{Read, ◌>>=◌, refuse}
 use Rattle.scenario_format.specs.declared.refusal.RefusalKind.TheVariants.{BadOp}
 use Rattle.scenario_format.specs.Json.Field.{Spot, field, members_of, only_keys, one_of}

@@ -9,7 +9,7 @@ use Rattle.busdma_base.specs.Scenarios.Limits.{steps_limit}
 use Rattle.scenario_format.specs.declared.refusal.RefusalKind.TheVariants.{BadField}
 use Rattle.scenario_format.specs.Json.Field.{Spot, only_keys, one_of}
 use Rattle.scenario_format.specs.Json.Number.{number_field}
-use Rattle.scenario_format.specs.Json.Place.{DocumentPlace, key}
+use Rattle.scenario_format.specs.Json.DocumentPlaces.{DocumentPlace, key}
 use Rattle.scenario_format.specs.Json.Read.{Read, ◌>>=◌, refuse}
 use Rattle.scenario_format.specs.declared.counts.Counts.{Counts}
 use Rattle.scenario_format.specs.Parts.Counts.{steps_judged}

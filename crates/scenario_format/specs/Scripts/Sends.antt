@@ -10,9 +10,9 @@ use Rattle.scenario_format.specs.declared.refusal.RefusalKind.TheVariants.{BadFi
 use Rattle.scenario_format.specs.Json.Field.{Spot, only_keys, one_of, required}
 use Rattle.scenario_format.specs.Json.Items.{each}
 use Rattle.scenario_format.specs.Json.Number.{read_number}
-use Rattle.scenario_format.specs.Json.Place.{DocumentPlace}
+use Rattle.scenario_format.specs.Json.DocumentPlaces.{DocumentPlace}
 use Rattle.scenario_format.specs.Json.Read.{Read, ◌>>=◌, refuse}
-use Rattle.scenario_format.specs.Scripts.Plan.{plan}
+use Rattle.busdma_rules.specs.Memory.Clusters.{plan}
 use Rattle.scenario_format.specs.declared.counts.Counts.{Counts}
 use Rattle.scenario_format.specs.Scripts.Loads.{load_of, read_loaded_map}
 use Rattle.scenario_format.specs.Parts.Spans.{read_entries, entries_field}

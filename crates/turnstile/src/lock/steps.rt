@@ -3,8 +3,8 @@ ghost use Rattle.std.specs.Prelude.{◌≡◌, ◌+◌, ◌<◌, ◌^◌, ◌∷
 ghost use mathlib.Core.List.{IsPrefix};
 ghost use Rattle.turnstile.specs.TurnObject.{IsActed};
 ghost use Rattle.turnstile.specs.View.{pass_view, ticket_view, served_view, view_after};
-ghost use Rattle.turnstile.specs.Steps.{Carries, HasActed, IsIdle, Knows, Sees, added_since};
-ghost use Rattle.turnstile.specs.Pass.{MayCall, HasTurn};
+ghost use Rattle.turnstile.specs.Steps.{Carries, HasActed, IsIdleStep, Knows, Sees, added_since};
+ghost use Rattle.turnstile.specs.Pass.{MayPass, HasTurn};
 
 use super::Turnstile;
 use crate::object::TurnObject;
@@ -30,10 +30,10 @@ impl<H: TurnObject> Turnstile<H> {
         call: H::Call,
     ) -> H::Reply
         requires table { seat.old.table_id ≡ self.now.id }
-        requires idle { IsIdle name seat.old.me }
-        requires may { MayCall H.may (pass_view seat.old.table_id seat.old.me.0) call }
+        requires idle { IsIdleStep name seat.old.me }
+        requires may { MayPass H.may (pass_view seat.old.table_id seat.old.me.0) call }
         ensures table { (seat.new.table_id ≡ seat.old.table_id) × (seat.new.id ≡ seat.old.id) }
-        ensures idle { IsIdle name seat.new.me }
+        ensures idle { IsIdleStep name seat.new.me }
         ensures knows { (start : _) × Knows H.legal H.fits start seat.new.me.0 }
         ensures turn { HasTurn H.fits H.answers (pass_view seat.old.table_id seat.old.me.0) call result
             (pass_view seat.old.table_id seat.new.me.0) }

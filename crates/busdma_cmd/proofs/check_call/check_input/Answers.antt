@@ -1,6 +1,6 @@
 use Rattle.std.proofs.Common.{rules}
 use Rattle.program_rules.specs.Commands.Edges.{StreamEdges as Edges, edges}
-use Rattle.busdma_cmd.proofs.Checking.{check_ran_out}
+use Rattle.busdma_cmd.proofs.CheckLaws.{check_ran_out}
 use Rattle.busdma_cmd.proofs.check_call.check_input.Goals as goal
 
 pub returns-in_err-line-clause-ends : goal.returns-in_err-line-clause-ends

@@ -3,8 +3,8 @@ use Rattle.program_rules.specs.declared.command.Command.TheVariants.{Replay, Sto
 use Rattle.program_rules.specs.Commands.Words.{command}
 use Rattle.program_rules.specs.Commands.Edges.{StreamEdges as Edges, edges}
 use Rattle.program_rules.specs.Commands.Keeps.{Keeps}
-use Rattle.busdma_cmd.proofs.Checking.{check_keeps}
-use Rattle.busdma_cmd.proofs.Endings.{reader_keeps, storm_keeps}
+use Rattle.busdma_cmd.proofs.CheckLaws.{check_keeps}
+use Rattle.busdma_cmd.proofs.EndLaws.{reader_keeps, storm_keeps}
 use Rattle.busdma_cmd.proofs.command.plain_command.Goals as goal
 
 pub returns-in-Ok-Some-Replay : goal.returns-in-Ok-Some-Replay

@@ -3,7 +3,7 @@ use Rattle.command_words.specs.Command.{run_words}
 use Rattle.program_rules.specs.declared.command.Command.TheVariants.{Run}
 use Rattle.program_rules.specs.Commands.Edges.{StreamEdges as Edges, edges}
 use Rattle.program_rules.specs.Commands.Keeps.{Keeps}
-use Rattle.busdma_cmd.proofs.Endings.{reader_keeps}
+use Rattle.busdma_cmd.proofs.EndLaws.{reader_keeps}
 use Rattle.busdma_cmd.proofs.run_call.run_command.Goals as goal
 
 pub returns : goal.returns

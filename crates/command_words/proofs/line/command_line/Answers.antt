@@ -38,7 +38,8 @@ returns c =
     c.in_ok-subcommand-2.ensures.shape c.new-3.ensures.local ∙ ap₂ with_subcommand first run_is in
     let check_is = ap (λ (a : App). a.top) c.new-4.ensures.app in
     let third : app_of c.in_ok-subcommand-3.field-0
-    ≡ with_subcommand (with_subcommand (with_subcommand program (new_app (codes "replay")).top) (new_app (codes "run")).top)
+    ≡ with_subcommand (with_subcommand (with_subcommand program (new_app (codes "replay")).top)
+    (new_app (codes "run")).top)
     (new_app (codes "check")).top =
     c.in_ok-subcommand-3.ensures.shape c.new-4.ensures.local ∙ ap₂ with_subcommand second check_is in
     let storm_is = ap (λ (a : App). a.top) c.in_ok-storm.ensures in

@@ -2,14 +2,14 @@ use Rattle.std.proofs.Common.{◌≡◌, ◌+◌, ◌-◌, ◌++◌, length, map
 use borrow.Rule.Slice.PartMut.{put_mid, same_len_mid}
 use Rattle.std.specs.List.{AllByRecursion}
 use Rattle.std.proofs.lemmas.Slice.{take-put_mid}
-use Rattle.busdma_machine.specs.Machine.PageList.{frames_of}
+use Rattle.busdma_machine.specs.Machine.PageList.{page_frames}
 use Rattle.busdma_machine.specs.Machine.Wire.{with_bytes_of}
 use Rattle.busdma_machine.specs.Runs.{run_of}
 use Rattle.phys_memory.specs.Memory.{wire}
 use Rattle.phys_memory.proofs.Writing.{part_read}
 use Rattle.busdma_rules.specs.Segments.Segmentation.{segment_bytes}
 use Rattle.device_model.specs.Access.{IsThere}
-use Rattle.device_model.specs.Walking.{rest_of}
+use Rattle.device_model.specs.AccessSteps.{rest_of}
 use Rattle.device_model.proofs.Accessing.{all_behind, first_of_run, rest_length, slice_size, split_run}
 use Rattle.device_model.proofs.Walk.{bytes_length}
 use Rattle.device_model.proofs.reading.bus_read.Goals as goal
@@ -31,7 +31,7 @@ loop-done-init c =
             c.requires.range,
           );
       there =
-          subst (AllByRecursion (IsThere c.args.memory.now.memory (frames_of c.args.pages.now))) (sym range)
+          subst (AllByRecursion (IsThere c.args.memory.now.memory (page_frames c.args.pages.now))) (sym range)
           c.requires.there;
       inside = omega arith;
     }
@@ -40,7 +40,7 @@ pub read_in_frame-near-requires-clause-there : goal.read_in_frame-near-requires-
 read_in_frame-near-requires-clause-there c =
     let left = length c.loop-done.out - c.loop-done.done in
     let run = c.next-run.result in
-    let there = IsThere c.args.memory.now.memory (frames_of c.args.pages.now) in
+    let there = IsThere c.args.memory.now.memory (page_frames c.args.pages.now) in
     let split = ap (take left) c.next-run.ensures.run
     ∙ split_run run.pa.0 run.len left (rest_of c.next-run.new.self) c.next-run.ensures.most in
     first_of_run there run.pa.0 run.len _ c.next-run.ensures.extent.some
@@ -49,7 +49,7 @@ read_in_frame-near-requires-clause-there c =
 pub loop-done-preserved : goal.loop-done-preserved
 loop-done-preserved c =
     let w = with_bytes_of c.args.pages.now (wire c.args.memory.now.memory) in
-    let there = IsThere c.args.memory.now.memory (frames_of c.args.pages.now) in
+    let there = IsThere c.args.memory.now.memory (page_frames c.args.pages.now) in
     let out = c.loop-done.out in
     let done = c.loop-done.done in
     let left = length out - done in

@@ -1,6 +1,6 @@
 use Rattle.std.proofs.Common.{◌≡◌, ◌+◌, ◌-◌, length, take, drop, ap, sym, subst, ◌∙◌, arith, length-drop, refl}
 use Rattle.std.specs.List.{AllByRecursion}
-use Rattle.busdma_machine.specs.Machine.PageList.{frames_of}
+use Rattle.busdma_machine.specs.Machine.PageList.{page_frames}
 use Rattle.busdma_machine.specs.Machine.Wire.{put, with_bytes_of}
 use Rattle.busdma_machine.specs.Runs.{run_of}
 use Rattle.phys_memory.specs.Memory.{wire}
@@ -8,7 +8,7 @@ use Rattle.phys_memory.proofs.SameFrames.{same_refl, same_trans}
 use Rattle.phys_memory.proofs.Writing.{part_written, written_run}
 use Rattle.busdma_rules.specs.Segments.Segmentation.{segment_bytes}
 use Rattle.device_model.specs.Access.{IsThere}
-use Rattle.device_model.specs.Walking.{rest_of}
+use Rattle.device_model.specs.AccessSteps.{rest_of}
 use Rattle.device_model.proofs.Accessing.{all_behind, first_of_run, rest_length, split_run, there_now}
 use Rattle.device_model.proofs.Walk.{bytes_length}
 use Rattle.device_model.proofs.writing.bus_write.Goals as goal
@@ -32,7 +32,7 @@ loop-done-init c =
             c.requires.range,
           );
       there =
-          subst (AllByRecursion (IsThere c.args.memory.now.memory (frames_of c.args.pages.now))) (sym range)
+          subst (AllByRecursion (IsThere c.args.memory.now.memory (page_frames c.args.pages.now))) (sym range)
           c.requires.there;
       inside = omega arith;
       frames = refl;
@@ -45,7 +45,7 @@ write_in_frame-near-requires-clause-there c =
     let left = length c.args.bytes.now - c.loop-done.done in
     let run = c.next-run.result in
     let before = c.loop-done.invariant in
-    let there = IsThere c.args.memory.now.memory (frames_of c.args.pages.now) in
+    let there = IsThere c.args.memory.now.memory (page_frames c.args.pages.now) in
     let split = ap (take left) c.next-run.ensures.run
     ∙ split_run run.pa.0 run.len left (rest_of c.next-run.new.self) c.next-run.ensures.most in
     there_now _ _ _ _ _ before.same before.frames
@@ -54,7 +54,7 @@ write_in_frame-near-requires-clause-there c =
 
 pub loop-done-preserved : goal.loop-done-preserved
 loop-done-preserved c =
-    let there = IsThere c.args.memory.now.memory (frames_of c.args.pages.now) in
+    let there = IsThere c.args.memory.now.memory (page_frames c.args.pages.now) in
     let bytes = c.args.bytes.now in
     let done = c.loop-done.done in
     let left = length bytes - done in

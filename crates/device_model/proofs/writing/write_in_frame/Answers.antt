@@ -3,7 +3,7 @@ use Rattle.std.proofs.Math.Seq.{map-set_same}
 use Rattle.std.proofs.lemmas.List.{get_or_default}
 use Rattle.busdma_machine.specs.Machine.Page.{FrameBytes, overwritten}
 use Rattle.phys_memory.specs.Frames.{SamePages}
-use Rattle.phys_memory.specs.Memory.{Memory, wire}
+use Rattle.phys_memory.specs.Memory.{FrameMemory as Memory, wire}
 use Rattle.phys_memory.proofs.PageBytes.{no_page}
 use Rattle.phys_memory.proofs.SameFrames.{same_rewritten}
 use Rattle.device_model.proofs.Accessing.{memory_written, page_put}

@@ -1,4 +1,4 @@
-use Rattle.ideal_lane.proofs.Dues.{opens-due, turn-due}
+use Rattle.ideal_lane.proofs.DueLaws.{opens-due, turn-due}
 use Rattle.ideal_lane.proofs.laws.due_sends_stand.Goals as goal
 
 pub returns-clause-opens : goal.returns-clause-opens

@@ -1,6 +1,6 @@
 use Rattle.std.proofs.Common.{◌∙◌, ap}
 use Rattle.ideal_lane.specs.Turns.{is_waiting, waits_in}
-use Rattle.ideal_lane.proofs.Turning.{callback-waits}
+use Rattle.ideal_lane.proofs.TurnLaws.{callback-waits}
 use Rattle.ideal_lane.proofs.laws.each_callback_was_awaited.Goals as goal
 
 pub returns : goal.returns

@@ -1,5 +1,5 @@
-use Rattle.busdma_base.proofs.Openings.{opening-may_begin}
-use Rattle.ideal_lane.proofs.Openings.{opens-standing, opens-agreeing}
+use Rattle.busdma_base.proofs.OpeningLaws.{opening-may_begin}
+use Rattle.ideal_lane.proofs.OpeningLaws.{opens-standing, opens-agreeing}
 use Rattle.ideal_lane.proofs.laws.opening_stands.Goals as goal
 
 pub returns-clause-stands : goal.returns-clause-stands

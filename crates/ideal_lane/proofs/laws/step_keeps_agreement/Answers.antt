@@ -1,4 +1,4 @@
-use Rattle.ideal_lane.proofs.Turning.{turn-allowed, turn-kept}
+use Rattle.ideal_lane.proofs.TurnLaws.{turn-allowed, turn-kept}
 use Rattle.ideal_lane.proofs.laws.step_keeps_agreement.Goals as goal
 
 pub returns-clause-allowed : goal.returns-clause-allowed

@@ -1,4 +1,4 @@
-use Rattle.ideal_lane.proofs.Standings.{turn-stands}
+use Rattle.ideal_lane.proofs.StandingLaws.{turn-stands}
 use Rattle.ideal_lane.proofs.laws.step_keeps_standing.Goals as goal
 
 pub returns : goal.returns

@@ -1,4 +1,4 @@
-use Rattle.ideal_lane.proofs.Scripted.{turn-same}
+use Rattle.ideal_lane.proofs.ScriptLaws.{turn-same}
 use Rattle.ideal_lane.proofs.ScriptedRuns.{next-is}
 use Rattle.ideal_lane.proofs.laws.steps_look_at_one_operation.Goals as goal
 

@@ -1,4 +1,4 @@
-use Rattle.ideal_laws.proofs.Posting.{post-by, post-in}
+use Rattle.ideal_laws.proofs.PostLaws.{post-by, post-in}
 use Rattle.ideal_laws.proofs.ring_laws.posts_are_done.Goals as goal
 
 pub returns-clause-driver : goal.returns-clause-driver

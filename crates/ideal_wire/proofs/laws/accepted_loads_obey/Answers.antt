@@ -1,6 +1,6 @@
-use Rattle.ideal_wire.proofs.Accepting.{finished-accepted}
-use Rattle.ideal_wire.proofs.AnsweredTurns.{turn-answers}
-use Rattle.ideal_wire.proofs.MemoryObeys.{memory-finished}
+use Rattle.ideal_wire.proofs.Obeys.AcceptedLaws.{finished-accepted}
+use Rattle.ideal_wire.proofs.Obeys.AnsweredTurns.{turn-answers}
+use Rattle.ideal_wire.proofs.Obeys.MemoryObeys.{memory-finished}
 use Rattle.ideal_wire.proofs.laws.accepted_loads_obey.Goals as goal
 
 pub returns-clause-load : goal.returns-clause-load

@@ -1,4 +1,4 @@
-use Rattle.ideal_wire.proofs.Frames.{agreeing-apart}
+use Rattle.ideal_wire.proofs.Apart.Frames.{agreeing-apart}
 use Rattle.ideal_wire.proofs.laws.agreeing_pages_are_apart.Goals as goal
 
 pub returns : goal.returns

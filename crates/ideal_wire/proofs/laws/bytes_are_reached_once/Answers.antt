@@ -1,5 +1,5 @@
-use Rattle.ideal_wire.proofs.Frames.{agreeing-apart}
-use Rattle.ideal_wire.proofs.ReachedOnce.{reached-once}
+use Rattle.ideal_wire.proofs.Apart.Frames.{agreeing-apart}
+use Rattle.ideal_wire.proofs.Apart.ReachedOnce.{reached-once}
 use Rattle.ideal_wire.proofs.laws.bytes_are_reached_once.Goals as goal
 
 pub returns : goal.returns

@@ -1,5 +1,5 @@
-use Rattle.ideal_wire.proofs.FaithfulRings.{head-reads, ring-reads}
-use Rattle.ideal_wire.proofs.Wiring.{cpu_read-reads, dev_read-reads, dev_read_at-reads}
+use Rattle.ideal_wire.proofs.Faithful.FaithfulRings.{head-reads, ring-reads}
+use Rattle.ideal_wire.proofs.Faithful.Wiring.{cpu_read-reads, dev_read-reads, dev_read_at-reads}
 use Rattle.ideal_wire.proofs.laws.calls_read_faithfully.Goals as goal
 
 pub returns-clause-cpu : goal.returns-clause-cpu

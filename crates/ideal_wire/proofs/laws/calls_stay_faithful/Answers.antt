@@ -1,5 +1,5 @@
-use Rattle.ideal_wire.proofs.Calls.{sync-faithful, sync_range-faithful, cpu_write-faithful, dev_write-faithful}
-use Rattle.ideal_wire.proofs.Calls.{dev_write_at-faithful, ring_post-faithful, ring_step-faithful}
+use Rattle.ideal_wire.proofs.Faithful.Calls.{sync-faithful, sync_range-faithful, cpu_write-faithful, dev_write-faithful}
+use Rattle.ideal_wire.proofs.Faithful.Calls.{dev_write_at-faithful, ring_post-faithful, ring_step-faithful}
 use Rattle.ideal_wire.proofs.laws.calls_stay_faithful.Goals as goal
 
 pub returns-clause-sync : goal.returns-clause-sync

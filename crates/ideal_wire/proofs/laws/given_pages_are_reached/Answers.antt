@@ -1,4 +1,4 @@
-use Rattle.ideal_wire.proofs.Pages.{granted-reachable, called-reachable}
+use Rattle.ideal_wire.proofs.Apart.Pages.{granted-reachable, called-reachable}
 use Rattle.ideal_wire.proofs.laws.given_pages_are_reached.Goals as goal
 
 pub returns-clause-granted : goal.returns-clause-granted

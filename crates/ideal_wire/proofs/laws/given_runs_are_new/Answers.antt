@@ -1,4 +1,4 @@
-use Rattle.ideal_wire.proofs.NewFrames.{given-new}
+use Rattle.ideal_wire.proofs.Apart.NewFrames.{given-new}
 use Rattle.ideal_wire.proofs.laws.given_runs_are_new.Goals as goal
 
 pub returns : goal.returns

@@ -1,6 +1,6 @@
 use Rattle.std.proofs.Common.{◌≡◌, Bool, true, false, refl, sym, ◌∙◌}
 use Rattle.std.proofs.lemmas.Bool.{false≢true}
-use Rattle.ideal_wire.proofs.Held.{finds-held, held-once}
+use Rattle.ideal_wire.proofs.Apart.Held.{finds-held, held-once}
 use Rattle.ideal_wire.proofs.laws.holdings_are_apart.Goals as goal
 
 no : (b : Bool) → (b ≡ true → ⊥) → b ≡ false

@@ -1,4 +1,4 @@
-use Rattle.ideal_wire.proofs.MappedTurns.{loads-found, opens-mapped, turn-mapped}
+use Rattle.ideal_wire.proofs.Devices.MappedTurns.{loads-found, opens-mapped, turn-mapped}
 use Rattle.ideal_wire.proofs.laws.loads_are_found.Goals as goal
 
 pub returns-clause-opens : goal.returns-clause-opens

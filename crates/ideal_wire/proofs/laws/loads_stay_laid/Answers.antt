@@ -1,4 +1,4 @@
-use Rattle.ideal_wire.proofs.LaidTurns.{turn-laid}
+use Rattle.ideal_wire.proofs.Laid.LaidTurns.{turn-laid}
 use Rattle.ideal_wire.proofs.laws.loads_stay_laid.Goals as goal
 
 pub returns : goal.returns

@@ -1,4 +1,4 @@
-use Rattle.ideal_wire.proofs.Openings.{opens-faithful, opens-laid}
+use Rattle.ideal_wire.proofs.Faithful.Openings.{opens-faithful, opens-laid}
 use Rattle.ideal_wire.proofs.laws.opening_is_faithful.Goals as goal
 
 pub returns-clause-faithful : goal.returns-clause-faithful

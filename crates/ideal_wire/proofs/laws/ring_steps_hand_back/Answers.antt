@@ -1,4 +1,4 @@
-use Rattle.ideal_wire.proofs.RingBytes.{ring-hands-back}
+use Rattle.ideal_wire.proofs.Faithful.RingBytes.{ring-hands-back}
 use Rattle.ideal_wire.proofs.laws.ring_steps_hand_back.Goals as goal
 
 pub returns : goal.returns

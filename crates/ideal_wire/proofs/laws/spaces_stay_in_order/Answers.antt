@@ -1,4 +1,4 @@
-use Rattle.ideal_wire.proofs.KeptSpaces.{opens-spaced, turn-spaced}
+use Rattle.ideal_wire.proofs.Devices.KeptSpaces.{opens-spaced, turn-spaced}
 use Rattle.ideal_wire.proofs.laws.spaces_stay_in_order.Goals as goal
 
 pub returns-clause-opens : goal.returns-clause-opens

@@ -1,4 +1,4 @@
-use Rattle.ideal_wire.proofs.Turns.{turn-stays}
+use Rattle.ideal_wire.proofs.Faithful.Turns.{turn-stays}
 use Rattle.ideal_wire.proofs.laws.step_stays_faithful.Goals as goal
 
 pub returns : goal.returns

@@ -1,5 +1,5 @@
-use Rattle.ideal_wire.proofs.Machinery.{opens-in-machine}
-use Rattle.ideal_wire.proofs.Machines.{turn-keeps}
+use Rattle.ideal_wire.proofs.Tags.MachineOpens.{opens-in-machine}
+use Rattle.ideal_wire.proofs.Tags.MachineTurns.{turn-keeps}
 use Rattle.ideal_wire.proofs.laws.steps_stay_in_machine.Goals as goal
 
 pub returns-clause-opens : goal.returns-clause-opens

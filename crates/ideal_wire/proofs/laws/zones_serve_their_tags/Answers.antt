@@ -2,7 +2,7 @@ use Rattle.std.proofs.Common.{◌≡◌, ℕ, None}
 use Rattle.std.specs.FinMap.{empty, get, get-empty}
 use Rattle.std.specs.Ordering.{nat_cmp}
 use Rattle.ideal_lane.specs.State.{LaneMap}
-use Rattle.ideal_wire.proofs.ServedMaps.{served-on, turn-served}
+use Rattle.ideal_wire.proofs.Tags.ServedMaps.{served-on, turn-served}
 use Rattle.ideal_wire.proofs.laws.zones_serve_their_tags.Goals as goal
 
 no-map : (m : ℕ) → get (empty {X = LaneMap} {R = nat_cmp}) m ≡ None

@@ -1,6 +1,6 @@
-use Rattle.ideal_wire.proofs.FaithfulRings.{head-reads, ring-reads}
-use Rattle.ideal_wire.proofs.Frames.{agreeing-apart}
-use Rattle.ideal_wire.proofs.Wiring.{cpu_read-reads, dev_read-reads, dev_read_at-reads}
+use Rattle.ideal_wire.proofs.Faithful.FaithfulRings.{head-reads, ring-reads}
+use Rattle.ideal_wire.proofs.Apart.Frames.{agreeing-apart}
+use Rattle.ideal_wire.proofs.Faithful.Wiring.{cpu_read-reads, dev_read-reads, dev_read_at-reads}
 use Rattle.ideal_world.proofs.laws.drivers_read_faithfully.Goals as goal
 
 pub returns-clause-cpu : goal.returns-clause-cpu

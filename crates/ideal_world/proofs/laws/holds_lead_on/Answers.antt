@@ -1,4 +1,4 @@
-use Rattle.ideal_world.proofs.Holding.{holds-lead, holds-sound}
+use Rattle.ideal_world.proofs.HoldLaws.{holds-lead, holds-sound}
 use Rattle.ideal_world.proofs.laws.holds_lead_on.Goals as goal
 
 pub returns-clause-sound : goal.returns-clause-sound

@@ -1,4 +1,4 @@
-use Rattle.ideal_world.proofs.Answering.{answers-load, journals-answer}
+use Rattle.ideal_world.proofs.AnsweredLaws.{answers-load, journals-answer}
 use Rattle.ideal_world.proofs.laws.journals_answer_loads.Goals as goal
 
 pub returns-clause-step : goal.returns-clause-step

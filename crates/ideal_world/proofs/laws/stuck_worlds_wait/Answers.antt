@@ -1,4 +1,4 @@
-use Rattle.ideal_world.proofs.Resting.{awaits-at-rest}
+use Rattle.ideal_world.proofs.RestingActors.{awaits-at-rest}
 use Rattle.ideal_world.proofs.Stuck.{only-awaits}
 use Rattle.ideal_world.proofs.laws.stuck_worlds_wait.Goals as goal
 

@@ -1,4 +1,4 @@
-use Rattle.ideal_world.proofs.Wiring.{opens-all-faithful}
+use Rattle.ideal_world.proofs.WireLaws.{opens-all-faithful}
 use Rattle.ideal_world.proofs.laws.wires_open_faithful.Goals as goal
 
 pub returns : goal.returns

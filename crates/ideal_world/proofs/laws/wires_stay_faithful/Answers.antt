@@ -1,4 +1,4 @@
-use Rattle.ideal_world.proofs.Wiring.{wires-stay}
+use Rattle.ideal_world.proofs.WireLaws.{wires-stay}
 use Rattle.ideal_world.proofs.laws.wires_stay_faithful.Goals as goal
 
 pub returns : goal.returns

@@ -4,7 +4,8 @@ use Rattle.busdma_machine.specs.declared.machine.address.Segment.{Segment}
 use Rattle.segment_build.proofs.Iterating.{drained, holds_seen, holds_so_far}
 use Rattle.iommu_load.specs.declared.gatherer.Gatherer.{Gatherer}
 use Rattle.iommu_load.specs.DeviceStreams.{DeviceOverflows, HasDeviceRoom, IsDeviceBuilt}
-use Rattle.iommu_load.specs.Gathering.{AreSoFar, after_part, ended, ended_run, pieces_of_runs, ungathered}
+use Rattle.iommu_load.specs.Gathering.{AreSoFar, after_part, gathering_ended}
+use Rattle.iommu_load.specs.Gathering.{ended_run, pieces_of_runs, ungathered}
 use Rattle.iommu_load.proofs.Gathering.{gathered}
 use Rattle.iommu_load.proofs.NextPart.{next_is}
 use Rattle.iommu_load.proofs.SoFar.{last_pieces, next_few, next_pieces}
@@ -59,7 +60,7 @@ add_next-few-requires-clause-so_far g c =
     c.into_iter-part-iterator.ensures.into_iter_gives c.requires.room.fronts c.loop-part.yielded_by
     c.in-Some.ensures.steps in
     let at = next_is first ps p room.paged in (
-      pieces_of_runs t (ended (ungathered first) ps),
+      pieces_of_runs t (gathering_ended (ungathered first) ps),
       inv.so_far,
       omega (
         arith,
@@ -92,7 +93,7 @@ loop-part-preserved g c =
           subst (λ (pieces : List Segment). AreSoFar t pieces c.add_next-few.new.list.items c.add_next-few.result)
           (next_pieces t first ps p c.loop-part.gatherer c.take-ended.result at inv.gatherer
           c.take-ended.ensures.ended)
-          (c.add_next-few.ensures.so_far (pieces_of_runs t (ended (ungathered first) ps)) inv.so_far);
+          (c.add_next-few.ensures.so_far (pieces_of_runs t (gathering_ended (ungathered first) ps)) inv.so_far);
       room = omega (arith, c.add_next-few.ensures.room, inv.room);
     }
 
@@ -113,7 +114,7 @@ add_next-few-requires-2-clause-so_far g c =
     let room = holds_seen g.I.Iterator.next_gives (HasDeviceRoom t first c.args.list.now.spare)
     c.into_iter-part-iterator.result ps c.loop-part.part-iterator
     c.into_iter-part-iterator.ensures.into_iter_gives c.requires.room.fronts c.loop-part.yielded_by in (
-      pieces_of_runs t (ended (ungathered first) ps),
+      pieces_of_runs t (gathering_ended (ungathered first) ps),
       inv.so_far,
       omega (
         arith,
@@ -135,7 +136,7 @@ returns-then-not-few-clause-built g c =
     let done =
     subst (λ (pieces : List Segment). AreSoFar t pieces c.add_next-few-2.new.list.items c.add_next-few-2.result)
     (last_pieces t first ps c.loop-part.gatherer room.paged.stream inv.gatherer)
-    (c.add_next-few-2.ensures.so_far (pieces_of_runs t (ended (ungathered first) ps)) inv.so_far) in
+    (c.add_next-few-2.ensures.so_far (pieces_of_runs t (gathering_ended (ungathered first) ps)) inv.so_far) in
     let over = c.if-not-few.true in (
       ps,
       drained g.I.Iterator.next_gives c.into_iter-part-iterator.result ps c.loop-part.part-iterator c.next.new.self
@@ -161,7 +162,7 @@ returns-else-not-few-clause-built g c =
     let done =
     subst (λ (pieces : List Segment). AreSoFar t pieces list c.add_next-few-2.result)
     (last_pieces t first ps c.loop-part.gatherer room.paged.stream inv.gatherer)
-    (c.add_next-few-2.ensures.so_far (pieces_of_runs t (ended (ungathered first) ps)) inv.so_far) in
+    (c.add_next-few-2.ensures.so_far (pieces_of_runs t (gathering_ended (ungathered first) ps)) inv.so_far) in
     let few = c.if-not-few.false in (
       ps,
       drained g.I.Iterator.next_gives c.into_iter-part-iterator.result ps c.loop-part.part-iterator c.next.new.self

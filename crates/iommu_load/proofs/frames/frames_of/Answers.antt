@@ -2,7 +2,7 @@ use Rattle.std.proofs.Common.{rules, ◌<◌, ◌^◌, ◌++◌, append-nil, ap,
 use Rattle.std.specs.List.{AllByRecursion}
 use Rattle.std.proofs.lemmas.List.Elements.{All-from_recursion}
 use Rattle.busdma_machine.specs.declared.machine.chunk.Part.TheVariants as part
-use Rattle.busdma_machine.specs.Machine.Entry.{IsStream, entries_of}
+use Rattle.busdma_machine.specs.Machine.Entry.{IsStream, stream_entries}
 use Rattle.segment_build.proofs.Iterating.{holds_seen, holds_so_far}
 use Rattle.iommu_load.specs.DeviceStreams.{stream_frames}
 use Rattle.iommu_load.proofs.NextPart.{frames_numbered, next_frames, part_frames}
@@ -53,4 +53,4 @@ returns-clause-numbered g c =
     c.loop-part.yielded_by in
     All-from_recursion (λ f. f < 2 ^ 30) c.loop-part.frames.items
     (subst (AllByRecursion (λ f. f < 2 ^ 30)) (sym c.loop-part.invariant.frames)
-    (frames_numbered (entries_of ps) stream.entries))
+    (frames_numbered (stream_entries ps) stream.entries))

@@ -7,7 +7,7 @@ use Rattle.busdma_rules.proofs.Segments.Cuts.{cut_is}
 use Rattle.busdma_rules.specs.Iommu.Device.{device_chunks, load_frames}
 use Rattle.busdma_rules.proofs.Iommu.Carrying.{device-rises, entries-carried}
 use Rattle.busdma_rules.proofs.Iommu.DeviceObeying.{device-obeys}
-use Rattle.busdma_rules.proofs.Iommu.Spaces.{entered-carries}
+use Rattle.busdma_rules.proofs.Iommu.SpaceLaws.{entered-carries}
 use Rattle.iommu_load.proofs.laws.device_segments_are_the_load.Goals as goal
 
 pub returns-clause-bytes : goal.returns-clause-bytes

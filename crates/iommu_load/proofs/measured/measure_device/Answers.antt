@@ -6,7 +6,8 @@ use Rattle.busdma_machine.specs.declared.machine.address.Segment.{Segment}
 use Rattle.segment_build.proofs.Iterating.{drained, holds_seen}
 use Rattle.iommu_load.specs.declared.gatherer.Gatherer.{Gatherer}
 use Rattle.iommu_load.specs.DeviceStreams.{IsInDevicePages}
-use Rattle.iommu_load.specs.Gathering.{after, after_part, ended, ended_run, pieces_of_runs, ungathered}
+use Rattle.iommu_load.specs.Gathering.{gathered_after, after_part, gathering_ended}
+use Rattle.iommu_load.specs.Gathering.{ended_run, pieces_of_runs, ungathered}
 use Rattle.iommu_load.proofs.Gathering.{gathered, run_bytes, run_pieces, runs_append, stream_pieces}
 use Rattle.iommu_load.proofs.NextPart.{next_along}
 use Rattle.iommu_load.proofs.measured.measure_device.Goals as goal
@@ -67,7 +68,7 @@ loop-part-preserved g c =
     c.loop-part.part-iterator p c.next.new.self c.into_iter-part-iterator.ensures.into_iter_gives
     c.requires.paged c.loop-part.yielded_by c.in-Some.ensures.steps in
     let one = c.take.ensures.ended ∙ ap (λ (s : Gatherer). ended_run s p) inv.gatherer in
-    let ran = option_to_list (ended_run (after u ps) p) in
+    let ran = option_to_list (ended_run (gathered_after u ps) p) in
     record {
       can = search rules;
       finite = search rules;
@@ -79,8 +80,8 @@ loop-part-preserved g c =
             inv.pieces,
             ap (λ (o : Option Segment). length (pieces_of_runs t (option_to_list o))) one,
             ap (λ rs. length (pieces_of_runs t rs)) at.ended_are,
-            ap length (runs_append t (ended u ps) ran),
-            length-append (pieces_of_runs t (ended u ps)) (pieces_of_runs t ran),
+            ap length (runs_append t (gathering_ended u ps) ran),
+            length-append (pieces_of_runs t (gathering_ended u ps)) (pieces_of_runs t ran),
           );
       few =
           omega (
@@ -89,7 +90,7 @@ loop-part-preserved g c =
             inv.few,
             ap (λ (o : Option Segment). run_bytes (option_to_list o)) one,
             ap run_bytes at.ended_are,
-            sum_by-append (λ (r : Segment). r.len) (ended u ps) ran,
+            sum_by-append (λ (r : Segment). r.len) (gathering_ended u ps) ran,
           );
     }
 
@@ -135,6 +136,6 @@ returns g c =
         inv.pieces,
         ap (λ (s : Gatherer). length (run_pieces t s.run)) inv.gatherer,
         ap length (stream_pieces t c.args.first ps paged.stream),
-        length-append (pieces_of_runs t (ended u ps)) (run_pieces t (after u ps).run),
+        length-append (pieces_of_runs t (gathering_ended u ps)) (run_pieces t (gathered_after u ps).run),
       ),
     )

@@ -1,5 +1,5 @@
 use Rattle.std.proofs.Common.{◌≡◌, ◌∙◌, sym, ap, refl, length, rules}
-use Rattle.lane_turns.specs.Turning.{answered}
+use Rattle.lane_turns.specs.TakenTurns.{answered}
 use Rattle.world_core.specs.Ideal.{ideal_world}
 use Rattle.world_core.proofs.Taking.{no_entry}
 use Rattle.journal_check.proofs.Trying.{IsQuiet, stays-quiet, goes-on, all-quiet}

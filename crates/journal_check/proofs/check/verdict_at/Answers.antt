@@ -4,7 +4,7 @@ use Rattle.busdma_base.specs.declared.journals.journal.Journal.{Journal}
 use Rattle.busdma_base.specs.declared.journals.journal.JournalEntry.{JournalEntry}
 use Rattle.busdma_base.specs.declared.scenarios.scenario.Scenario.{Scenario}
 use Rattle.busdma_machine.specs.declared.bounce.zone.ZoneCounts.{ZoneCounts}
-use Rattle.ideal_world.specs.Ends.{IsAtRest, world_end as end_of}
+use Rattle.ideal_world.specs.Ends.{IsAtRest, world_end}
 use Rattle.ideal_world.specs.World.{WorldState, opening_world, zone_counts}
 use Rattle.ideal_world.proofs.Opens.{opens-well}
 use Rattle.world_core.specs.Ideal.{ideal_world}
@@ -16,12 +16,12 @@ use Rattle.journal_check.proofs.check.verdict_at.Goals as goal
 
 -- the journal of entries and of a world that stayed
 own : (w after : WorldState) (es entries : List JournalEntry) (zones : List ZoneCounts) (end : End) → after ≡ w →
-    entries ≡ es → zones ≡ zone_counts after → end ≡ end_of after →
+    entries ≡ es → zones ≡ zone_counts after → end ≡ world_end after →
     record { entries = entries; zones = zones; end = end } ≡ journal_at w es
 own w after es entries zones end same is counted ended =
     ap (λ x. record { entries = x; zones = zones; end = end }) is
     ∙ (ap (λ z. record { entries = es; zones = z; end = end }) (counted ∙ ap zone_counts same)
-    ∙ ap (λ (e : End). record { entries = es; zones = zone_counts w; end = e }) (ended ∙ ap end_of same))
+    ∙ ap (λ (e : End). record { entries = es; zones = zone_counts w; end = e }) (ended ∙ ap world_end same))
 
 pub goes_on-requires : goal.goes_on-requires
 goes_on-requires c =
@@ -61,5 +61,6 @@ returns c =
     (own w after c.args.entries.items c.new.result c.in_ok-zones.field-0 c.end.result still.1 c.new.ensures
     c.in_ok-zones.ensures c.end.ensures)
     c.split_at.result.1.now c.split_at.ensures.back c.in_ok-closing.closing.items c.len-followed.result
-    c.lines_alike.result (c.len-followed.result + c.lines_alike.result + 1) c.in_ok-closing.ensures other count (search rules)
+    c.lines_alike.result (c.len-followed.result + c.lines_alike.result + 1) c.in_ok-closing.ensures other count
+    (search rules)
     refl)

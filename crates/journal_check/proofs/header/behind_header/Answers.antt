@@ -25,4 +25,5 @@ returns c =
     subst (Stripped input digits) c.in_ok-behind.was
     (strip_prefix_is Decides-eqb input digits c.strip_prefix.result c.strip_prefix.ensures.cases) in
     behind-number input digits c.in_ok-behind.behind.now c.args.size c.strip_prefix-2.result own first
-    (strip_prefix_is Decides-eqb c.in_ok-behind.behind.now (10 ∷ []) c.strip_prefix-2.result c.strip_prefix-2.ensures.cases)
+    (strip_prefix_is Decides-eqb c.in_ok-behind.behind.now (10 ∷ []) c.strip_prefix-2.result
+    c.strip_prefix-2.ensures.cases)

@@ -1,4 +1,5 @@
-use Rattle.std.proofs.Common.{rules, ◌≡◌, ◌<◌, ◌^◌, ◌∙◌, ◌++◌, ◌∷◌, ap, sym, subst, arith, ℕ, List, Option, Some, None, take, length}
+use Rattle.std.proofs.Common.{rules, ◌≡◌, ◌<◌, ◌^◌, ◌∙◌, ◌++◌, ◌∷◌, ap, sym, subst, arith, ℕ, List, Option, Some, None}
+use Rattle.std.proofs.Common.{take, length}
 use Rattle.std.proofs.lemmas.Option.{same_Some}
 use Rattle.std.proofs.lemmas.Fmt.{parse-decimal, IsAscii-decimal}
 use Rattle.std.proofs.lemmas.Str.{IsUtf8-from_ascii}
@@ -19,7 +20,8 @@ returns-in_err-place_of c = λ n rest less is.
 pub returns-in_err-ok : goal.returns-in_err-ok
 returns-in_err-ok c = λ n rest less is.
     let word : c.split_at.result.0.now ≡ decimal n =
-    number-word c.args.text.now c.split_at.result.0.now rest c.args.end n c.in_ok-place_of.field-0 c.requires c.split_at.ensures.front
+    number-word c.args.text.now c.split_at.result.0.now rest c.args.end n c.in_ok-place_of.field-0 c.requires
+    c.split_at.ensures.front
     (sym c.place_of.ensures.first ∙ c.in_ok-place_of.was) is in
     let bad : IsUtf8 c.split_at.result.0.now → ⊥ = search rules in
     absurd (bad (subst IsUtf8 (sym word) (IsUtf8-from_ascii (decimal n) (IsAscii-decimal n (omega (arith, less))))))
@@ -27,7 +29,8 @@ returns-in_err-ok c = λ n rest less is.
 pub returns : goal.returns
 returns c = λ n rest less is.
     let word : c.split_at.result.0.now ≡ decimal n =
-    number-word c.args.text.now c.split_at.result.0.now rest c.args.end n c.in_ok-place_of.field-0 c.requires c.split_at.ensures.front
+    number-word c.args.text.now c.split_at.result.0.now rest c.args.end n c.in_ok-place_of.field-0 c.requires
+    c.split_at.ensures.front
     (sym c.place_of.ensures.first ∙ c.in_ok-place_of.was) is in
     let text : c.in_ok-ok.field-0.now ≡ c.split_at.result.0.now = search rules in
     c.ok-2.ensures.value

@@ -1,6 +1,6 @@
 use Rattle.std.proofs.Common.{rules, ◌≡◌, ◌∙◌, sym, ap}
 use Rattle.ideal_world.specs.World.{WorldTurned, entry_of}
-use Rattle.lane_turns.specs.Turning.{answered}
+use Rattle.lane_turns.specs.TakenTurns.{answered}
 use Rattle.program_rules.specs.Reports.Report.{entry_line}
 use Rattle.world_core.specs.Ideal.{ideal_world}
 use Rattle.world_core.proofs.Taking.{no_entry}
@@ -32,7 +32,8 @@ returns-then-eq c =
 pub returns-else-eq : goal.returns-else-eq
 returns-else-eq c =
     let done = c.in_ok-entry.ensures.done in
-    let off : c.args.line.now ≡ entry_line c.args.scenario.now c.args.number c.in-Stepped.entry → ⊥ = λ h. search rules in
+    let off : c.args.line.now ≡ entry_line c.args.scenario.now c.args.number c.in-Stepped.entry → ⊥ =
+    λ h. search rules in
     wrong-line c.args.scenario.now c.args.number (ideal_world c.args.world.now) c.args.line.now
     c.named_actor.result c.requires c.named_actor.ensures c.in-Some.actor c.in-Some.is (ideal_world c.step.new.self)
     (ap (λ (t : WorldTurned). t.world) done) c.in-Stepped.entry

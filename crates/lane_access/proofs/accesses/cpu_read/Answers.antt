@@ -13,7 +13,8 @@ returns-in_default c =
 pub returns-in-Unmapped : goal.returns-in-Unmapped
 returns-in-Unmapped c =
     ap (gives (ideal_of c.args.holdings.now)) c.report-in-Unmapped.ensures
-    ∙ cpu_read-unmapped c.args.holdings.now c.args.place c.in-Some.va c.args.len (sym c.virtual_at.ensures ∙ c.in-Some.is) _
+    ∙ cpu_read-unmapped c.args.holdings.now c.args.place c.in-Some.va c.args.len
+    (sym c.virtual_at.ensures ∙ c.in-Some.is) _
     (rw c.in-Unmapped.is at c.in_ok-at.ensures.verdict)
 
 pub returns-in-Refused : goal.returns-in-Refused

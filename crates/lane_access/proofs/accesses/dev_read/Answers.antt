@@ -5,7 +5,7 @@ use Rattle.busdma_machine.specs.declared.name.MapId.{MapId}
 use Rattle.busdma_rules.specs.Lending.Access.{dev_read_answer}
 use Rattle.busdma_machine.specs.Runs.{addresses}
 use Rattle.busdma_rules.specs.Lending.Loans.{load_bytes, loan_of}
-use Rattle.loan_table.specs.Table.{AreIn, is_known}
+use Rattle.loan_table.specs.Table.{AreIn, is_marked_known}
 use Rattle.phys_memory.specs.Frames.{Lie}
 use Rattle.phys_memory.specs.Memory.{wire}
 use Rattle.ideal_lane.specs.Outcomes.{gives}
@@ -15,7 +15,8 @@ use Rattle.lane_state.specs.Covered.{has_load}
 use Rattle.lane_state.specs.Ideal.{ideal_of}
 use Rattle.lane_state.specs.Kept.{map_of}
 use Rattle.lane_state.specs.Wire.{wire_of}
-use Rattle.lane_access.proofs.DeviceReads.{dev_read-by, dev_read-done, dev_read-past, dev_read-reads, dev_read-refused, load-there}
+use Rattle.lane_access.proofs.DeviceReads.{dev_read-by, dev_read-done, dev_read-past, dev_read-reads, dev_read-refused}
+use Rattle.lane_access.proofs.DeviceReads.{load-there}
 use Rattle.lane_state.proofs.Devices.{is-reached}
 use Rattle.lane_state.proofs.MapValues.{image-some}
 use Rattle.lane_access.proofs.OwnExtents.{lie-inside}
@@ -38,7 +39,8 @@ returns-in-Refused-clause-done c =
     dev_read-refused h c.args.map c.args.off c.args.len c.in_default.ensures.loaded
     c.in_default-past_end.ensures.range c.in-Refused.refusal
     (sym c.in-Refused.is ∙ c.may_dev_read.ensures
-    ∙ ap (λ (m : MapId). dev_read_answer (is_known h.loans) (loan_of h.loans.loans m.made_at) c.args.off c.args.len)
+    ∙ ap (λ (m : MapId). dev_read_answer (is_marked_known h.loans) (loan_of h.loans.loans m.made_at) c.args.off
+    c.args.len)
     c.map_id-id.ensures)
 
 pub read_load-bytes-requires : goal.read_load-bytes-requires
@@ -86,11 +88,13 @@ returns-clause-done c =
     let plain : is_behind (ideal_of h) c.args.map ≡ false =
     not-behind h c.args.map o there c.is_device.result c.is_device.ensures c.if-is_device.false in
     let maps = put-same h.maps.map c.args.map o c.read_load-bytes.new.map there c.read_load-bytes.ensures.kept in
-    ap (λ s. gives s (answer.Bytes c.in_ok-bytes.field-0)) (ideal-back h (insert h.maps.map c.args.map (record o { map = c.read_load-bytes.new.map })) maps)
+    ap (λ s. gives s (answer.Bytes c.in_ok-bytes.field-0))
+    (ideal-back h (insert h.maps.map c.args.map (record o { map = c.read_load-bytes.new.map })) maps)
     ∙ dev_read-done h c.args.map c.args.off c.args.len c.in_default.ensures.loaded
     c.in_default-past_end.ensures.range c.requires.wired o there plain
     (sym c.in_default-may_dev_read.is ∙ c.may_dev_read.ensures
-    ∙ ap (λ (m : MapId). dev_read_answer (is_known h.loans) (loan_of h.loans.loans m.made_at) c.args.off c.args.len)
+    ∙ ap (λ (m : MapId). dev_read_answer (is_marked_known h.loans) (loan_of h.loans.loans m.made_at) c.args.off
+    c.args.len)
     c.map_id-id.ensures)
     c.in_ok-bytes.field-0 c.in_ok-bytes.ensures.bytes
 
@@ -104,7 +108,8 @@ returns-clause-read c =
     dev_read-reads h c.args.map c.args.off c.args.len c.in_default.ensures.loaded
     c.in_default-past_end.ensures.range c.requires.wired o there plain
     (sym c.in_default-may_dev_read.is ∙ c.may_dev_read.ensures
-    ∙ ap (λ (m : MapId). dev_read_answer (is_known h.loans) (loan_of h.loans.loans m.made_at) c.args.off c.args.len)
+    ∙ ap (λ (m : MapId). dev_read_answer (is_marked_known h.loans) (loan_of h.loans.loans m.made_at) c.args.off
+    c.args.len)
     c.map_id-id.ensures)
     c.in_ok-bytes.field-0 c.in_ok-bytes.ensures.bytes
 
@@ -124,7 +129,11 @@ returns-clause-kept c =
     let maps = put-same h.maps.map c.args.map o c.read_load-bytes.new.map there c.read_load-bytes.ensures.kept in
     record {
       ideal = ideal-back h (insert h.maps.map c.args.map (record o { map = c.read_load-bytes.new.map })) maps;
-      bytes = record { own = refl; pages = pages-back h (insert h.maps.map c.args.map (record o { map = c.read_load-bytes.new.map })) maps };
+      bytes = record {
+        own = refl;
+        pages =
+            pages-back h (insert h.maps.map c.args.map (record o { map = c.read_load-bytes.new.map })) maps;
+      };
     }
 
 pub returns-in_err-bytes-clause-wire : goal.returns-in_err-bytes-clause-wire
@@ -143,7 +152,11 @@ returns-in_err-bytes-clause-kept c =
     let maps = put-same h.maps.map c.args.map o c.read_load-bytes.new.map there c.read_load-bytes.ensures.kept in
     record {
       ideal = ideal-back h (insert h.maps.map c.args.map (record o { map = c.read_load-bytes.new.map })) maps;
-      bytes = record { own = refl; pages = pages-back h (insert h.maps.map c.args.map (record o { map = c.read_load-bytes.new.map })) maps };
+      bytes = record {
+        own = refl;
+        pages =
+            pages-back h (insert h.maps.map c.args.map (record o { map = c.read_load-bytes.new.map })) maps;
+      };
     }
 
 pub read_parts-requires-clause-lie : goal.read_parts-requires-clause-lie
@@ -174,7 +187,8 @@ returns-then-is_device-clause-done c =
     dev_read-by h c.args.map c.args.off c.args.len c.in_default.ensures.loaded
     c.in_default-past_end.ensures.range c.requires.wired
     (sym c.in_default-may_dev_read.is ∙ c.may_dev_read.ensures
-    ∙ ap (λ (m : MapId). dev_read_answer (is_known h.loans) (loan_of h.loans.loans m.made_at) c.args.off c.args.len)
+    ∙ ap (λ (m : MapId). dev_read_answer (is_marked_known h.loans) (loan_of h.loans.loans m.made_at) c.args.off
+    c.args.len)
     c.map_id-id.ensures)
     c.in_ok-read_parts.field-0
     (c.in_ok-read_parts.ensures

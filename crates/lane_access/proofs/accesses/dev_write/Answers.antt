@@ -29,7 +29,7 @@ use Rattle.lane_access.proofs.Repaging.{are-maps}
 use Rattle.lane_access.proofs.OwnExtents.{lie-inside}
 use Rattle.lane_access.proofs.Unbounced.{is-behind, not-behind, own-faithful, own-step, own-wire}
 use Rattle.std.proofs.Common.{refl}
-use Rattle.dma_map.specs.MapView.{waiting_load}
+use Rattle.dma_map.specs.MapView.{held_waiting_load}
 use Rattle.lane_state.proofs.Awaiting.{put-awaiting, still-ready}
 use Rattle.lane_access.proofs.accesses.dev_write.Goals as goal
 
@@ -93,7 +93,7 @@ invariant_of-holdings-2 c =
       returning = are.returning;
       tried = are.tried;
       awaiting = put-awaiting h c.note_dev_write.new.self.prepared prepared k (record o { map = c.write_load.new.map })
-          (ap (λ m. waiting_load m.stage) c.write_load.ensures.map.is);
+          (ap (λ m. held_waiting_load m.stage) c.write_load.ensures.map.is);
       ready = still-ready h c.note_dev_write.new.self.prepared prepared;
     }
 
@@ -110,9 +110,11 @@ returns-clause-done c =
     sym c.in_default-may_dev_write.is ∙ c.may_dev_write.ensures
     ∙ ap (λ (m : MapId). dev_write_answer (loan_of h.loans.loans m.made_at) c.args.off (length c.args.bytes.now))
     c.map_id-id.ensures in
-    dev_write-done h c.requires.wired k o there on plain c.args.off c.args.bytes.now c.in_default-past_end.ensures.range fine
+    dev_write-done h c.requires.wired k o there on plain c.args.off c.args.bytes.now c.in_default-past_end.ensures.range
+    fine
     c.write_load.new.map c.write_load.ensures.map c.write_load.new.memory.memory c.write_load.ensures.view
-    c.note_dev_write.new.self.bytes c.note_dev_write.new.self.loans (insert h.maps.map k (record o { map = c.write_load.new.map }))
+    c.note_dev_write.new.self.bytes c.note_dev_write.new.self.loans
+    (insert h.maps.map k (record o { map = c.write_load.new.map }))
     c.in_default-past_end.ensures.inside
     (c.note_dev_write.ensures.bytes
     ∙ (λ i. set_all (c.reserve_extents.ensures.same.bytes i)
@@ -133,7 +135,8 @@ returns-clause-wire c =
     sym c.in_default-may_dev_write.is ∙ c.may_dev_write.ensures
     ∙ ap (λ (m : MapId). dev_write_answer (loan_of h.loans.loans m.made_at) c.args.off (length c.args.bytes.now))
     c.map_id-id.ensures in
-    dev_write-wire h c.requires.wired k o there on plain c.args.off c.args.bytes.now c.in_default-past_end.ensures.range fine
+    dev_write-wire h c.requires.wired k o there on plain c.args.off c.args.bytes.now c.in_default-past_end.ensures.range
+    fine
     c.write_load.new.map c.write_load.ensures.map c.write_load.new.memory.memory c.write_load.ensures.view
 
 pub write_own-requires-clause-lie : goal.write_own-requires-clause-lie
@@ -182,7 +185,8 @@ returns-then-is_device-clause-done c =
     ∙ ap (λ (m : MapId). dev_write_answer (loan_of h.loans.loans m.made_at) c.args.off (length vs))
     c.map_id-id.ensures in
     ap (λ s. gives s Done) (c.in_ok-write_own.ensures.done
-    ∙ ap (λ pas. with_written pas vs (ideal_of h)) (ap addresses c.as_slice.ensures.value ∙ c.in_ok-parts.ensures.bytes))
+    ∙ ap (λ pas. with_written pas vs (ideal_of h)) (ap addresses c.as_slice.ensures.value
+    ∙ c.in_ok-parts.ensures.bytes))
     ∙ sym (own-step h c.requires.wired c.requires.stands c.args.map x.0 x.1 x.2 device c.args.off vs
     c.in_default-past_end.ensures.range fine)
 

@@ -6,7 +6,7 @@ use Rattle.phys_memory.specs.Memory.{wire}
 use Rattle.busdma_machine.specs.Runs.{run_of}
 use Rattle.loan_table.proofs.Judgement.{length-run_of}
 use Rattle.loan_table.proofs.Addresses.{no_extent}
-use Rattle.lane_state.proofs.Wires.{part_size, part_read, extents_more, count_more, lie_more}
+use Rattle.lane_state.proofs.WireBytes.{part_size, part_read, extents_more, count_more, lie_more}
 use Rattle.lane_access.proofs.accesses.fill.Goals as goal
 
 pub slice_bounds-here-end : goal.slice_bounds-here-end

@@ -2,7 +2,7 @@ use Rattle.std.proofs.Common.{subst}
 use Rattle.busdma_machine.specs.declared.name.MapId.{MapId}
 use Rattle.busdma_rules.specs.Lending.Loans.{addresses_of}
 use Rattle.loan_table.specs.Table.{AreIn, buffer_of}
-use Rattle.loan_table.proofs.Marking.{AreIn-range}
+use Rattle.loan_table.proofs.MarkLaws.{AreIn-range}
 use Rattle.lane_access.proofs.accesses.past_end.Goals as goal
 
 pub returns-then-len-end-clause-inside : goal.returns-then-len-end-clause-inside

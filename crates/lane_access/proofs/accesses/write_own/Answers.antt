@@ -7,7 +7,7 @@ use Rattle.lane_state.proofs.Marks.{has_set_all}
 use Rattle.lane_access.proofs.OwnWrites.{own-written}
 use Rattle.lane_state.proofs.OwnBytes.{own-put}
 use Rattle.lane_state.proofs.Reaching.{same-physical, same-placed, same-standing}
-use Rattle.lane_state.proofs.Wires.{byte_count_addresses}
+use Rattle.lane_state.proofs.WireBytes.{byte_count_addresses}
 use Rattle.lane_access.proofs.accesses.write_own.Goals as goal
 
 pub note_write-requires-clause-total : goal.note_write-requires-clause-total

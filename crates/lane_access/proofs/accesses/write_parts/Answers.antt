@@ -1,6 +1,6 @@
 use Rattle.std.proofs.Common.{arith, ◌∙◌}
-use Rattle.lane_state.proofs.Wires.{part_written, extents_more, count_more, lie_more, lie_same, lie_first}
-use Rattle.lane_state.proofs.Wires.{same_rewritten, same_trans}
+use Rattle.lane_state.proofs.WireBytes.{part_written, extents_more, count_more, lie_more, lie_same, lie_first}
+use Rattle.lane_state.proofs.WireBytes.{same_rewritten, same_trans}
 use Rattle.lane_access.proofs.accesses.write_parts.Goals as goal
 
 pub slice_bounds-here-end : goal.slice_bounds-here-end

@@ -45,7 +45,8 @@ returns-in-Some-place-clause-is c i below =
     ) in
     let place : place_in 0 c.segments.result.now (c.args.addr + i) ≡ Some (c.in-Some-place.at + i) =
     c.find_in-found.ensures.is i below ∙ ap (option_map (λ p. p + i)) c.in-Some-place.is in
-    position-last h c.requires.wired c.args.tag c.args.addr c.requires.reached (c.args.addr + i) page c.in-Some.load last
+    position-last h c.requires.wired c.args.tag c.args.addr c.requires.reached (c.args.addr + i) page c.in-Some.load
+    last
     c.in-Some-get.kept.now (sym c.in-Some-get.ensures) (Some (c.in-Some-place.at + i))
     (ap (λ ss. place_in 0 ss (c.args.addr + i)) (sym c.segments.ensures) ∙ place)
 
@@ -77,6 +78,7 @@ returns-in-None-clause-is c i below =
     ) in
     let place : place_in 0 c.segments.result.now (c.args.addr + i) ≡ None =
     c.find_in-found.ensures.is i below ∙ ap (option_map (λ p. p + i)) c.in-None.is in
-    position-last h c.requires.wired c.args.tag c.args.addr c.requires.reached (c.args.addr + i) page c.in-Some.load last
+    position-last h c.requires.wired c.args.tag c.args.addr c.requires.reached (c.args.addr + i) page c.in-Some.load
+    last
     c.in-Some-get.kept.now (sym c.in-Some-get.ensures) None
     (ap (λ ss. place_in 0 ss (c.args.addr + i)) (sym c.segments.ensures) ∙ place)

@@ -1,10 +1,10 @@
 use Rattle.std.proofs.Common.{◌≡◌, ◌+◌, ◌-◌, ◌≤◌, drop, length}
-use Rattle.lane_access.specs.Shares.{place_in}
+use Rattle.lane_access.specs.Shares.{share_place}
 use Rattle.lane_access.proofs.syncs.place_of.Given as goal
 
 abbrev pub invariant-loop-place : goal.invariant-loop-place
 invariant-loop-place l = record {
-  at : l.place + place_in l.zone.0 (drop l.place l.shares) ≡ place_in l.zone.0 l.shares;
+  at : l.place + share_place l.zone.0 (drop l.place l.shares) ≡ share_place l.zone.0 l.shares;
   inside : l.place ≤ length l.shares;
 }
 

@@ -5,19 +5,19 @@ use Rattle.std.specs.FinMap.{contains_key, get, insert}
 use Rattle.busdma_machine.specs.declared.report.Judged.TheVariants.{Fine}
 use Rattle.busdma_machine.specs.declared.name.MapId.{MapId}
 use Rattle.busdma_machine.specs.declared.name.ZoneId.{ZoneId}
-use Rattle.dma_map.specs.MapView.{chunks_of}
+use Rattle.dma_map.specs.MapView.{held_chunks}
 use Rattle.busdma_rules.specs.Tags.SyncOps.{is_mixed, postread, prewrite}
-use Rattle.busdma_rules.specs.Lending.Syncing.{lost, sync_answer}
-use Rattle.busdma_rules.specs.Lending.Syncing as lending
+use Rattle.busdma_rules.specs.Lending.SyncEffects.{lost, sync_answer}
+use Rattle.busdma_rules.specs.Lending.SyncEffects as lending
 use Rattle.loan_table.specs.Table.{AreIn, IsSynced, set_all}
 use Rattle.ideal_lane.specs.Syncs.{counted, has_byte_of, sync_part}
 use Rattle.ideal_wire.specs.WireStep as wires
 use Rattle.ideal_wire.specs.WireStep.{if_done}
-use Rattle.ideal_wire.proofs.Positions.{found_one}
+use Rattle.ideal_wire.proofs.Laid.Positions.{found_one}
 use Rattle.lane_state.specs.declared.kept.KeptMap.{KeptMap}
 use Rattle.lane_state.specs.Covered.{has_load}
 use Rattle.lane_state.specs.Ideal.{ideal_of}
-use Rattle.lane_state.specs.Kept.{map_of, share_of}
+use Rattle.lane_state.specs.Kept.{map_of, kept_share}
 use Rattle.lane_state.specs.Wire.{wire_of}
 use Rattle.lane_access.proofs.Bouncing.{is-bounced}
 use Rattle.lane_state.proofs.MapValues.{image-some}
@@ -25,7 +25,7 @@ use Rattle.lane_state.proofs.Marks.{has_set_all}
 use Rattle.lane_state.proofs.Reaching.{same-physical, same-placed, same-standing}
 use Rattle.lane_access.proofs.Syncing.{are-synced, part-done, part-wire}
 use Rattle.std.proofs.Common.{refl}
-use Rattle.dma_map.specs.MapView.{waiting_load}
+use Rattle.dma_map.specs.MapView.{held_waiting_load}
 use Rattle.lane_state.proofs.Awaiting.{put-awaiting, still-ready}
 use Rattle.lane_access.proofs.syncs.sync_part.Goals as goal
 
@@ -93,7 +93,7 @@ invariant_of-holdings-2 c =
       returning = maps.returning;
       tried = maps.tried;
       awaiting = put-awaiting h c.sync_loans.new.loans.prepared prepared k (record o { map = c.copy_part.new.map })
-          (ap (λ m. waiting_load m.stage) c.copy_part.ensures.map.is);
+          (ap (λ m. held_waiting_load m.stage) c.copy_part.ensures.map.is);
       ready = still-ready h c.sync_loans.new.loans.prepared prepared;
     }
 
@@ -130,13 +130,14 @@ returns-clause-done c other found =
     c.sync_loans.ensures.there)) in
     let shares = c.copy_part.ensures.shares
     ∙ ap (λ xs. counted ((prewrite ops || postread ops)
-    && list_any (has_byte_of c.args.off c.args.len) (chunks_of o.map.stage))
-    (option_map (λ (z : ZoneId). z.0) o.map.zone) (share_of xs)) c.reserve.ensures.items in
+    && list_any (has_byte_of c.args.off c.args.len) (held_chunks o.map.stage))
+    (option_map (λ (z : ZoneId). z.0) o.map.zone) (kept_share xs)) c.reserve.ensures.items in
     let is : map_of o ≡ other =
     found_one (get (ideal_of h).maps k) (map_of o) other (image-some map_of h.maps.map k o there) found in
     part-done h c.requires.wired k o there on c.copy_part.new.map c.copy_part.ensures.map
     c.copy_part.new.memory.memory c.args.off c.args.len ops c.copy_part.ensures.view c.requires.range alone fine
-    c.sync_loans.new.loans.bytes c.sync_loans.new.loans.loans (insert h.maps.map k (record o { map = c.copy_part.new.map })) c.copy_part.new.shares.items are marks
+    c.sync_loans.new.loans.bytes c.sync_loans.new.loans.loans
+    (insert h.maps.map k (record o { map = c.copy_part.new.map })) c.copy_part.new.shares.items are marks
     loans refl shares
     ∙ ap (λ y. sync_part k y c.args.off c.args.len ops (ideal_of h)) is
 
@@ -158,4 +159,4 @@ returns-clause-wire c other found =
     part-wire h c.requires.wired k o there on c.copy_part.new.map c.copy_part.ensures.map
     c.copy_part.new.memory.memory c.args.off c.args.len ops c.copy_part.ensures.view c.requires.range alone fine
     ∙ ap (λ y. if_done (sync_part k y c.args.off c.args.len ops (ideal_of h))
-    (wires.synced k c.args.off c.args.len ops (ideal_of h) (wire_of h)) (wire_of h)) is
+    (wires.wire_synced k c.args.off c.args.len ops (ideal_of h) (wire_of h)) (wire_of h)) is

@@ -50,7 +50,7 @@ returns-clause-wire c =
     let there = image-some map_of h.maps.map k x.0 x.1 in
     if-ok c.sync_part.result _ _
     (λ answer is. is (map_of x.0) there
-    ∙ ap (λ s. if_done s (wires.synced k c.args.off c.args.len c.args.ops.0 l (wire_of h)) (wire_of h))
+    ∙ ap (λ s. if_done s (wires.wire_synced k c.args.off c.args.len c.args.ops.0 l (wire_of h)) (wire_of h))
     (sym (range-within l k (map_of x.0) there x.2 c.args.ops.0 c.args.off c.args.len
     c.in_default-past_end.ensures.range)))
     c.sync_part.ensures.wire

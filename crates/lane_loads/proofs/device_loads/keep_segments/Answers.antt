@@ -6,7 +6,7 @@ use Rattle.std.specs.List.{each_same}
 use Rattle.busdma_base.specs.declared.journals.answer.Answer.TheVariants.{Segments}
 use Rattle.busdma_machine.specs.Machine.Entry.{entries_addresses}
 use Rattle.busdma_machine.specs.Machine.PageList.{RoomyPages, page_addresses}
-use Rattle.busdma_base.specs.Scenarios.Queues.{queued_items as queued}
+use Rattle.busdma_base.specs.Scenarios.Queues.{queued_items}
 use Rattle.busdma_rules.specs.Lending.Loans.{Loan, loan_of, new_loan, no_loan}
 use Rattle.phys_memory.specs.Memory.{wire}
 use Rattle.ideal_lane.proofs.Falling.{queued-from}
@@ -37,7 +37,8 @@ kept-behind h p r kept same rest = record {
 pub returns-in_err-enter_run-clause-err : goal.returns-in_err-enter_run-clause-err
 returns-in_err-enter_run-clause-err c =
     on-err c.from_residual-in_err-enter_run.result
-    (kept-behind c.args.holdings.now c.prepare_load.new.holdings c.enter_run.new.holdings c.in_ok-prepare_load.ensures.same
+    (kept-behind c.args.holdings.now c.prepare_load.new.holdings c.enter_run.new.holdings
+    c.in_ok-prepare_load.ensures.same
     c.in_err-enter_run.ensures.err c.in_err-enter_run.ensures.rest)
 
 -- the loan of the load is prepared
@@ -114,18 +115,18 @@ returns-clause-done c o x found entries items =
       queue = (push i).queue;
       returns = map return_of (push i).returns;
     })
-    ∙ ap (λ (k : LaneState). record k { queue = k.queue ++ queued c.place-load_at.result c.in_ok-items.items })
+    ∙ ap (λ (k : LaneState). record k { queue = k.queue ++ queued_items c.place-load_at.result c.in_ok-items.items })
     (c.store_load.ensures.done o there)
     ∙ (λ i. record (staged m o (Loaded (bounced i) c.args.segments (none i)) (entered i)) {
       loans = insert (entered i).loans m (loan i);
-      queue = (entered i).queue ++ queued (c.place-load_at.ensures i) (given i);
+      queue = (entered i).queue ++ queued_items (c.place-load_at.ensures i) (given i);
     }) in
     (λ i. record { lane = lane i; answer = Segments (shown i) })
 
 pub returns-clause-agenda : goal.returns-clause-agenda
 returns-clause-agenda c =
     let s = c.store_load.new.holdings in
-    let items = queued c.place-load_at.result c.in_ok-items.items in
+    let items = queued_items c.place-load_at.result c.in_ok-items.items in
     let push = c.push_items.ensures in
     let stored = c.store_load.ensures.agenda ∙ c.enter_run.ensures.rest.agenda ∙ c.in_ok-prepare_load.ensures.agenda in
     let same : c.in_ok-items.items ≡ c.args.items.now = each_same _ _ c.in_ok-items.ensures.cases in

@@ -7,7 +7,7 @@ use Rattle.busdma_machine.specs.declared.report.Errno.TheVariants.{EFBIG, ENOMEM
 use Rattle.busdma_machine.specs.declared.machine.chunk.Entry.{Entry}
 use Rattle.busdma_machine.specs.declared.machine.chunk.Part.{Part}
 use Rattle.busdma_machine.specs.declared.tags.tag.TagLimits.{TagLimits}
-use Rattle.busdma_machine.specs.Machine.Entry.{entries_of}
+use Rattle.busdma_machine.specs.Machine.Entry.{stream_entries}
 use Rattle.busdma_rules.specs.Iommu.Device.{load_frames}
 use Rattle.iommu_load.specs.DeviceStreams.{stream_frames}
 use Rattle.ideal_lane.specs.Loads.{limits_of, load_entries, loaded, no_limits}
@@ -27,7 +27,7 @@ use Rattle.lane_loads.proofs.device_loads.load_device.Goals as goal
 same-frames : (l : LaneState) (b : Bio) (es : List Entry) (parts : List Part) (frames : List ℕ) →
     es ≡ load_entries l b → frames ≡ stream_frames parts → parts ≡ load_stream l b → frames ≡ load_frames es
 same-frames l b es parts frames entries are is =
-    are ∙ ap load_frames (ap entries_of is ∙ stream-entries l b ∙ sym entries)
+    are ∙ ap load_frames (ap stream_entries is ∙ stream-entries l b ∙ sym entries)
 
 -- the page that is found for the frames is the page for the load's frames
 same-page : (l : LaneState) (o : LaneMap) (tag : ℕ) (asked frames : List ℕ) (page : Option ℕ) → tag ≡ o.tag →

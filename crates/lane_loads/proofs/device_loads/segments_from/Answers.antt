@@ -2,7 +2,7 @@ use Rattle.std.proofs.Common.{◌≡◌, ◌+◌, ◌^◌, ◌<◌, ◌≤◌, L
 use Rattle.busdma_machine.specs.declared.machine.address.Segment.{Segment}
 use Rattle.busdma_machine.specs.declared.machine.chunk.Entry.{Entry}
 use Rattle.busdma_machine.specs.declared.tags.tag.TagLimits.{TagLimits}
-use Rattle.busdma_machine.specs.Machine.Entry.{entries_of}
+use Rattle.busdma_machine.specs.Machine.Entry.{stream_entries}
 use Rattle.busdma_rules.specs.Iommu.Device.{load_frames}
 use Rattle.iommu_load.specs.DeviceStreams.{device_pieces}
 use Rattle.segment_build.proofs.Cuts.{one_segmentation}
@@ -23,8 +23,8 @@ returns-in_default-clause-many c t found =
 pub measure_in_pages-pieces-requires : goal.measure_in_pages-pieces-requires
 measure_in_pages-pieces-requires c =
     let l = ideal_of c.args.holdings.now in
-    let entries : entries_of c.parts.result ≡ load_entries l (bio_of c.args.bytes) =
-    ap entries_of c.parts.ensures.parts ∙ stream-entries l (bio_of c.args.bytes) in
+    let entries : stream_entries c.parts.result ≡ load_entries l (bio_of c.args.bytes) =
+    ap stream_entries c.parts.ensures.parts ∙ stream-entries l (bio_of c.args.bytes) in
     record {
       stream = c.parts.ensures.stream;
       pages = subst (λ (es : List Entry). c.args.first + length (load_frames es) ≤ 2 ^ 52) (sym entries)
@@ -35,8 +35,8 @@ pub build_in_pages-requires-clause-room : goal.build_in_pages-requires-clause-ro
 build_in_pages-requires-clause-room c =
     let l = ideal_of c.args.holdings.now in
     let made = c.in-Some.made.now in
-    let entries : entries_of c.parts-2.result ≡ load_entries l (bio_of c.args.bytes) =
-    ap entries_of c.parts-2.ensures.parts ∙ stream-entries l (bio_of c.args.bytes) in
+    let entries : stream_entries c.parts-2.result ≡ load_entries l (bio_of c.args.bytes) =
+    ap stream_entries c.parts-2.ensures.parts ∙ stream-entries l (bio_of c.args.bytes) in
     let room = c.in_ok-list.ensures.room in
     let pieces : c.measure_in_pages-pieces.result ≡ length (device_pieces made.tag c.args.first c.parts-2.result) =
     c.measure_in_pages-pieces.ensures
@@ -65,8 +65,8 @@ returns-then-not-build_in_pages-clause-many c t found =
     let made = c.in-Some.made.now in
     let is = image-some tag_of h.tags.map c.args.tag made (sym c.in-Some.ensures) in
     let same : tag_of made ≡ t = cc in
-    let entries : entries_of c.parts-2.result ≡ es =
-    ap entries_of c.parts-2.ensures.parts ∙ stream-entries l (bio_of c.args.bytes) in
+    let entries : stream_entries c.parts-2.result ≡ es =
+    ap stream_entries c.parts-2.ensures.parts ∙ stream-entries l (bio_of c.args.bytes) in
     let over = c.build_in_pages.ensures.many c.if-not-build_in_pages.true in
     let are : over.segments ≡ device_segments made.tag c.args.first es =
     one_segmentation made.tag over.segments (device_pieces made.tag c.args.first c.parts-2.result) over.are
@@ -82,8 +82,8 @@ returns-clause-few c t found =
     let made = c.in-Some.made.now in
     let is = image-some tag_of h.tags.map c.args.tag made (sym c.in-Some.ensures) in
     let same : tag_of made ≡ t = cc in
-    let entries : entries_of c.parts-2.result ≡ es =
-    ap entries_of c.parts-2.ensures.parts ∙ stream-entries l (bio_of c.args.bytes) in
+    let entries : stream_entries c.parts-2.result ≡ es =
+    ap stream_entries c.parts-2.ensures.parts ∙ stream-entries l (bio_of c.args.bytes) in
     let list = c.build_in_pages.new.list.items in
     let built = c.build_in_pages.ensures.few c.if-not-build_in_pages.false in
     let base : AreInDevicePages made.tag c.args.first es c.into_list.result =

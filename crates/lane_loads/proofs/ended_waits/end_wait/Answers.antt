@@ -14,70 +14,80 @@ pub complete_load-requires-clause-stands : goal.complete_load-requires-clause-st
 complete_load-requires-clause-stands c =
     let load : ℕ × KeptLoad × LoadRoom = c.in-Some.load in
     let found : kept_load (get c.args.holdings.now.maps.map c.args.map) ≡ Some load = sym c.in-Some.ensures.load in
-    ends-stands c.args.holdings.now c.take_load.new.holdings c.args.map load.0 load.1 load.2 found c.take_load.ensures.maps
+    ends-stands c.args.holdings.now c.take_load.new.holdings c.args.map load.0 load.1 load.2 found
+    c.take_load.ensures.maps
     c.take_load.ensures.rest c.requires.stands
 
 pub complete_load-requires-clause-idle : goal.complete_load-requires-clause-idle
 complete_load-requires-clause-idle c =
     let load : ℕ × KeptLoad × LoadRoom = c.in-Some.load in
     let found : kept_load (get c.args.holdings.now.maps.map c.args.map) ≡ Some load = sym c.in-Some.ensures.load in
-    ends-idle c.args.holdings.now c.take_load.new.holdings c.args.map load.0 load.1 load.2 found c.take_load.ensures.maps
+    ends-idle c.args.holdings.now c.take_load.new.holdings c.args.map load.0 load.1 load.2 found
+    c.take_load.ensures.maps
     c.take_load.ensures.rest
 
 pub complete_load-requires-clause-reached : goal.complete_load-requires-clause-reached
 complete_load-requires-clause-reached c =
     let load : ℕ × KeptLoad × LoadRoom = c.in-Some.load in
     let found : kept_load (get c.args.holdings.now.maps.map c.args.map) ≡ Some load = sym c.in-Some.ensures.load in
-    ends-reached c.args.holdings.now c.take_load.new.holdings c.args.map load.0 load.1 load.2 found c.take_load.ensures.maps
+    ends-reached c.args.holdings.now c.take_load.new.holdings c.args.map load.0 load.1 load.2 found
+    c.take_load.ensures.maps
     c.take_load.ensures.rest c.requires.stands
 
 pub complete_load-requires-clause-first : goal.complete_load-requires-clause-first
 complete_load-requires-clause-first c =
     let load : ℕ × KeptLoad × LoadRoom = c.in-Some.load in
     let found : kept_load (get c.args.holdings.now.maps.map c.args.map) ≡ Some load = sym c.in-Some.ensures.load in
-    ends-first c.args.holdings.now c.take_load.new.holdings c.args.map load.0 load.1 load.2 found c.take_load.ensures.maps
+    ends-first c.args.holdings.now c.take_load.new.holdings c.args.map load.0 load.1 load.2 found
+    c.take_load.ensures.maps
     c.take_load.ensures.rest c.requires.stands
 
 pub complete_load-requires-clause-loadable : goal.complete_load-requires-clause-loadable
 complete_load-requires-clause-loadable c =
     let load : ℕ × KeptLoad × LoadRoom = c.in-Some.load in
     let found : kept_load (get c.args.holdings.now.maps.map c.args.map) ≡ Some load = sym c.in-Some.ensures.load in
-    ends-loadable c.args.holdings.now c.take_load.new.holdings c.args.map load.0 load.1 load.2 found c.take_load.ensures.maps
+    ends-loadable c.args.holdings.now c.take_load.new.holdings c.args.map load.0 load.1 load.2 found
+    c.take_load.ensures.maps
     c.take_load.ensures.rest c.requires.stands
 
 pub complete_load-requires-clause-room : goal.complete_load-requires-clause-room
 complete_load-requires-clause-room c =
     let load : ℕ × KeptLoad × LoadRoom = c.in-Some.load in
     let found : kept_load (get c.args.holdings.now.maps.map c.args.map) ≡ Some load = sym c.in-Some.ensures.load in
-    ends-room c.args.holdings.now c.take_load.new.holdings c.args.map load.0 load.1 load.2 found c.take_load.ensures.maps
+    ends-room c.args.holdings.now c.take_load.new.holdings c.args.map load.0 load.1 load.2 found
+    c.take_load.ensures.maps
     c.take_load.ensures.rest c.requires.stands (length c.args.pages.items) c.requires.need
 
 pub complete_load-requires-clause-prepared : goal.complete_load-requires-clause-prepared
 complete_load-requires-clause-prepared c =
     let load : ℕ × KeptLoad × LoadRoom = c.in-Some.load in
     let found : kept_load (get c.args.holdings.now.maps.map c.args.map) ≡ Some load = sym c.in-Some.ensures.load in
-    ends-prepared c.args.holdings.now c.take_load.new.holdings c.args.map load.0 load.1 load.2 found c.take_load.ensures.maps
+    ends-prepared c.args.holdings.now c.take_load.new.holdings c.args.map load.0 load.1 load.2 found
+    c.take_load.ensures.maps
     c.take_load.ensures.rest c.requires.stands
 
 pub complete_load-requires-clause-few_items : goal.complete_load-requires-clause-few_items
 complete_load-requires-clause-few_items c =
     let load : ℕ × KeptLoad × LoadRoom = c.in-Some.load in
     let found : kept_load (get c.args.holdings.now.maps.map c.args.map) ≡ Some load = sym c.in-Some.ensures.load in
-    ends-items c.args.holdings.now c.take_load.new.holdings c.args.map load.0 load.1 load.2 found c.take_load.ensures.maps
+    ends-items c.args.holdings.now c.take_load.new.holdings c.args.map load.0 load.1 load.2 found
+    c.take_load.ensures.maps
     c.take_load.ensures.rest c.requires.stands c.requires.room
 
 pub complete_load-requires-clause-promised : goal.complete_load-requires-clause-promised
 complete_load-requires-clause-promised c =
     let load : ℕ × KeptLoad × LoadRoom = c.in-Some.load in
     let found : kept_load (get c.args.holdings.now.maps.map c.args.map) ≡ Some load = sym c.in-Some.ensures.load in
-    ends-promised c.args.holdings.now c.take_load.new.holdings c.args.map load.0 load.1 load.2 found c.take_load.ensures.maps
+    ends-promised c.args.holdings.now c.take_load.new.holdings c.args.map load.0 load.1 load.2 found
+    c.take_load.ensures.maps
     c.take_load.ensures.rest (length c.args.pages.items) c.requires.need
 
 pub returns-clause-done : goal.returns-clause-done
 returns-clause-done c =
     let load : ℕ × KeptLoad × LoadRoom = c.in-Some.load in
     let found : kept_load (get c.args.holdings.now.maps.map c.args.map) ≡ Some load = sym c.in-Some.ensures.load in
-    ends-done c.args.holdings.now c.take_load.new.holdings c.args.map load.0 load.1 load.2 found c.take_load.ensures.maps
+    ends-done c.args.holdings.now c.take_load.new.holdings c.args.map load.0 load.1 load.2 found
+    c.take_load.ensures.maps
     c.take_load.ensures.rest c.requires.stands
     c.complete_load.new.holdings c.complete_load.result
     (page_addresses c.args.pages.items) c.complete_load.ensures.done
@@ -86,7 +96,8 @@ pub returns-clause-bytes : goal.returns-clause-bytes
 returns-clause-bytes c =
     let load : ℕ × KeptLoad × LoadRoom = c.in-Some.load in
     let found : kept_load (get c.args.holdings.now.maps.map c.args.map) ≡ Some load = sym c.in-Some.ensures.load in
-    ends-bytes c.args.holdings.now c.take_load.new.holdings c.args.map load.0 load.1 load.2 found c.take_load.ensures.maps
+    ends-bytes c.args.holdings.now c.take_load.new.holdings c.args.map load.0 load.1 load.2 found
+    c.take_load.ensures.maps
     c.take_load.ensures.rest c.complete_load.new.holdings c.complete_load.ensures.bytes
 
 pub unreachable-requires : goal.unreachable-requires

@@ -33,7 +33,8 @@ finish-requires c =
 
 pub open_map-requires : goal.open_map-requires
 open_map-requires c =
-    rw (ap (λ (x : MapId). get c.args.holdings.now.loans.prepared x.made_at) c.map_id-id.ensures ∙ c.requires.prepared.is)
+    rw (ap (λ (x : MapId). get c.args.holdings.now.loans.prepared x.made_at) c.map_id-id.ensures
+    ∙ c.requires.prepared.is)
     refl
 
 pub invariant_of-holdings : goal.invariant_of-holdings

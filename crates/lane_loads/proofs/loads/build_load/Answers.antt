@@ -8,7 +8,7 @@ use Rattle.busdma_machine.specs.Bounce.AccountStep.{as_pages}
 use Rattle.busdma_machine.specs.Machine.Page.{FrameBytes}
 use Rattle.busdma_machine.specs.Machine.PageList.{page_addresses}
 use Rattle.dma_map.specs.declared.room.LoadRoom.{LoadRoom}
-use Rattle.memory_load.specs.MemoryLoad.{run_pieces, run_segments}
+use Rattle.memory_load.specs.MemoryLoad.{memory_pieces, run_segments}
 use Rattle.busdma_rules.specs.Segments.Building.{placed_pieces}
 use Rattle.busdma_rules.specs.Segments.Chunks.{need_of}
 use Rattle.busdma_rules.specs.Segments.Trace.{IsPage}
@@ -175,7 +175,8 @@ build_memory-requires-clause-room c =
     let is = image-some map_of h.maps.map c.args.map o (sym c.in-Some.ensures) in
     let there = image-some memory_of h.memories.map c.args.map own (sym c.in-Some-get-2.ensures) in
     let limits = kept-limits h (map_of o) c.in-Some-get.made.now (sym c.in-Some-get.ensures) in
-    subst (λ n. min (length (run_pieces t own.first.0 n)) t.nsegments ≤ c.args.room.now.list.spare) (sym c.len.ensures)
+    subst (λ n. min (length (memory_pieces t own.first.0 n)) t.nsegments ≤ c.args.room.now.list.spare)
+    (sym c.len.ensures)
     (own-room (ideal_of h) c.args.map (map_of o) (bio_of c.args.bytes) (memory_of own) there
     (c.requires.first (memory_of own) there) t limits (length c.args.pages.now) c.args.room.now
     (c.requires.room (map_of o) is)).segments

@@ -13,14 +13,14 @@ use Rattle.ideal_lane.proofs.Falling.{queued-from}
 use Rattle.ideal_lane.proofs.Lookups.{get_put}
 use Rattle.busdma_machine.specs.Machine.Entry.{entries_addresses}
 use Rattle.busdma_machine.specs.Machine.PageList.{page_addresses}
-use Rattle.busdma_base.specs.Scenarios.Queues.{queued_items as queued}
+use Rattle.busdma_base.specs.Scenarios.Queues.{queued_items}
 use Rattle.busdma_rules.specs.Lending.Loans.{loan_of, new_loan, no_loan}
 use Rattle.busdma_rules.specs.Segments.Building.{placed_pieces, tag_placed}
 use Rattle.busdma_rules.specs.Segments.Chunks.{bounced_of}
 use Rattle.busdma_rules.specs.Segments.Segmentation.{segmentation}
 use Rattle.ideal_lane.specs.Loads.{is_coherent, limits_of, load_entries, loaded, staged, unpaged}
 use Rattle.ideal_lane.specs.State.{LaneState, Loaded}
-use Rattle.ideal_lane.specs.Unloads.{loan_forgotten as unlent}
+use Rattle.ideal_lane.specs.Unloads.{loan_forgotten}
 use Rattle.lane_state.specs.Ideal.{ideal_of}
 use Rattle.lane_state.specs.Kept.{map_of, return_of}
 use Rattle.lane_state.specs.Loading.{bio_of, map_chunks}
@@ -91,7 +91,7 @@ returns-then-not-few-clause-done c o x found entries items =
     idle.2 in
     ap (λ k. record { lane = k; answer = Refused EFBIG })
     (c.end_load.ensures.done (record o { tried = true; stage = stage }) there
-    ∙ ap (λ k. unpaged m (record o { tried = true; stage = stage }) pas (unlent m k)) stored
+    ∙ ap (λ k. unpaged m (record o { tried = true; stage = stage }) pas (loan_forgotten m k)) stored
     ∙ stored-ended m o c.into_list.result c.into_list-2.result pas coherent bytes l none)
     ∙ sym (finished-many m o c.args.load_at x chunks pas l over)
 
@@ -135,11 +135,11 @@ returns-clause-done c o x found entries items =
       queue = (push i).queue;
       returns = map return_of (push i).returns;
     })
-    ∙ ap (λ (k : LaneState). record k { queue = k.queue ++ queued c.args.load_at c.args.items })
+    ∙ ap (λ (k : LaneState). record k { queue = k.queue ++ queued_items c.args.load_at c.args.items })
     (c.store_load.ensures.done o found)
     ∙ (λ i. record (staged m o (Loaded (bounced i) ((c.into_list-2.ensures ∙ segments) i) pas) l) {
       loans = insert l.loans m (loan i);
-      queue = l.queue ++ queued c.args.load_at (sym items i);
+      queue = l.queue ++ queued_items c.args.load_at (sym items i);
     }) in
     (λ i. record { lane = lane i; answer = Segments (shown i) })
     ∙ sym (finished-few m o c.args.load_at x chunks pas l few)
@@ -147,7 +147,7 @@ returns-clause-done c o x found entries items =
 pub returns-clause-agenda : goal.returns-clause-agenda
 returns-clause-agenda c =
     let s = c.store_load.new.holdings in
-    let items = queued c.args.load_at c.args.items in
+    let items = queued_items c.args.load_at c.args.items in
     let push = c.push_items.ensures in
     record {
       place = ap (λ a. a.place) push ∙ ap (λ a. a.place) c.store_load.ensures.agenda;

@@ -4,7 +4,7 @@ use Rattle.busdma_machine.specs.declared.bounce.hold.HubCall.TheVariants.{Grab}
 use Rattle.busdma_base.specs.declared.journals.answer.Answer.TheVariants.{Refused}
 use Rattle.busdma_machine.specs.declared.report.Errno.TheVariants.{EINVAL}
 use Rattle.busdma_machine.specs.declared.machine.chunk.Chunk.{Chunk}
-use Rattle.ideal_lane.specs.Loads.{granted, limits_of, zone_of_map as zone_of}
+use Rattle.ideal_lane.specs.Loads.{granted, limits_of, zone_of_map}
 use Rattle.ideal_lane.specs.Asking.{Gives}
 use Rattle.ideal_lane.specs.Outcomes.{gives, is_idle}
 use Rattle.ideal_lane.specs.State.{LaneMap, named}
@@ -13,7 +13,8 @@ use Rattle.lane_state.specs.Covered.{is_idle_map}
 use Rattle.lane_state.specs.Ideal.{given, ideal_of}
 use Rattle.lane_state.specs.Kept.{map_of, memory_of}
 use Rattle.lane_state.specs.Loading.{IsWanted, bio_bytes, bio_chunks, bio_of}
-use Rattle.lane_loads.proofs.Asked.{few-wanted, load-absent, load-bounced, load-busy, load-device, load-direct, load-long}
+use Rattle.lane_loads.proofs.Asked.{few-wanted, load-absent, load-bounced, load-busy, load-device, load-direct}
+use Rattle.lane_loads.proofs.Asked.{load-long}
 use Rattle.lane_loads.proofs.Asked.{load-refused, plain-chunks, plain-wanted, x}
 use Rattle.lane_loads.proofs.Chunked.{all-reached}
 use Rattle.lane_state.proofs.Doors.{allowed-asks, asked, done-asks, done-gives, unasked}
@@ -24,7 +25,7 @@ use Rattle.lane_state.proofs.MapValues.{image-none, image-some}
 use Rattle.lane_state.proofs.OperationSteps.{vacant}
 use Rattle.lane_loads.proofs.OwnLoads.{first-loaded}
 use Rattle.lane_loads.proofs.AwaitedLoads.{fine-bytes}
-use Rattle.ideal_wire.proofs.Asked.{are-in-pages, direct-bytes}
+use Rattle.ideal_wire.proofs.Loads.Asked.{are-in-pages, direct-bytes}
 use Rattle.lane_loads.proofs.loads.load.Goals as goal
 
 pub returns-in_default-clause-done : goal.returns-in_default-clause-done
@@ -130,7 +131,8 @@ returns-then-wanted-eq0-clause-done g c =
     done-gives (g.D.HubDoor.seen c.args.door.now) h.id.0 _ (given c.load_direct.new.holdings c.in_ok-answer.answer)
     (load-direct l c.args.map (bio_of c.args.bytes) c.args.nowait c.args.items.now (map_of o) there
     (state-idle o.map.stage (sym c.state.ensures ∙ c.in-Idle.is))
-    (sym c.judge_load.ensures ∙ c.in_default-judge_load.is) (sym (c.is_device.ensures (map_of o) there) ∙ c.if-is_device.false) wanted.short (sym wanted.need ∙ c.if-wanted-eq0.true)
+    (sym c.judge_load.ensures ∙ c.in_default-judge_load.is) (sym (c.is_device.ensures (map_of o) there)
+    ∙ c.if-is_device.false) wanted.short (sym wanted.need ∙ c.if-wanted-eq0.true)
     ∙ ap Gives (sym (c.in_ok-answer.ensures.done (map_of o)
     (x l c.args.map (bio_of c.args.bytes) c.args.nowait c.args.items.now) there refl refl)))
 
@@ -162,9 +164,10 @@ load_bounced-requires-clause-allowed g c other found =
     ∙ state-idle o.map.stage (sym c.state.ensures ∙ c.in-Idle.is) in
     let wanted = c.in-Some-measure_load.ensures.wanted other found in
     let some : 0 < need = omega (arith, c.if-wanted-eq0.false) in
-    allowed-asks d h.id.0 _ (Grab (named l m) (record { 0 = zone_of other }) need c.args.nowait) _
+    allowed-asks d h.id.0 _ (Grab (named l m) (record { 0 = zone_of_map other }) need c.args.nowait) _
     (load-bounced l m (bio_of c.args.bytes) c.args.nowait c.args.items.now other found on
-    (sym c.judge_load.ensures ∙ c.in_default-judge_load.is) (sym (c.is_device.ensures other found) ∙ c.if-is_device.false) wanted.short
+    (sym c.judge_load.ensures ∙ c.in_default-judge_load.is) (sym (c.is_device.ensures other found)
+    ∙ c.if-is_device.false) wanted.short
     (plain-wanted l m other (bio_of c.args.bytes) need (c.requires.stands.each m other found) wanted.need some) need
     wanted.need some)
     c.requires.allowed
@@ -184,12 +187,13 @@ returns-clause-done g c =
     let some : 0 < need = omega (arith, c.if-wanted-eq0.false) in
     let ask = x l m (bio_of c.args.bytes) c.args.nowait c.args.items.now in
     let k = granted m (map_of o) ask (bio_chunks l (map_of o) (bio_of c.args.bytes)) l in
-    let call : HubCall = Grab (named l m) (record { 0 = zone_of (map_of o) }) need c.args.nowait in
+    let call : HubCall = Grab (named l m) (record { 0 = zone_of_map (map_of o) }) need c.args.nowait in
     let end = given c.load_bounced.new.holdings c.in_ok-answer-2.answer in
     done-asks d h.id.0 _ call k end e
     (load-bounced l m (bio_of c.args.bytes) c.args.nowait c.args.items.now (map_of o) there
     (state-idle o.map.stage (sym c.state.ensures ∙ c.in-Idle.is))
-    (sym c.judge_load.ensures ∙ c.in_default-judge_load.is) (sym (c.is_device.ensures (map_of o) there) ∙ c.if-is_device.false) wanted.short
+    (sym c.judge_load.ensures ∙ c.in_default-judge_load.is) (sym (c.is_device.ensures (map_of o) there)
+    ∙ c.if-is_device.false) wanted.short
     (plain-wanted l m (map_of o) (bio_of c.args.bytes) need (c.requires.stands.each m (map_of o) there) wanted.need
     some) need wanted.need some)
     (c.in_ok-answer-2.ensures.done (map_of o) ask there refl refl refl)
@@ -247,7 +251,8 @@ returns-then-wanted-eq0-clause-held g c =
     let wanted = c.in-Some-measure_load.ensures.wanted (map_of o) there in
     unasked _ _ (load-direct (ideal_of h) c.args.map (bio_of c.args.bytes) c.args.nowait c.args.items.now
     (map_of o) there (state-idle o.map.stage (sym c.state.ensures ∙ c.in-Idle.is))
-    (sym c.judge_load.ensures ∙ c.in_default-judge_load.is) (sym (c.is_device.ensures (map_of o) there) ∙ c.if-is_device.false) wanted.short (sym wanted.need ∙ c.if-wanted-eq0.true))
+    (sym c.judge_load.ensures ∙ c.in_default-judge_load.is) (sym (c.is_device.ensures (map_of o) there)
+    ∙ c.if-is_device.false) wanted.short (sym wanted.need ∙ c.if-wanted-eq0.true))
 
 pub returns-clause-held : goal.returns-clause-held
 returns-clause-held g c =
@@ -259,7 +264,8 @@ returns-clause-held g c =
     let some : 0 < need = omega (arith, c.if-wanted-eq0.false) in
     asked _ _ _ (load-bounced (ideal_of h) c.args.map (bio_of c.args.bytes) c.args.nowait
     c.args.items.now (map_of o) there (state-idle o.map.stage (sym c.state.ensures ∙ c.in-Idle.is))
-    (sym c.judge_load.ensures ∙ c.in_default-judge_load.is) (sym (c.is_device.ensures (map_of o) there) ∙ c.if-is_device.false) wanted.short
+    (sym c.judge_load.ensures ∙ c.in_default-judge_load.is) (sym (c.is_device.ensures (map_of o) there)
+    ∙ c.if-is_device.false) wanted.short
     (plain-wanted (ideal_of h) c.args.map (map_of o) (bio_of c.args.bytes) need
     (c.requires.stands.each c.args.map (map_of o) there) wanted.need some) need wanted.need some)
 

@@ -8,10 +8,10 @@ use Rattle.busdma_machine.specs.declared.name.MapId.{MapId}
 use Rattle.busdma_machine.specs.declared.name.ZoneId.{ZoneId}
 use Rattle.busdma_base.specs.declared.scenarios.scenario.PageRun.{PageRun}
 use Rattle.busdma_base.specs.declared.scenarios.script.Item.{Item}
-use Rattle.busdma_machine.specs.Bounce.Door.{Allows, Holds, account, grab_reply}
+use Rattle.busdma_machine.specs.Bounce.Door.{Allows, HoldsAtDoor, account, grab_reply}
 use Rattle.lane_tables.specs.Schedule.{Schedule}
 use Rattle.ideal_lane.proofs.Lookups.{get_put}
-use Rattle.ideal_lane.specs.Loads.{granted, limits_of, load_entries, zone_of_map as zone_of}
+use Rattle.ideal_lane.specs.Loads.{granted, limits_of, load_entries, zone_of_map}
 use Rattle.ideal_lane.specs.Standing.{Stands}
 use Rattle.ideal_lane.specs.State.{LaneMap, LaneState, named}
 use Rattle.lane_state.specs.Covered.{is_idle_map, pages_due}
@@ -36,7 +36,7 @@ grab-requires g c =
     let o = map_of idle.0 in
     let is = image-some map_of h.maps.map k idle.0 idle.1 in
     let id : c.map_id-id.result ≡ named l k = c.map_id-id.ensures in
-    let zone : c.zone_of-zone.result ≡ record { 0 = zone_of o } =
+    let zone : c.zone_of-zone.result ≡ record { 0 = zone_of_map o } =
     ap (λ n. record { 0 = n }) (c.zone_of-zone.ensures o is) in
     subst (λ (m : MapId). Allows d m.lane.0 (Grab m c.zone_of-zone.result need c.args.nowait)) (sym id)
     (subst (λ (z : ZoneId). Allows d h.id.0 (Grab (named l k) z need c.args.nowait)) (sym zone)
@@ -120,15 +120,16 @@ returns-clause-done g c o x found bios entries items =
     let e = g.D.HubDoor.seen c.grab.new.self in
     let reply = grab_reply c.in-Ok.got in
     let id : c.map_id-id.result ≡ named l k = c.map_id-id.ensures in
-    let zone : c.zone_of-zone.result ≡ record { 0 = zone_of o } =
+    let zone : c.zone_of-zone.result ≡ record { 0 = zone_of_map o } =
     ap (λ n. record { 0 = n }) (c.zone_of-zone.ensures o found) in
     let same = c.in_ok-ready_load.ensures.same.ideal in
     let cloned : c.in_ok-items.items ≡ c.args.items.now = each_same _ _ c.in_ok-items.ensures.cases in
     record {
       reply = reply;
       holds =
-          subst (λ (m : MapId). Holds d m.lane.0 (Grab m (record { 0 = zone_of o }) need c.args.nowait) reply e) id
-          (subst (λ (z : ZoneId). Holds d c.map_id-id.result.lane.0 (Grab c.map_id-id.result z need c.args.nowait)
+          subst (λ (m : MapId). HoldsAtDoor d m.lane.0 (Grab m (record { 0 = zone_of_map o }) need c.args.nowait) reply
+          e) id
+          (subst (λ (z : ZoneId). HoldsAtDoor d c.map_id-id.result.lane.0 (Grab c.map_id-id.result z need c.args.nowait)
           reply e)
           zone c.in-Ok.ensures.held);
       is = c.take_grabbed.ensures.done o x (ap (λ (y : LaneState). get y.maps k) same ∙ found) bios

@@ -1,7 +1,7 @@
 use Rattle.std.proofs.Common.{◌≡◌, ◌<◌, ◌≤◌, length, sym, ap, ◌∙◌, subst, arith}
 use Rattle.busdma_machine.specs.declared.tags.tag.TagLimits.{TagLimits}
 use Rattle.busdma_machine.specs.Machine.Entry.{unmapped_of}
-use Rattle.memory_load.specs.MemoryLoad.{run_pieces}
+use Rattle.memory_load.specs.MemoryLoad.{memory_pieces}
 use Rattle.busdma_rules.specs.Segments.Building.{placed_pieces}
 use Rattle.busdma_rules.specs.Segments.Chunks.{need_of}
 use Rattle.segment_build.specs.Streams.{stream_chunks}
@@ -64,7 +64,7 @@ returns-in-Some-clause-wanted c other found =
     let there = image-some memory_of h.memories.map c.args.map own (sym c.in-Some.ensures) in
     let limits = kept-limits h (map_of o) made (sym c.in_ok-made.ensures) in
     let tag : c.limits-limits.result.now ≡ made.tag = c.limits-limits.ensures.limits in
-    let pieces = c.memory_pieces.ensures ∙ ap (λ n. length (run_pieces made.tag own.first.0 n)) c.len-len.ensures in
+    let pieces = c.memory_pieces.ensures ∙ ap (λ n. length (memory_pieces made.tag own.first.0 n)) c.len-len.ensures in
     subst (λ (x : LaneMap). IsWanted (limits_of l x) (map_chunks l c.args.map x b) (bio_bytes b) 0
     c.min-segments.result) same
     (own-wanted l c.args.map (map_of o) b (memory_of own) there (c.requires.first (memory_of own) there) made.tag limits

@@ -6,7 +6,7 @@ use Rattle.busdma_machine.specs.declared.name.MapId.{MapId}
 use Rattle.busdma_machine.specs.declared.name.ZoneId.{ZoneId}
 use Rattle.lane_agreement.specs.View.{queued_back}
 use Rattle.lane_tables.specs.Queues.{queued_pages}
-use Rattle.busdma_rules.specs.Lending.Syncing.{lost_by_forgetting}
+use Rattle.busdma_rules.specs.Lending.SyncEffects.{lost_by_forgetting}
 use Rattle.loan_table.specs.Table.{AreIn, set_all}
 use Rattle.ideal_lane.specs.Loads.{emptied, unpaged}
 use Rattle.ideal_lane.specs.State.{LaneState}
@@ -15,7 +15,7 @@ use Rattle.lane_state.specs.declared.kept.KeptMap.{KeptMap}
 use Rattle.lane_state.specs.Covered.{AreOwn, has_load, is_tried, pages_due}
 use Rattle.lane_state.specs.Held.{devices_of, held as held_memory}
 use Rattle.lane_state.specs.Ideal.{ideal_of}
-use Rattle.lane_state.specs.Kept.{device_of, map_of, pages_in, return_of}
+use Rattle.lane_state.specs.Kept.{device_of, map_of, kept_pages_in, return_of}
 use Rattle.lane_state.specs.MapValues.{map_values}
 use Rattle.lane_state.proofs.Bytes.{devices-elsewhere, held-forgotten}
 use Rattle.lane_state.proofs.Keeping.{some-there}
@@ -66,10 +66,12 @@ invariant_of-holdings c =
     subst (λ ms. AreMaps ms (remove h.loans.loans k) (h.agenda.returns ++ queued_pages m zone p.items)
     (h.agenda.promised - length p.items)) (sym maps) base in
     let two =
-    subst (λ ls. AreMaps (insert h.maps.map k (record o { map = c.unload-pages.new.self })) ls (h.agenda.returns ++ queued_pages m zone p.items)
+    subst (λ ls. AreMaps (insert h.maps.map k (record o { map = c.unload-pages.new.self })) ls
+    (h.agenda.returns ++ queued_pages m zone p.items)
     (h.agenda.promised - length p.items)) (sym loans) one in
     let are =
-    subst (λ a. AreMaps (insert h.maps.map k (record o { map = c.unload-pages.new.self })) c.forget.new.self.loans a.returns a.promised) (sym agenda) two in
+    subst (λ a. AreMaps (insert h.maps.map k (record o { map = c.unload-pages.new.self })) c.forget.new.self.loans
+    a.returns a.promised) (sym agenda) two in
     record {
       covered = λ a. ap (λ b. contains_key b a) c.forget.ensures.bytes
           ∙ has_set_all _ _ _ c.forget.ensures.there a ∙ h.covered a;
@@ -89,7 +91,8 @@ invariant_of-holdings c =
       returning = are.returning;
       tried = are.tried;
       awaiting = subst (λ ms. AreAwaiting h.pages.now h.maxmem h.tags.map ms c.forget.new.self.prepared) (sym maps)
-          (put-awaiting h c.forget.new.self.prepared c.forget.ensures.prepared k (left o p.items) (left-unkept o p.items));
+          (put-awaiting h c.forget.new.self.prepared c.forget.ensures.prepared k (left o p.items)
+          (left-unkept o p.items));
       ready = still-ready h c.forget.new.self.prepared c.forget.ensures.prepared;
     }
 
@@ -140,7 +143,8 @@ returns-in-Some-clause-done c other found =
     let now : LaneState = record l {
       place = c.push_returns.new.self.place;
       maps = map_values map_of (insert h.maps.map k (record o { map = c.unload-pages.new.self }));
-      memory = held_memory c.forget.new.self.bytes c.forget.new.self.loans (devices_of (insert h.maps.map k (record o { map = c.unload-pages.new.self })))
+      memory = held_memory c.forget.new.self.bytes c.forget.new.self.loans
+          (devices_of (insert h.maps.map k (record o { map = c.unload-pages.new.self })))
           h.memory.memory;
       loans = c.forget.new.self.loans;
       queue = c.push_returns.new.self.queue;
@@ -215,7 +219,7 @@ returns-in-Some-clause-returned c =
     let h = c.args.holdings.now in
     let o : KeptMap = c.in-Some.kept.now in
     let there : get h.maps.map c.args.map ≡ Some o = sym c.in-Some.ensures.value in
-    ap (λ a. pages_in a.returns) c.push_returns.ensures
+    ap (λ a. kept_pages_in a.returns) c.push_returns.ensures
     ∙ joined-pages h.agenda.returns c.map_id-id.result c.unwrap_or-zone.result o.map.stage c.unload-pages.result
     c.unload-pages.ensures.pages
-    ∙ ap (λ x. pages_in h.agenda.returns ++ (device_of x).pages) (sym there)
+    ∙ ap (λ x. kept_pages_in h.agenda.returns ++ (device_of x).pages) (sym there)

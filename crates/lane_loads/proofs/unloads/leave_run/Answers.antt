@@ -1,6 +1,6 @@
 use Rattle.std.proofs.Common.{◌≡◌, Some, None, true, is_some, refl, ap, sym, ◌∙◌, subst, IfSome, unwrap_or}
 use Rattle.std.specs.FinMap.{get, insert}
-use Rattle.busdma_rules.specs.Iommu.Space.{Space, is_live, run_unmapped as left}
+use Rattle.busdma_rules.specs.Iommu.Space.{Space, is_live, run_unmapped}
 use Rattle.ideal_lane.specs.State.{no_space}
 use Rattle.ideal_lane.specs.Tags.{with_space}
 use Rattle.lane_state.specs.declared.kept.KeptTag.{KeptTag}
@@ -47,8 +47,8 @@ returns-in-Some-space-clause-done c =
     let here : l.spaces k ≡ s = ap space_of there ∙ ap (λ x. unwrap_or x no_space) is in
     let alike : tag_of v ≡ tag_of t =
     (λ i. record { limits = t.tag; first_done = t.first_done; device = is_some (sym is i) }) in
-    let ended : c.leave.new.self ≡ left c.args.first (l.spaces k) =
-    c.leave.ensures ∙ ap (left c.args.first) (sym here) in
+    let ended : c.leave.new.self ≡ run_unmapped c.args.first (l.spaces k) =
+    c.leave.ensures ∙ ap (run_unmapped c.args.first) (sym here) in
     (λ i. record l {
       tags = (map_values-insert tag_of h.tags.map k v ∙ ap (insert l.tags k) alike
           ∙ put-back l.tags k (tag_of t) (image-some tag_of h.tags.map k t there)) i;
@@ -67,5 +67,6 @@ returns-in_default-space-clause-done c =
     (λ i. record l {
       tags = ap (map_values tag_of) (put-back h.tags.map k t there) i;
       spaces = (ap spaces_of (put-back h.tags.map k t there)
-          ∙ sym (spaces-same l.spaces k (left c.args.first (l.spaces k)) (here ∙ ap (left c.args.first) (sym here)))) i;
+          ∙ sym (spaces-same l.spaces k (run_unmapped c.args.first (l.spaces k))
+          (here ∙ ap (run_unmapped c.args.first) (sym here)))) i;
     })

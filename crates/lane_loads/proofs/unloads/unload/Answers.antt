@@ -4,7 +4,7 @@ use Rattle.ideal_lane.specs.Asking.{Gives}
 use Rattle.ideal_lane.specs.Loads.{unpaged}
 use Rattle.ideal_lane.specs.Outcomes.{gives}
 use Rattle.ideal_lane.specs.State.{LaneState}
-use Rattle.ideal_lane.specs.Unloads.{pages_of, loan_forgotten as unlent}
+use Rattle.ideal_lane.specs.Unloads.{pages_of, loan_forgotten}
 use Rattle.busdma_base.specs.declared.journals.answer.Answer.TheVariants.{Done}
 use Rattle.lane_state.specs.Covered.{has_load}
 use Rattle.lane_state.specs.Ideal.{given, ideal_of}
@@ -43,7 +43,8 @@ returns-in_default-state c =
 
 pub end_run-requires-clause-loaded : goal.end_run-requires-clause-loaded
 end_run-requires-clause-loaded c =
-    ap has_load (sym c.in-Some.ensures) ∙ state-loaded c.in-Some.kept.now.map.stage (sym c.state.ensures ∙ c.in-Loaded.is)
+    ap has_load (sym c.in-Some.ensures) ∙ state-loaded c.in-Some.kept.now.map.stage
+    (sym c.state.ensures ∙ c.in-Loaded.is)
 
 pub end_load-requires : goal.end_load-requires
 end_load-requires c =
@@ -59,13 +60,14 @@ returns-clause-done c =
     let unrun = c.end_run.ensures.done (map_of o) there in
     ap (λ x. gives x Done)
     (c.end_load.ensures.done (map_of o) (ap (λ (x : LaneState). get x.maps c.args.map) unrun ∙ there)
-    ∙ ap (λ x. unpaged c.args.map (map_of o) (pages_of (map_of o).stage) (unlent c.args.map x)) unrun)
+    ∙ ap (λ x. unpaged c.args.map (map_of o) (pages_of (map_of o).stage) (loan_forgotten c.args.map x)) unrun)
     ∙ sym (unload-done l c.args.map (map_of o) there
     (state-loaded o.map.stage (sym c.state.ensures ∙ c.in-Loaded.is)))
 
 pub returns-clause-bytes : goal.returns-clause-bytes
 returns-clause-bytes c =
-    held-behind c.args.holdings.now c.end_run.new.holdings c.end_load.new.holdings c.end_run.ensures.rest c.end_load.ensures.bytes
+    held-behind c.args.holdings.now c.end_run.new.holdings c.end_load.new.holdings c.end_run.ensures.rest
+    c.end_load.ensures.bytes
 
 pub returns-clause-due : goal.returns-clause-due
 returns-clause-due c =

@@ -8,7 +8,7 @@ use Rattle.busdma_machine.specs.declared.machine.chunk.Chunk.{Chunk}
 use Rattle.busdma_machine.specs.Bounce.AccountStep.{as_pages}
 use Rattle.busdma_machine.specs.Bounce.Door.{grab_reply}
 use Rattle.busdma_machine.specs.Machine.PageList.{page_addresses}
-use Rattle.lane_agreement.specs.After.{addresses_of_pages as addresses}
+use Rattle.lane_agreement.specs.After.{addresses_of_pages}
 use Rattle.busdma_rules.specs.Segments.Chunks.{need_of}
 use Rattle.ideal_lane.specs.Loads.{finished, granted, limits_of, staged}
 use Rattle.ideal_lane.specs.State.{LaneState, Idle, Waiting}
@@ -21,7 +21,7 @@ use Rattle.lane_state.proofs.MapValues.{image-none}
 use Rattle.lane_loads.proofs.AwaitedLoads.{begins-waiting, paged-reached}
 use Rattle.lane_loads.proofs.waiting.take_grabbed.Goals as goal
 
-same-pages : (pas : List ℕ) → addresses (as_pages pas) ≡ pas
+same-pages : (pas : List ℕ) → addresses_of_pages (as_pages pas) ≡ pas
 same-pages [] = refl
 same-pages (p ∷ pas) = ap (λ ps. p ∷ ps) (same-pages pas)
 

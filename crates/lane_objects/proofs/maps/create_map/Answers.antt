@@ -5,8 +5,8 @@ use Rattle.busdma_machine.specs.declared.bounce.hold.HubReply.TheVariants as rep
 use Rattle.busdma_base.specs.declared.journals.answer.Answer.TheVariants.{Grown}
 use Rattle.busdma_machine.specs.declared.name.MapId.{MapId}
 use Rattle.busdma_machine.specs.declared.tags.tag.TagLimits.{TagLimits}
-use Rattle.busdma_machine.specs.Bounce.Door.{Allows, Holds}
-use Rattle.ideal_lane.specs.Maps.{bounces, map_by_reply as created, map, with_map}
+use Rattle.busdma_machine.specs.Bounce.Door.{Allows, HoldsAtDoor}
+use Rattle.ideal_lane.specs.Maps.{bounces, map_by_reply, map, with_map}
 use Rattle.ideal_lane.specs.State.{LaneState, named}
 use Rattle.ideal_lane.specs.Tags.{with_tag}
 use Rattle.lane_state.specs.Held.{devices_of, held}
@@ -60,16 +60,17 @@ returns-clause-done g c =
       memory = held h.loans.bytes h.loans.loans (devices_of (kept i).map) h.memory.memory;
     }) in
     done-asks d h.id.0 (map c.args.tag l) (CreateMap (named l l.place) t.tag t.first_done)
-    (created c.args.tag (tag_of t) l) (given c.keep_created.new.holdings (Grown r)) e
+    (map_by_reply c.args.tag (tag_of t) l) (given c.keep_created.new.holdings (Grown r)) e
     (map-created l c.args.tag (tag_of t) (image-some tag_of h.tags.map c.args.tag t (sym c.in-Some.ensures)) on)
     (record {
       reply = reply.Grown r;
       holds =
-          subst (λ (m : MapId). Holds d m.lane.0 (CreateMap m t.tag t.first_done) (reply.Grown r) e) id
-          (subst (λ (x : TagLimits). Holds d c.map_id-id.result.lane.0
+          subst (λ (m : MapId). HoldsAtDoor d m.lane.0 (CreateMap m t.tag t.first_done) (reply.Grown r) e) id
+          (subst (λ (x : TagLimits). HoldsAtDoor d c.map_id-id.result.lane.0
           (CreateMap c.map_id-id.result x t.first_done) (reply.Grown r) e) c.limits.ensures.limits
           c.in_ok-grown.ensures.held);
-      is = ap (λ x. record { lane = x; answer = Grown r }) (c.keep_created.ensures.done t (sym c.in-Some.ensures) (bounces-unspaced h.maxmem t on)
+      is = ap (λ x. record { lane = x; answer = Grown r })
+          (c.keep_created.ensures.done t (sym c.in-Some.ensures) (bounces-unspaced h.maxmem t on)
           ∙ ap (λ x. if r.made then with_tag c.args.tag t.tag true (with_map c.args.tag (Some r.zone.0) x) else x)
           roomy);
     })

@@ -5,7 +5,7 @@ use Rattle.busdma_machine.specs.declared.bounce.hold.HubReply.TheVariants.{Nothi
 use Rattle.busdma_base.specs.declared.journals.answer.Answer.TheVariants.{Done}
 use Rattle.busdma_machine.specs.declared.name.MapId.{MapId}
 use Rattle.busdma_machine.specs.declared.name.ZoneId.{ZoneId}
-use Rattle.busdma_machine.specs.Bounce.Door.{Allows, Holds}
+use Rattle.busdma_machine.specs.Bounce.Door.{Allows, HoldsAtDoor}
 use Rattle.ideal_lane.specs.Maps.{map_destroy, without_map}
 use Rattle.ideal_lane.specs.Outcomes.{gives}
 use Rattle.ideal_lane.specs.State.{named}
@@ -107,7 +107,7 @@ returns-clause-done g c =
     (ap (option_map (λ (z : ZoneId). z.0)) (sym c.zone.ensures ∙ c.in-Some-zone.is)))
     (record {
       reply = Nothing;
-      holds = subst (λ (m : MapId). Holds d m.lane.0 (DestroyMap m z) Nothing e) c.map_id.ensures
+      holds = subst (λ (m : MapId). HoldsAtDoor d m.lane.0 (DestroyMap m z) Nothing e) c.map_id.ensures
           c.destroy_map.ensures.held;
       is = λ i. record { lane = c.drop_map-2.ensures.done i; answer = Done };
     })

@@ -29,9 +29,11 @@ returns-in-Some-clause-done c t found none =
           ∙ ap (λ ts. map_values tag_of (insert ts.map k v)) c.in-Some.ensures.taken
           ∙ ap (map_values tag_of) (reput h.tags.map k v)
           ∙ map_values-insert tag_of h.tags.map k v
-          ∙ ap (λ (x : KeptTag). insert l.tags k (record { limits = x.tag; first_done = true; device = is_some x.space }))
+          ∙ ap (λ (x : KeptTag). insert l.tags k
+          (record { limits = x.tag; first_done = true; device = is_some x.space }))
           same
-          ∙ ap (λ (s : Option Space). insert l.tags k (record { limits = t.tag; first_done = true; device = is_some s }))
+          ∙ ap (λ (s : Option Space). insert l.tags k
+          (record { limits = t.tag; first_done = true; device = is_some s }))
           none) i;
       spaces = (ap (λ ts. spaces_of ts.map) c.put.ensures
           ∙ ap (λ ts. spaces_of (insert ts.map k v)) c.in-Some.ensures.taken
@@ -48,5 +50,6 @@ invariant_of-holdings-clause-awaiting c =
     let v : KeptTag = record { tag = t.tag; first_done = true; space = t.space } in
     let there : get h.tags.map k ≡ Some t = sym c.take.ensures.value ∙ c.in-Some.is in
     subst (λ ts. AreAwaiting h.pages.now h.maxmem ts h.maps.map h.loans.prepared)
-    (sym (ap (λ ts. ts.map) c.put.ensures ∙ ap (λ ts. insert ts.map k v) c.in-Some.ensures.taken ∙ reput h.tags.map k v))
+    (sym (ap (λ ts. ts.map) c.put.ensures ∙ ap (λ ts. insert ts.map k v) c.in-Some.ensures.taken
+    ∙ reput h.tags.map k v))
     (awaiting-tag-again h.pages.now h.maxmem h.tags.map h.maps.map h.loans.prepared h.awaiting k v t there refl)

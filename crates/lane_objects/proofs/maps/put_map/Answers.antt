@@ -7,7 +7,7 @@ use Rattle.ideal_lane.specs.State.{Idle}
 use Rattle.lane_state.specs.declared.kept.KeptMap.{KeptMap}
 use Rattle.lane_state.specs.Held.{devices_of, held}
 use Rattle.lane_state.specs.Ideal.{ideal_of}
-use Rattle.lane_state.specs.Kept.{device_of, map_of, stage_of}
+use Rattle.lane_state.specs.Kept.{device_of, map_of, kept_stage}
 use Rattle.lane_state.specs.MapValues.{map_values}
 use Rattle.lane_state.proofs.Bytes.{devices-put, held-alike}
 use Rattle.lane_state.proofs.Keeping.{idle-map}
@@ -22,7 +22,7 @@ invariant_of-holdings c =
     let h = c.args.holdings.now in
     let k = c.place-place.result in
     let o : KeptMap = record { tag = c.args.tag; map = c.new-map.result } in
-    let idle = idle-map o (ap (λ m. is_idle (stage_of m.stage)) c.new-map.ensures) in
+    let idle = idle-map o (ap (λ m. is_idle (kept_stage m.stage)) c.new-map.ensures) in
     let none : get h.maps.map k ≡ None = ap (get h.maps.map) c.place-place.ensures ∙ c.requires.vacant in
     let are =
     subst (λ t. AreMaps t.map h.loans.loans h.agenda.returns h.agenda.promised) (sym c.put.ensures)
@@ -46,7 +46,7 @@ invariant_of-holdings c =
       tried = are.tried;
       awaiting = subst (λ t. AreAwaiting h.pages.now h.maxmem h.tags.map t.map h.loans.prepared) (sym c.put.ensures)
           (put-awaiting h h.loans.prepared refl k o
-          (idle-unkept (Some o) (ap (λ m. is_idle (stage_of m.stage)) c.new-map.ensures)));
+          (idle-unkept (Some o) (ap (λ m. is_idle (kept_stage m.stage)) c.new-map.ensures)));
       ready = h.ready;
     }
 
@@ -56,7 +56,7 @@ returns-clause-done c =
     let l = ideal_of h in
     let k = c.place-place.result in
     let o : KeptMap = record { tag = c.args.tag; map = c.new-map.result } in
-    let idle = idle-map o (ap (λ m. is_idle (stage_of m.stage)) c.new-map.ensures) in
+    let idle = idle-map o (ap (λ m. is_idle (kept_stage m.stage)) c.new-map.ensures) in
     let none : get h.maps.map k ≡ None = ap (get h.maps.map) c.place-place.ensures ∙ c.requires.vacant in
     let same : device_of (Some o) ≡ device_of (get h.maps.map k) = idle.unheld ∙ sym (ap device_of none) in
     (λ i. record l {
@@ -78,7 +78,7 @@ returns-clause-bytes c =
     let h = c.args.holdings.now in
     let k = c.place-place.result in
     let o : KeptMap = record { tag = c.args.tag; map = c.new-map.result } in
-    let idle = idle-map o (ap (λ m. is_idle (stage_of m.stage)) c.new-map.ensures) in
+    let idle = idle-map o (ap (λ m. is_idle (kept_stage m.stage)) c.new-map.ensures) in
     let none : get h.maps.map k ≡ None = ap (get h.maps.map) c.place-place.ensures ∙ c.requires.vacant in
     let same : device_of (Some o) ≡ device_of (get h.maps.map k) = idle.unheld ∙ sym (ap device_of none) in
     record {

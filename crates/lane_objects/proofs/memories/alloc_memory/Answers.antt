@@ -7,7 +7,7 @@ use Rattle.busdma_machine.specs.declared.bounce.hold.HubReply.TheVariants.{NoRun
 use Rattle.busdma_base.specs.declared.journals.answer.Answer.TheVariants.{Placed, Refused}
 use Rattle.busdma_machine.specs.declared.report.Errno.TheVariants.{ENOMEM}
 use Rattle.busdma_machine.specs.declared.name.MapId.{MapId}
-use Rattle.busdma_machine.specs.Bounce.Door.{Holds, IsRow, memory_reply}
+use Rattle.busdma_machine.specs.Bounce.Door.{HoldsAtDoor, IsRow, memory_reply}
 use Rattle.busdma_machine.specs.Bounce.MemoryRuns.{frames_from}
 use Rattle.busdma_machine.specs.Machine.PageList.{RoomyPages, page_address, page_addresses}
 use Rattle.busdma_rules.specs.Tags.MemFlags.{zero_filled}
@@ -45,13 +45,13 @@ returns-in_default-clause-done g c =
     ≡ Asks (MemAlloc (named l l.place) limits) (memories.memory_by_reply c.args.tag limits c.args.flags l) =
     make-asks l c.args.tag c.args.flags (tag_of t.0) (image-some tag_of h.tags.map c.args.tag t.0 t.1)
     ∙ ap (λ x. Asks (MemAlloc (named l l.place) x) (memories.memory_by_reply c.args.tag x c.args.flags l)) t.2 in
-    let held : Holds d c.map_id-id.result.lane.0 (MemAlloc c.map_id-id.result limits) NoRun e =
-    subst (λ o. Holds d c.map_id-id.result.lane.0 (MemAlloc c.map_id-id.result limits) (memory_reply o) e)
+    let held : HoldsAtDoor d c.map_id-id.result.lane.0 (MemAlloc c.map_id-id.result limits) NoRun e =
+    subst (λ o. HoldsAtDoor d c.map_id-id.result.lane.0 (MemAlloc c.map_id-id.result limits) (memory_reply o) e)
     c.in_default.is c.in_ok-pages.ensures.held in
     done-asks d h.id.0 (dmamem c.args.tag c.args.flags l) (MemAlloc (named l l.place) limits)
     (memories.memory_by_reply c.args.tag limits c.args.flags l) (given n (Refused ENOMEM)) e asks (record {
       reply = NoRun;
-      holds = subst (λ (m : MapId). Holds d m.lane.0 (MemAlloc m limits) NoRun e) id held;
+      holds = subst (λ (m : MapId). HoldsAtDoor d m.lane.0 (MemAlloc m limits) NoRun e) id held;
       is = ap (λ (x : LaneState). record { lane = x; answer = Refused ENOMEM }) room;
     })
 
@@ -68,10 +68,10 @@ keep_memory-requires-clause-new g c =
     c.map_id-id.ensures ∙ ap (λ q. named (ideal_of n) q) c.place.ensures
     ∙ ap (λ (x : LaneState). named x x.place) room in
     let reply = memory_reply (Some c.in-Some.pages) in
-    let held : Holds d c.map_id-id.result.lane.0 (MemAlloc c.map_id-id.result limits) reply e =
-    subst (λ o. Holds d c.map_id-id.result.lane.0 (MemAlloc c.map_id-id.result limits) (memory_reply o) e)
+    let held : HoldsAtDoor d c.map_id-id.result.lane.0 (MemAlloc c.map_id-id.result limits) reply e =
+    subst (λ o. HoldsAtDoor d c.map_id-id.result.lane.0 (MemAlloc c.map_id-id.result limits) (memory_reply o) e)
     c.in-Some.is c.in_ok-pages.ensures.held in
-    let own = subst (λ (m : MapId). Holds d m.lane.0 (MemAlloc m limits) reply e) id held in
+    let own = subst (λ (m : MapId). HoldsAtDoor d m.lane.0 (MemAlloc m limits) reply e) id held in
     let brings : BringsNew l reply =
     holds-new l d e (MemAlloc (named l l.place) limits) reply c.requires.served c.requires.wired.laid own in
     let size = alloc-count d e h.id.0 (named l l.place) limits _ (length c.in-Some.pages.items) own in
@@ -100,10 +100,10 @@ returns-clause-done g c =
     make-asks l c.args.tag c.args.flags (tag_of t.0) (image-some tag_of h.tags.map c.args.tag t.0 t.1)
     ∙ ap (λ x. Asks (MemAlloc (named l l.place) x) (memories.memory_by_reply c.args.tag x c.args.flags l)) t.2 in
     let reply = memory_reply (Some c.in-Some.pages) in
-    let held : Holds d c.map_id-id.result.lane.0 (MemAlloc c.map_id-id.result limits) reply e =
-    subst (λ o. Holds d c.map_id-id.result.lane.0 (MemAlloc c.map_id-id.result limits) (memory_reply o) e)
+    let held : HoldsAtDoor d c.map_id-id.result.lane.0 (MemAlloc c.map_id-id.result limits) reply e =
+    subst (λ o. HoldsAtDoor d c.map_id-id.result.lane.0 (MemAlloc c.map_id-id.result limits) (memory_reply o) e)
     c.in-Some.is c.in_ok-pages.ensures.held in
-    let own = subst (λ (m : MapId). Holds d m.lane.0 (MemAlloc m limits) reply e) id held in
+    let own = subst (λ (m : MapId). HoldsAtDoor d m.lane.0 (MemAlloc m limits) reply e) id held in
     let first = slice_index_or pages 0 0 in
     let size = alloc-count d e h.id.0 (named l l.place) limits first count own in
     let rising = subst (λ o. IfSome o (λ (ps : RoomyPages). IsRow (page_addresses ps.items))) c.in-Some.is
@@ -111,7 +111,8 @@ returns-clause-done g c =
     let row : pages ≡ frames_from count first =
     row_is pages rising ∙ ap (λ q. frames_from q first) (length-map c.in-Some.pages.items page_address) in
     done-asks d h.id.0 (dmamem c.args.tag c.args.flags l) (MemAlloc (named l l.place) limits)
-    (memories.memory_by_reply c.args.tag limits c.args.flags l) (given c.keep_memory.new.holdings c.keep_memory.result) e asks
+    (memories.memory_by_reply c.args.tag limits c.args.flags l) (given c.keep_memory.new.holdings c.keep_memory.result)
+    e asks
     (record {
       reply = reply;
       holds = own;

@@ -6,7 +6,7 @@ use Rattle.busdma_machine.specs.declared.bounce.hold.HubCall.TheVariants.{MemFre
 use Rattle.busdma_machine.specs.declared.bounce.hold.HubReply.TheVariants.{Nothing}
 use Rattle.busdma_base.specs.declared.journals.answer.Answer.TheVariants.{Done}
 use Rattle.busdma_machine.specs.declared.name.MapId.{MapId}
-use Rattle.busdma_machine.specs.Bounce.Door.{Allows, ArePagesOf, Holds}
+use Rattle.busdma_machine.specs.Bounce.Door.{Allows, ArePagesOf, HoldsAtDoor}
 use Rattle.busdma_machine.specs.Machine.PageList.{page_addresses}
 use Rattle.ideal_lane.specs.Maps.{without_map}
 use Rattle.ideal_lane.specs.Memories.{dmamem_free, without_memory}
@@ -140,10 +140,11 @@ returns-clause-done g c =
           (held (s.bytes i) (s.loans i) (devices_of h.maps.map) h.memory.memory);
       loans = s.loans i;
     }) in
-    done-asks d h.id.0 (dmamem_free c.args.mem l) (MemFree (named l c.args.mem)) _ (given c.drop_map.new.holdings Done) e
+    done-asks d h.id.0 (dmamem_free c.args.mem l) (MemFree (named l c.args.mem)) _
+    (given c.drop_map.new.holdings Done) e
     asks (record {
       reply = Nothing;
-      holds = subst (λ (m : MapId). Holds d m.lane.0 (MemFree m) Nothing e) id c.mem_free.ensures.held;
+      holds = subst (λ (m : MapId). HoldsAtDoor d m.lane.0 (MemFree m) Nothing e) id c.mem_free.ensures.held;
       is = ap (λ (y : LaneState). record { lane = y; answer = Done })
           (c.drop_map.ensures.done ∙ ap (without_map c.args.mem) c.part_memory.ensures.done ∙ after);
     })
@@ -173,6 +174,7 @@ returns-clause-bytes g c =
       loans = s.loans i;
     } in
     beside-then h c.part_memory.new.holdings c.drop_map.new.holdings
-    (beside-after h _ c.part_memory.new.holdings (record { ideal = room; bytes = record { own = refl; pages = λ m. refl } })
+    (beside-after h _ c.part_memory.new.holdings
+    (record { ideal = room; bytes = record { own = refl; pages = λ m. refl } })
     c.part_memory.ensures.bytes)
     c.drop_map.ensures.bytes (ap (λ (l : LaneState). l.memory) c.drop_map.ensures.done)

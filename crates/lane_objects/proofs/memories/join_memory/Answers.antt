@@ -11,7 +11,8 @@ use Rattle.lane_state.specs.Held.{devices_of, held}
 use Rattle.lane_state.specs.Ideal.{ideal_of}
 use Rattle.lane_state.specs.Kept.{memory_of}
 use Rattle.lane_state.specs.MapValues.{map_values}
-use Rattle.lane_objects.proofs.Joining.{frames-new, held-joined, joined-covered, joined-framed, joined-known, joined-own}
+use Rattle.lane_objects.proofs.Joining.{frames-new, held-joined, joined-covered, joined-framed, joined-known}
+use Rattle.lane_objects.proofs.Joining.{joined-own}
 use Rattle.lane_objects.proofs.Joining.{joined-placed, joined-reaches, joined-standing, marks-new, run-low}
 use Rattle.lane_state.proofs.MapValues.{map_values-insert}
 use Rattle.lane_state.proofs.Awaiting.{still-awaiting, still-ready}
@@ -90,7 +91,8 @@ invariant_of-holdings c =
       awaiting = still-awaiting h c.add_reserved.new.self.prepared c.add_reserved.ensures.prepared;
       ready = subst (λ t. AreOfMaps h.pages.now t c.add_reserved.new.self.prepared) (sym map)
           (of-maps-join h.pages.now h.memories.map c.add_reserved.new.self.prepared
-          (still-ready h c.add_reserved.new.self.prepared c.add_reserved.ensures.prepared) c.place-place.result kept vacant);
+          (still-ready h c.add_reserved.new.self.prepared c.add_reserved.ensures.prepared) c.place-place.result kept
+          vacant);
     }
 
 pub returns-clause-done : goal.returns-clause-done

@@ -108,12 +108,18 @@ returns-clause-done c =
     let taken = on-some c.take-2.result kept (c.take-2.ensures.value ∙ c.requires.there) c.take-2.ensures.taken in
     let marked = c.drop_bytes.ensures.bytes
     ∙ (λ i. without (c.drop_prepared.ensures.bytes i) (run_of kept.first.0 (4096 * c.from.ensures i))) in
-    let memory = (λ i. held c.drop_bytes.new.self.bytes ((c.drop_bytes.ensures.loans ∙ c.drop_prepared.ensures.loans) i) (devices_of h.maps.map) m)
+    let memory = (λ i. held c.drop_bytes.new.self.bytes ((c.drop_bytes.ensures.loans ∙ c.drop_prepared.ensures.loans) i)
+    (devices_of h.maps.map) m)
     ∙ held-parted h c.requires.wired mem kept c.requires.there m c.take.ensures.go c.drop_bytes.new.self.bytes marked
     c.take.ensures.bytes in
     let mems = ap (λ (t : Places KeptMemory). map_values memory_of t.map) taken
     ∙ map_values-remove memory_of h.memories.map mem in
-    λ i. record (ideal_of h) { mems = mems i; memory = memory i; loans = (c.drop_bytes.ensures.loans ∙ c.drop_prepared.ensures.loans) i }
+    λ i. record (ideal_of h) {
+      mems = mems i;
+      memory = memory i;
+      loans =
+          (c.drop_bytes.ensures.loans ∙ c.drop_prepared.ensures.loans) i;
+    }
 
 pub returns-clause-bytes : goal.returns-clause-bytes
 returns-clause-bytes c =
@@ -123,7 +129,8 @@ returns-clause-bytes c =
     let m = c.take.new.memory.memory in
     let marked = c.drop_bytes.ensures.bytes
     ∙ (λ i. without (c.drop_prepared.ensures.bytes i) (run_of kept.first.0 (4096 * c.from.ensures i))) in
-    let memory = (λ i. held c.drop_bytes.new.self.bytes ((c.drop_bytes.ensures.loans ∙ c.drop_prepared.ensures.loans) i) (devices_of h.maps.map) m)
+    let memory = (λ i. held c.drop_bytes.new.self.bytes ((c.drop_bytes.ensures.loans ∙ c.drop_prepared.ensures.loans) i)
+    (devices_of h.maps.map) m)
     ∙ held-parted h c.requires.wired mem kept c.requires.there m c.take.ensures.go c.drop_bytes.new.self.bytes marked
     c.take.ensures.bytes in
     record {

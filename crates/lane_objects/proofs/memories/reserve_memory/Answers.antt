@@ -2,7 +2,7 @@ use Rattle.std.proofs.Common.{◌/◌, ap, sym, ◌∙◌, subst, arith}
 use Rattle.std.specs.FinMap.{contains_key}
 use Rattle.lane_state.specs.Covered.{AreStanding, HasFramesOf, Reaches}
 use Rattle.memory_pages.specs.Placed.{AreAtTheirFrames}
-use Rattle.phys_memory.specs.Memory.{has_frame}
+use Rattle.phys_memory.specs.Memory.{memory_has_frame}
 use Rattle.lane_state.proofs.MapTables.{AreMaps, maps-of}
 use Rattle.lane_state.proofs.Awaiting.{still-awaiting, still-ready}
 use Rattle.lane_state.specs.Awaiting.{AreAwaiting, AreOfMaps}
@@ -18,7 +18,7 @@ invariant_of-holdings-2 c =
     let are = subst (λ ms. AreMaps ms h.loans.loans h.agenda.returns h.agenda.promised) (sym maps) (maps-of h) in
     record {
       covered = λ a. ap (λ b. contains_key b a) same.bytes ∙ h.covered a
-          ∙ ap (λ m. has_frame m (a / 4096)) (sym memory);
+          ∙ ap (λ m. memory_has_frame m (a / 4096)) (sym memory);
       reaches = subst (λ m. Reaches h.pages.now c.reserve-2.new.self.map m) (sym memory)
           (subst (λ t. Reaches h.pages.now t h.memory.memory) (sym memories) h.reaches);
       framed = subst (λ m. HasFramesOf h.pages.now m) (sym memory) h.framed;

@@ -7,7 +7,7 @@ use Rattle.ideal_lane.specs.Outcomes.{gives, unless_absent}
 use Rattle.ideal_lane.specs.Rings.{fits_in, ring, with_ring}
 use Rattle.ideal_lane.specs.State.{LaneMemory, LaneRing, LaneState}
 use Rattle.lane_state.specs.Ideal.{ideal_of}
-use Rattle.lane_state.specs.Kept.{memory_of, ring_of}
+use Rattle.lane_state.specs.Kept.{memory_of, kept_ring}
 use Rattle.lane_state.specs.MapValues.{map_values}
 use Rattle.lane_state.proofs.MapValues.{image-none, image-some}
 use Rattle.lane_objects.proofs.rings.make_ring.Goals as goal
@@ -35,7 +35,8 @@ pub returns-in_default-clause-done : goal.returns-in_default-clause-done
 returns-in_default-clause-done c =
     let h = c.args.holdings.now in
     ap (gives (ideal_of h)) c.report.ensures
-    ∙ absent (ideal_of h) c.args.mem c.args.slots (image-none memory_of h.memories.map c.args.mem (sym c.in_default.ensures))
+    ∙ absent (ideal_of h) c.args.mem c.args.slots
+    (image-none memory_of h.memories.map c.args.mem (sym c.in_default.ensures))
 
 pub returns-then-not-fits_in-clause-done : goal.returns-then-not-fits_in-clause-done
 returns-then-not-fits_in-clause-done c =
@@ -49,7 +50,7 @@ pub returns-clause-done : goal.returns-clause-done
 returns-clause-done c =
     let h = c.args.holdings.now in
     let on : true ≡ c.fits_in.result = sym c.if-not-fits_in.false in
-    let rings = ap (λ t. map_values ring_of t.map) c.reserve.ensures.kept in
+    let rings = ap (λ t. map_values kept_ring t.map) c.reserve.ensures.kept in
     let made : LaneRing = record { mem = c.args.mem; slots = c.args.slots; head = 0 } in
     ap (λ l. gives l answer.Done) c.put_ring.ensures.done
     ∙ (λ i. gives (with_ring h.agenda.place made (record (ideal_of h) { rings = rings i })) answer.Done)

@@ -21,5 +21,6 @@ returns c =
     let l = ideal_of c.args.holdings.now in
     let is = ap (λ p. tag p c.args.limits.now l) c.in-Some.is
     ∙ tag-below l c.in-Some.place c.args.limits.now (tag_of c.in-Some-get.kept.now)
-    (image-some tag_of c.args.holdings.now.tags.map c.in-Some.place c.in-Some-get.kept.now (sym c.in-Some-get.ensures)) in
+    (image-some tag_of c.args.holdings.now.tags.map c.in-Some.place c.in-Some-get.kept.now
+    (sym c.in-Some-get.ensures)) in
     subst (λ s. IsPlan l s c.plan_below-2.result) (sym is) c.plan_below-2.ensures

@@ -21,7 +21,8 @@ returns-clause-done c =
     let t : KeptTag = record { tag = c.args.tag; first_done = false; space = Some c.new-space.result } in
     let opened : Space = record { pages = (c.args.tag.lowaddr.0 + 1) / 4096; runs = [] } in
     let space : c.new-space.result ≡ opened =
-    c.new-space.ensures ∙ ap (λ (x : _). record { pages = (x.lowaddr.0 + 1) / 4096; runs = [] }) c.limits.ensures.limits in
+    c.new-space.ensures ∙ ap (λ (x : _). record { pages = (x.lowaddr.0 + 1) / 4096; runs = [] })
+    c.limits.ensures.limits in
     (λ i. gives (record l {
       tags = (ap (λ ts. map_values tag_of ts.map) c.put.ensures
           ∙ map_values-insert tag_of h.tags.map c.place-place.result t

@@ -10,7 +10,7 @@ use Rattle.ideal_lane.specs.Unloads.{segments_in}
 use Rattle.lane_state.specs.declared.kept.KeptMap.{KeptMap}
 use Rattle.lane_state.specs.Covered.{has_load}
 use Rattle.lane_state.specs.Ideal.{ideal_of}
-use Rattle.lane_state.specs.Kept.{map_of, ring_of}
+use Rattle.lane_state.specs.Kept.{map_of, kept_ring}
 use Rattle.lane_state.proofs.MapValues.{image-some}
 use Rattle.lane_rings.proofs.Candidates.{short-segments}
 use Rattle.lane_rings.proofs.Postings.{all-true, ends-low, none-if, not-posted}
@@ -45,7 +45,7 @@ returns-in_err-addr-clause-unposted c =
     let p = c.args.posting in
     let kept : KeptMap = c.in_ok-kept.kept.now in
     let there : get h.maps.map p.map ≡ Some kept = search rules in
-    none-if c.from_residual-in_err-addr.result (not-posted l (ring_of c.args.ring) p (map_of kept)
+    none-if c.from_residual-in_err-addr.result (not-posted l (kept_ring c.args.ring) p (map_of kept)
     (image-some map_of h.maps.map p.map kept there)
     (ap (address_of p.off p.len) (segments-same kept.map.stage)
     ∙ sym c.address_of.ensures ∙ ap (option_map (λ (x : Pa). x.0)) c.in_err-addr.was))

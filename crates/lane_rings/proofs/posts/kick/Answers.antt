@@ -2,12 +2,12 @@ use Rattle.std.proofs.Common.{◌≡◌, ◌+◌, ◌≤◌, ◌++◌, List, len
 use Rattle.std.proofs.Common.{length-append}
 use Rattle.busdma_base.specs.declared.journals.answer.Answer.TheVariants as answer
 use Rattle.busdma_base.specs.declared.scenarios.script.Item.{Item}
-use Rattle.busdma_base.specs.Scenarios.Queues.{queued_items as queued}
+use Rattle.busdma_base.specs.Scenarios.Queues.{queued_items}
 use Rattle.ideal_lane.proofs.Falling.{queued-from}
 use Rattle.ideal_lane.specs.Outcomes.{gives, unless_absent}
 use Rattle.ideal_lane.specs.State.{LaneRing}
 use Rattle.lane_state.specs.Ideal.{ideal_of}
-use Rattle.lane_state.specs.Kept.{ring_of}
+use Rattle.lane_state.specs.Kept.{kept_ring}
 use Rattle.lane_state.proofs.MapValues.{image-none, image-some}
 use Rattle.std.specs.List.{each_same}
 use Rattle.lane_rings.proofs.posts.kick.Goals as goal
@@ -18,8 +18,8 @@ returns-in_default-clause-done c =
     let l = ideal_of h in
     ap (gives l) c.report.ensures
     ∙ sym (ap (λ o. unless_absent o l (λ (r : LaneRing).
-    gives (record l { queue = l.queue ++ queued l.place c.args.steps.now }) answer.Done))
-    (image-none ring_of h.rings.map c.args.ring (sym c.in_default.ensures)))
+    gives (record l { queue = l.queue ++ queued_items l.place c.args.steps.now }) answer.Done))
+    (image-none kept_ring h.rings.map c.args.ring (sym c.in_default.ensures)))
 
 pub push_items-requires : goal.push_items-requires
 push_items-requires c =
@@ -34,13 +34,14 @@ returns-clause-done c =
     (λ i. gives (record l {
       place = (ap (λ a. a.place) c.push_items.ensures) i;
       queue = (ap (λ a. a.queue) c.push_items.ensures
-          ∙ ap (λ p. l.queue ++ queued p c.in_ok-steps.steps) c.place-place.ensures
-          ∙ ap (λ xs. l.queue ++ queued l.place xs) same) i;
-      returns = (ap (λ a. Rattle.std.proofs.Common.map Rattle.lane_state.specs.Kept.return_of a.returns) c.push_items.ensures) i;
+          ∙ ap (λ p. l.queue ++ queued_items p c.in_ok-steps.steps) c.place-place.ensures
+          ∙ ap (λ xs. l.queue ++ queued_items l.place xs) same) i;
+      returns = (ap (λ a. Rattle.std.proofs.Common.map Rattle.lane_state.specs.Kept.return_of a.returns)
+          c.push_items.ensures) i;
     }) answer.Done)
     ∙ sym (ap (λ o. unless_absent o l (λ (r : LaneRing).
-    gives (record l { queue = l.queue ++ queued l.place c.args.steps.now }) answer.Done))
-    (image-some ring_of h.rings.map c.args.ring c.in-Some.field-0.now (sym c.in-Some.ensures)))
+    gives (record l { queue = l.queue ++ queued_items l.place c.args.steps.now }) answer.Done))
+    (image-some kept_ring h.rings.map c.args.ring c.in-Some.field-0.now (sym c.in-Some.ensures)))
 
 pub returns-clause-agenda : goal.returns-clause-agenda
 returns-clause-agenda c =
@@ -57,7 +58,7 @@ returns-clause-agenda c =
         few,
         ap (λ a. a.room) c.push_items.ensures,
         ap (λ a. length a.queue) c.push_items.ensures,
-        length-append h.agenda.queue (queued c.place-place.result steps),
+        length-append h.agenda.queue (queued_items c.place-place.result steps),
         queued-from c.place-place.result 0 steps,
       );
     }

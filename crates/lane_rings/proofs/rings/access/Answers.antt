@@ -14,7 +14,8 @@ use Rattle.lane_state.specs.Ideal.{given, ideal_of}
 use Rattle.lane_state.specs.Wire.{IsWired, wire_of}
 use Rattle.lane_state.proofs.Doors.{ok-map}
 use Rattle.lane_rings.specs.Ringing.{candidate_of}
-use Rattle.lane_rings.proofs.RingUses.{always, both-ok, differ, kept-wired, lane-of, read-used, read-wire, write-done, write-used}
+use Rattle.lane_rings.proofs.RingUses.{always, both-ok, differ, kept-wired, lane-of, read-used, read-wire, write-done}
+use Rattle.lane_rings.proofs.RingUses.{write-used}
 use Rattle.lane_rings.proofs.RingUses.{write-wire, written-wired}
 use Rattle.lane_rings.proofs.rings.access.Goals as goal
 
@@ -65,10 +66,12 @@ returns-clause-wire c =
     let filled : c.in_ok-bytes.bytes.items ≡ replicate d.len d.fill = search rules in
     let items : c.deref.result.now ≡ replicate d.len d.fill = c.deref.ensures.value ∙ filled in
     ok-map c.dev_write.result
-    (λ (a : Answer). wire_of c.dev_write.new.holdings ≡ wires.dev_write x.map x.off c.deref.result.now l (wire_of h))
+    (λ (a : Answer). wire_of c.dev_write.new.holdings ≡ wires.wire_dev_write x.map x.off c.deref.result.now l
+    (wire_of h))
     (λ (a : Answer). wire_of c.dev_write.new.holdings ≡ used_wire d (candidate_of x) l (wire_of h))
-    (λ a e. e ∙ ap (λ vs. wires.dev_write x.map x.off vs l (wire_of h)) items
-    ∙ write-wire l d x c.requires.allowed (differ d.kind 1 c.if-descriptor-eq1.false) (wire_of h)) c.dev_write.ensures.wire
+    (λ a e. e ∙ ap (λ vs. wires.wire_dev_write x.map x.off vs l (wire_of h)) items
+    ∙ write-wire l d x c.requires.allowed (differ d.kind 1 c.if-descriptor-eq1.false) (wire_of h))
+    c.dev_write.ensures.wire
 
 pub returns-clause-wired : goal.returns-clause-wired
 returns-clause-wired c =
@@ -83,10 +86,10 @@ returns-clause-wired c =
     let done = write-done l d x c.requires.allowed (differ d.kind 1 c.if-descriptor-eq1.false) in
     both-ok c.dev_write.result
     (λ a. Gives (given k a) ≡ dev_write x.map x.off c.deref.result.now l)
-    (λ (a : Answer). wire_of k ≡ wires.dev_write x.map x.off c.deref.result.now l (wire_of h)) (IsWired k)
+    (λ (a : Answer). wire_of k ≡ wires.wire_dev_write x.map x.off c.deref.result.now l (wire_of h)) (IsWired k)
     (λ a e w. written-wired h k c.requires.wired c.requires.stands x.map x.off vs
     (load_bytes l.loans x.map x.off d.len) done
     (lane-of (given k a) (record { lane = stored x.map x.off d.len vs l; answer = answer.Done })
     (e ∙ ap (λ bs. dev_write x.map x.off bs l) items ∙ done))
-    (w ∙ ap (λ bs. wires.dev_write x.map x.off bs l (wire_of h)) items))
+    (w ∙ ap (λ bs. wires.wire_dev_write x.map x.off bs l (wire_of h)) items))
     c.dev_write.ensures.done c.dev_write.ensures.wire

@@ -1,7 +1,7 @@
 use Rattle.std.proofs.Common.{◌≡◌, ◌+◌, ◌%◌, Some, ap, ◌∙◌}
 use Rattle.lane_state.specs.declared.kept.KeptRing.{KeptRing}
 use Rattle.lane_state.specs.Ideal.{ideal_of}
-use Rattle.lane_state.specs.Kept.{ring_of}
+use Rattle.lane_state.specs.Kept.{kept_ring}
 use Rattle.lane_state.proofs.MapValues.{map_values-insert}
 use Rattle.lane_rings.proofs.rings.move_on.Goals as goal
 
@@ -13,7 +13,7 @@ returns-clause-done c =
     let there : Some now ≡ Some kept = c.in-Some.ensures.value ∙ c.requires.there in
     let same : now ≡ kept = cc in
     λ i. record (ideal_of h) {
-      rings = (map_values-insert ring_of h.rings.map c.args.ring (record now { head = (kept.head + 1) % kept.slots })
+      rings = (map_values-insert kept_ring h.rings.map c.args.ring (record now { head = (kept.head + 1) % kept.slots })
           ∙ ap (λ (r : KeptRing). Rattle.std.specs.FinMap.insert (ideal_of h).rings c.args.ring
-          (ring_of (record r { head = (kept.head + 1) % kept.slots }))) same) i;
+          (kept_ring (record r { head = (kept.head + 1) % kept.slots }))) same) i;
     }

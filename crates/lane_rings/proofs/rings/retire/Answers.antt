@@ -2,22 +2,25 @@ use Rattle.std.proofs.Common.{◌≡◌, ℕ, ◌+◌, ◌/◌, ◌≤◌, ◌^�
 use Rattle.std.proofs.Common.{ap, sym, ◌∙◌, subst, arith}
 use Rattle.std.specs.FinMap.{get}
 use Rattle.phys_memory.specs.Frames.{SamePages}
-use Rattle.phys_memory.specs.Memory.{Memory, has_frame, rewritten, wire, written}
+use Rattle.phys_memory.specs.Memory.{FrameMemory, memory_has_frame}
+use Rattle.phys_memory.specs.Memory.{rewritten, wire, memory_written}
 use Rattle.ideal_lane.specs.Rings.{head_at}
 use Rattle.lane_state.specs.declared.kept.KeptMemory.{KeptMemory}
-use Rattle.lane_state.specs.Kept.{ring_of}
+use Rattle.lane_state.specs.Kept.{kept_ring}
 use Rattle.lane_state.proofs.Reaching.{same-physical, same-placed, same-standing}
-use Rattle.lane_state.proofs.Wires.{same_rewritten}
+use Rattle.lane_state.proofs.WireBytes.{same_rewritten}
 use Rattle.lane_rings.proofs.HeadBytes.{last-two, low, told-there, two-done, two-wire, whole}
 use Rattle.lane_rings.proofs.rings.retire.Goals as goal
 
 -- a write in a frame changes no page
-unchanged : (m n : Memory) (at : ℕ) (bytes : List ℕ) → has_frame m (at / 4096) ≡ true → n ≡ rewritten m at bytes →
+unchanged : (m n : FrameMemory) (at : ℕ) (bytes : List ℕ) → memory_has_frame m (at / 4096) ≡ true → n
+    ≡ rewritten m at bytes →
     SamePages m n
 unchanged m n at bytes there is = subst (SamePages m) (sym is) (same_rewritten m at bytes there)
 
 pub unreachable-requires : goal.unreachable-requires
-unreachable-requires c = none (get c.args.holdings.now.memories.map c.args.ring.mem) c.in_default.ensures c.requires.memory
+unreachable-requires c = none (get c.args.holdings.now.memories.map c.args.ring.mem) c.in_default.ensures
+    c.requires.memory
   where
     none : (o : Option KeptMemory) → None ≡ o → IsSome o → ⊥
     none None e s = absurd (cc)
@@ -38,7 +41,7 @@ overflow_add-owner c =
 pub write-requires-clause-there : goal.write-requires-clause-there
 write-requires-clause-there c =
     told-there c.args.holdings.now c.requires.wired c.args.ring.mem c.in-Some.memory.now (sym c.in-Some.ensures)
-    (head_at (ring_of c.args.ring)) c.head_in.result.0 c.requires.readable c.head_in.ensures
+    (head_at (kept_ring c.args.ring)) c.head_in.result.0 c.requires.readable c.head_in.ensures
 
 pub write-requires-clause-inside : goal.write-requires-clause-inside
 write-requires-clause-inside c =
@@ -53,7 +56,8 @@ invariant_of-holdings-clause-covered c =
     let h = c.args.holdings.now in
     let same = unchanged h.memory.memory c.write.new.self.memory (c.head_in.result.0 + 14) (0 ∷ 1 ∷ [])
     (told-there h c.requires.wired c.args.ring.mem c.in-Some.memory.now (sym c.in-Some.ensures)
-    (head_at (ring_of c.args.ring)) c.head_in.result.0 c.requires.readable c.head_in.ensures) c.write.ensures.memory in
+    (head_at (kept_ring c.args.ring)) c.head_in.result.0 c.requires.readable c.head_in.ensures)
+    c.write.ensures.memory in
     λ a. h.covered a ∙ sym (same.frames (a / 4096))
 
 pub invariant_of-holdings-clause-reaches : goal.invariant_of-holdings-clause-reaches
@@ -61,7 +65,8 @@ invariant_of-holdings-clause-reaches c =
     let h = c.args.holdings.now in
     let same = unchanged h.memory.memory c.write.new.self.memory (c.head_in.result.0 + 14) (0 ∷ 1 ∷ [])
     (told-there h c.requires.wired c.args.ring.mem c.in-Some.memory.now (sym c.in-Some.ensures)
-    (head_at (ring_of c.args.ring)) c.head_in.result.0 c.requires.readable c.head_in.ensures) c.write.ensures.memory in
+    (head_at (kept_ring c.args.ring)) c.head_in.result.0 c.requires.readable c.head_in.ensures)
+    c.write.ensures.memory in
     λ va. ap (λ t. t va) (same-physical h.memory.memory c.write.new.self.memory same) ∙ h.reaches va
 
 pub invariant_of-holdings-clause-framed : goal.invariant_of-holdings-clause-framed
@@ -69,7 +74,8 @@ invariant_of-holdings-clause-framed c =
     let h = c.args.holdings.now in
     let same = unchanged h.memory.memory c.write.new.self.memory (c.head_in.result.0 + 14) (0 ∷ 1 ∷ [])
     (told-there h c.requires.wired c.args.ring.mem c.in-Some.memory.now (sym c.in-Some.ensures)
-    (head_at (ring_of c.args.ring)) c.head_in.result.0 c.requires.readable c.head_in.ensures) c.write.ensures.memory in
+    (head_at (kept_ring c.args.ring)) c.head_in.result.0 c.requires.readable c.head_in.ensures)
+    c.write.ensures.memory in
     λ f own. same.frames f ∙ h.framed f own
 
 pub invariant_of-holdings-clause-placed : goal.invariant_of-holdings-clause-placed
@@ -77,7 +83,8 @@ invariant_of-holdings-clause-placed c =
     let h = c.args.holdings.now in
     let same = unchanged h.memory.memory c.write.new.self.memory (c.head_in.result.0 + 14) (0 ∷ 1 ∷ [])
     (told-there h c.requires.wired c.args.ring.mem c.in-Some.memory.now (sym c.in-Some.ensures)
-    (head_at (ring_of c.args.ring)) c.head_in.result.0 c.requires.readable c.head_in.ensures) c.write.ensures.memory in
+    (head_at (kept_ring c.args.ring)) c.head_in.result.0 c.requires.readable c.head_in.ensures)
+    c.write.ensures.memory in
     same-placed h.memory.memory c.write.new.self.memory same h.placed
 
 pub invariant_of-holdings-clause-standing : goal.invariant_of-holdings-clause-standing
@@ -85,7 +92,8 @@ invariant_of-holdings-clause-standing c =
     let h = c.args.holdings.now in
     let same = unchanged h.memory.memory c.write.new.self.memory (c.head_in.result.0 + 14) (0 ∷ 1 ∷ [])
     (told-there h c.requires.wired c.args.ring.mem c.in-Some.memory.now (sym c.in-Some.ensures)
-    (head_at (ring_of c.args.ring)) c.head_in.result.0 c.requires.readable c.head_in.ensures) c.write.ensures.memory in
+    (head_at (kept_ring c.args.ring)) c.head_in.result.0 c.requires.readable c.head_in.ensures)
+    c.write.ensures.memory in
     same-standing h.memories.map h.memory.memory c.write.new.self.memory same h.standing
 
 pub returns-clause-done : goal.returns-clause-done
@@ -95,11 +103,12 @@ returns-clause-done c =
     let m = c.args.ring.mem in
     let x = c.in-Some.memory.now in
     let here = sym c.in-Some.ensures in
-    let at = head_at (ring_of c.args.ring) in
+    let at = head_at (kept_ring c.args.ring) in
     let place : c.head_in.result.0 + 14 ≡ x.first.0 + (at + 14) = omega (arith, c.head_in.ensures) in
     two-done h c.requires.wired m x here r.map r.there r.loaded (at + 14) (omega (arith, r.range))
-    (last-two h c.requires.wired m x here r.map r.there r.loaded at r.range r.fine) c.requires.coherent c.write.new.self.memory
-    (c.write.ensures.wire ∙ ap (λ a. written a (0 ∷ 1 ∷ []) (wire h.memory.memory)) place)
+    (last-two h c.requires.wired m x here r.map r.there r.loaded at r.range r.fine) c.requires.coherent
+    c.write.new.self.memory
+    (c.write.ensures.wire ∙ ap (λ a. memory_written a (0 ∷ 1 ∷ []) (wire h.memory.memory)) place)
 
 pub returns-clause-wire : goal.returns-clause-wire
 returns-clause-wire c =
@@ -108,9 +117,9 @@ returns-clause-wire c =
     let m = c.args.ring.mem in
     let x = c.in-Some.memory.now in
     let here = sym c.in-Some.ensures in
-    let at = head_at (ring_of c.args.ring) in
+    let at = head_at (kept_ring c.args.ring) in
     let place : c.head_in.result.0 + 14 ≡ x.first.0 + (at + 14) = omega (arith, c.head_in.ensures) in
     two-wire h c.requires.wired m x here r.map r.there r.loaded (at + 14) (omega (arith, r.range))
     (last-two h c.requires.wired m x here r.map r.there r.loaded at r.range r.fine) c.requires.coherent
     c.write.new.self.memory
-    (c.write.ensures.wire ∙ ap (λ a. written a (0 ∷ 1 ∷ []) (wire h.memory.memory)) place)
+    (c.write.ensures.wire ∙ ap (λ a. memory_written a (0 ∷ 1 ∷ []) (wire h.memory.memory)) place)

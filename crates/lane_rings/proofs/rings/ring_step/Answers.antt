@@ -6,13 +6,13 @@ use Rattle.busdma_machine.specs.declared.report.Errno.TheVariants.{EINVAL}
 use Rattle.busdma_machine.specs.declared.report.ReportName.TheVariants.{Absent}
 use Rattle.busdma_machine.specs.Runs.{run_of}
 use Rattle.busdma_rules.specs.Lending.Loans.{loan_of}
-use Rattle.phys_memory.specs.Memory.{has_frame, wire}
+use Rattle.phys_memory.specs.Memory.{memory_has_frame, wire}
 use Rattle.busdma_rules.specs.declared.descriptor.Descriptor.{Descriptor}
 use Rattle.busdma_rules.specs.Rings.Descriptors.{descriptor_of}
 use Rattle.ideal_lane.specs.Outcomes.{gives}
 use Rattle.ideal_lane.specs.Rings.{candidates_in, head_at, head_of, is_work}
 use Rattle.lane_state.specs.Ideal.{ideal_of}
-use Rattle.lane_state.specs.Kept.{ring_of}
+use Rattle.lane_state.specs.Kept.{kept_ring}
 use Rattle.lane_state.specs.Wire.{wire_of}
 use Rattle.lane_state.proofs.MapValues.{image-none}
 use Rattle.lane_rings.specs.declared.rings.Work.TheVariants as work
@@ -30,7 +30,7 @@ returns-in_default-clause-done c =
     let l = ideal_of h in
     let k = c.args.ring in
     ap (gives l) c.report.ensures
-    ∙ no-ring l k (image-none ring_of h.rings.map k (sym c.in_default.ensures))
+    ∙ no-ring l k (image-none kept_ring h.rings.map k (sym c.in_default.ensures))
 
 pub returns-in_default-clause-wire : goal.returns-in_default-clause-wire
 returns-in_default-clause-wire c =
@@ -38,7 +38,7 @@ returns-in_default-clause-wire c =
     let l = ideal_of h in
     let k = c.args.ring in
     idle-wire l k (answer.Report (record { name = Absent; at = 0 })) (wire_of h) (λ after. refl)
-    (no-ring l k (image-none ring_of h.rings.map k (sym c.in_default.ensures)))
+    (no-ring l k (image-none kept_ring h.rings.map k (sym c.in_default.ensures)))
 
 pub returns-in_default-get-clause-done : goal.returns-in_default-get-clause-done
 returns-in_default-get-clause-done c =
@@ -47,7 +47,7 @@ returns-in_default-get-clause-done c =
     let k = c.args.ring in
     let q = c.in-Some.kept.now in
     let ring : get h.rings.map k ≡ Some q = sym c.in-Some.ensures in
-    let r = ring_of q in
+    let r = kept_ring q in
     ap (gives l) c.report-in_default-get.ensures
     ∙ no-memory h c.requires.wired c.requires.stands k q ring (sym c.in_default-get.ensures)
 
@@ -58,7 +58,7 @@ returns-in_default-get-clause-wire c =
     let k = c.args.ring in
     let q = c.in-Some.kept.now in
     let ring : get h.rings.map k ≡ Some q = sym c.in-Some.ensures in
-    let r = ring_of q in
+    let r = kept_ring q in
     idle-wire l k (answer.Report (record { name = Absent; at = 0 })) (wire_of h) (λ after. refl)
     (no-memory h c.requires.wired c.requires.stands k q ring (sym c.in_default-get.ensures))
 
@@ -77,7 +77,7 @@ returns-in-Some-unread-clause-done c =
     let k = c.args.ring in
     let q = c.in-Some.kept.now in
     let ring : get h.rings.map k ≡ Some q = sym c.in-Some.ensures in
-    let r = ring_of q in
+    let r = kept_ring q in
     step-unread l k r (ideal-ring h c.requires.wired c.requires.stands k q ring) c.in-Some-unread.refusal
     c.in-Some-unread.ensures.refused
 
@@ -88,7 +88,7 @@ returns-in-Some-unread-clause-wire c =
     let k = c.args.ring in
     let q = c.in-Some.kept.now in
     let ring : get h.rings.map k ≡ Some q = sym c.in-Some.ensures in
-    let r = ring_of q in
+    let r = kept_ring q in
     idle-wire l k (answer.Report c.in-Some-unread.refusal) (wire_of h) (λ after. refl)
     (step-unread l k r (ideal-ring h c.requires.wired c.requires.stands k q ring) c.in-Some-unread.refusal
     c.in-Some-unread.ensures.refused)
@@ -100,11 +100,11 @@ read_descriptor-descriptor-requires-clause-there c =
     let k = c.args.ring in
     let q = c.in-Some.kept.now in
     let ring : get h.rings.map k ≡ Some q = sym c.in-Some.ensures in
-    let r = ring_of q in
+    let r = kept_ring q in
     let x = c.in-Some-get.memory.now in
     let memory : get h.memories.map q.mem ≡ Some x = sym c.in-Some-get.ensures in
     let read = c.in_default-unread.ensures.readable in
-    subst (λ a. has_frame h.memory.memory (a / 4096) ≡ true) (sym c.head_in-head.ensures)
+    subst (λ a. memory_has_frame h.memory.memory (a / 4096) ≡ true) (sym c.head_in-head.ensures)
     (head-there h c.requires.wired c.requires.stands k q ring x memory read)
 
 pub read_descriptor-descriptor-requires-clause-inside : goal.read_descriptor-descriptor-requires-clause-inside
@@ -114,7 +114,7 @@ read_descriptor-descriptor-requires-clause-inside c =
     let k = c.args.ring in
     let q = c.in-Some.kept.now in
     let ring : get h.rings.map k ≡ Some q = sym c.in-Some.ensures in
-    let r = ring_of q in
+    let r = kept_ring q in
     let x = c.in-Some-get.memory.now in
     let memory : get h.memories.map q.mem ≡ Some x = sym c.in-Some-get.ensures in
     let read = c.in_default-unread.ensures.readable in
@@ -128,7 +128,7 @@ returns-then-descriptor-ne1-clause-done c =
     let k = c.args.ring in
     let q = c.in-Some.kept.now in
     let ring : get h.rings.map k ≡ Some q = sym c.in-Some.ensures in
-    let r = ring_of q in
+    let r = kept_ring q in
     let x = c.in-Some-get.memory.now in
     let memory : get h.memories.map q.mem ≡ Some x = sym c.in-Some-get.ensures in
     let read = c.in_default-unread.ensures.readable in
@@ -147,7 +147,7 @@ returns-then-descriptor-ne1-clause-wire c =
     let k = c.args.ring in
     let q = c.in-Some.kept.now in
     let ring : get h.rings.map k ≡ Some q = sym c.in-Some.ensures in
-    let r = ring_of q in
+    let r = kept_ring q in
     let x = c.in-Some-get.memory.now in
     let memory : get h.memories.map q.mem ≡ Some x = sym c.in-Some-get.ensures in
     let read = c.in_default-unread.ensures.readable in
@@ -167,7 +167,7 @@ returns-then-not-is_work-clause-done c =
     let k = c.args.ring in
     let q = c.in-Some.kept.now in
     let ring : get h.rings.map k ≡ Some q = sym c.in-Some.ensures in
-    let r = ring_of q in
+    let r = kept_ring q in
     let x = c.in-Some-get.memory.now in
     let memory : get h.memories.map q.mem ≡ Some x = sym c.in-Some-get.ensures in
     let read = c.in_default-unread.ensures.readable in
@@ -188,7 +188,7 @@ returns-then-not-is_work-clause-wire c =
     let k = c.args.ring in
     let q = c.in-Some.kept.now in
     let ring : get h.rings.map k ≡ Some q = sym c.in-Some.ensures in
-    let r = ring_of q in
+    let r = kept_ring q in
     let x = c.in-Some-get.memory.now in
     let memory : get h.memories.map q.mem ≡ Some x = sym c.in-Some-get.ensures in
     let read = c.in_default-unread.ensures.readable in
@@ -210,7 +210,7 @@ returns-in-Refused-clause-done c =
     let k = c.args.ring in
     let q = c.in-Some.kept.now in
     let ring : get h.rings.map k ≡ Some q = sym c.in-Some.ensures in
-    let r = ring_of q in
+    let r = kept_ring q in
     let x = c.in-Some-get.memory.now in
     let memory : get h.memories.map q.mem ≡ Some x = sym c.in-Some-get.ensures in
     let read = c.in_default-unread.ensures.readable in
@@ -224,7 +224,8 @@ returns-in-Refused-clause-done c =
     let works : is_work d.kind d.len ≡ true = sym c.is_work.ensures ∙ c.if-not-is_work.false in
     let works-head : is_work (head_of r l).kind (head_of r l).len ≡ true =
     ap (λ (e : Descriptor). is_work e.kind e.len) (sym same) ∙ works in
-    step-refused l k r (ideal-ring h c.requires.wired c.requires.stands k q ring) read owned-head works-head c.in-Refused.refusal
+    step-refused l k r (ideal-ring h c.requires.wired c.requires.stands k q ring) read owned-head works-head
+    c.in-Refused.refusal
     (sym c.in-Refused.is ∙ c.find_work.ensures.is
     ∙ ap (λ e. work_of e l (candidates_in e q.mem l (entries l.maps))) same)
 
@@ -235,7 +236,7 @@ returns-in-Refused-clause-wire c =
     let k = c.args.ring in
     let q = c.in-Some.kept.now in
     let ring : get h.rings.map k ≡ Some q = sym c.in-Some.ensures in
-    let r = ring_of q in
+    let r = kept_ring q in
     let x = c.in-Some-get.memory.now in
     let memory : get h.memories.map q.mem ≡ Some x = sym c.in-Some-get.ensures in
     let read = c.in_default-unread.ensures.readable in
@@ -250,7 +251,8 @@ returns-in-Refused-clause-wire c =
     let works-head : is_work (head_of r l).kind (head_of r l).len ≡ true =
     ap (λ (e : Descriptor). is_work e.kind e.len) (sym same) ∙ works in
     idle-wire l k (answer.Report c.in-Refused.refusal) (wire_of h) (λ after. refl)
-    (step-refused l k r (ideal-ring h c.requires.wired c.requires.stands k q ring) read owned-head works-head c.in-Refused.refusal
+    (step-refused l k r (ideal-ring h c.requires.wired c.requires.stands k q ring) read owned-head works-head
+    c.in-Refused.refusal
     (sym c.in-Refused.is ∙ c.find_work.ensures.is
     ∙ ap (λ e. work_of e l (candidates_in e q.mem l (entries l.maps))) same))
 
@@ -261,7 +263,7 @@ retire-requires-clause-readable c =
     let k = c.args.ring in
     let q = c.in-Some.kept.now in
     let ring : get h.rings.map k ≡ Some q = sym c.in-Some.ensures in
-    let r = ring_of q in
+    let r = kept_ring q in
     let x = c.in-Some-get.memory.now in
     let memory : get h.memories.map q.mem ≡ Some x = sym c.in-Some-get.ensures in
     let read = c.in_default-unread.ensures.readable in
@@ -286,7 +288,7 @@ retire-requires-clause-coherent c =
     let k = c.args.ring in
     let q = c.in-Some.kept.now in
     let ring : get h.rings.map k ≡ Some q = sym c.in-Some.ensures in
-    let r = ring_of q in
+    let r = kept_ring q in
     let x = c.in-Some-get.memory.now in
     let memory : get h.memories.map q.mem ≡ Some x = sym c.in-Some-get.ensures in
     let read = c.in_default-unread.ensures.readable in
@@ -313,7 +315,7 @@ move_on-requires-clause-there c =
     let k = c.args.ring in
     let q = c.in-Some.kept.now in
     let ring : get h.rings.map k ≡ Some q = sym c.in-Some.ensures in
-    let r = ring_of q in
+    let r = kept_ring q in
     let x = c.in-Some-get.memory.now in
     let memory : get h.memories.map q.mem ≡ Some x = sym c.in-Some-get.ensures in
     let read = c.in_default-unread.ensures.readable in
@@ -354,7 +356,7 @@ returns-clause-done c =
     let k = c.args.ring in
     let q = c.in-Some.kept.now in
     let ring : get h.rings.map k ≡ Some q = sym c.in-Some.ensures in
-    let r = ring_of q in
+    let r = kept_ring q in
     let x = c.in-Some-get.memory.now in
     let memory : get h.memories.map q.mem ≡ Some x = sym c.in-Some-get.ensures in
     let read = c.in_default-unread.ensures.readable in
@@ -379,7 +381,7 @@ returns-clause-wire c =
     let k = c.args.ring in
     let q = c.in-Some.kept.now in
     let ring : get h.rings.map k ≡ Some q = sym c.in-Some.ensures in
-    let r = ring_of q in
+    let r = kept_ring q in
     let x = c.in-Some-get.memory.now in
     let memory : get h.memories.map q.mem ≡ Some x = sym c.in-Some-get.ensures in
     let read = c.in_default-unread.ensures.readable in

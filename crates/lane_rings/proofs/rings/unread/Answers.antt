@@ -3,7 +3,7 @@ use Rattle.std.specs.FinMap.{get}
 use Rattle.busdma_machine.specs.declared.name.MapId.{MapId}
 use Rattle.busdma_rules.specs.Lending.Access.{dev_read_answer}
 use Rattle.busdma_rules.specs.Lending.Loans.{loan_of}
-use Rattle.loan_table.specs.Table.{is_known}
+use Rattle.loan_table.specs.Table.{is_marked_known}
 use Rattle.lane_state.specs.Held.{devices_of}
 use Rattle.lane_state.specs.Ideal.{ideal_of}
 use Rattle.lane_state.specs.Kept.{map_of}
@@ -32,7 +32,8 @@ returns-in-Refused-clause-refused c =
     unread-refused (ideal_of h) c.args.map c.args.off c.args.len (map_of x.0)
     (image-some map_of h.maps.map c.args.map x.0 x.1) x.2 c.in_default-past_end.ensures.range c.in-Refused.refusal
     (sym c.in-Refused.is ∙ c.may_dev_read.ensures
-    ∙ ap (λ (m : MapId). dev_read_answer (is_known h.loans) (loan_of h.loans.loans m.made_at) c.args.off c.args.len)
+    ∙ ap (λ (m : MapId). dev_read_answer (is_marked_known h.loans) (loan_of h.loans.loans m.made_at) c.args.off
+    c.args.len)
     c.map_id.ensures
     ∙ ap (λ f. dev_read_answer f (loan_of h.loans.loans c.args.map) c.args.off c.args.len)
     (sym (known-held h.loans.bytes h.loans.loans (devices_of h.maps.map) h.memory.memory)))
@@ -47,7 +48,8 @@ returns-in-Fine-clause-readable c =
       loaded = x.2;
       range = c.in_default-past_end.ensures.range;
       fine = sym (sym c.in-Fine.is ∙ c.may_dev_read.ensures
-          ∙ ap (λ (m : MapId). dev_read_answer (is_known h.loans) (loan_of h.loans.loans m.made_at) c.args.off c.args.len)
+          ∙ ap (λ (m : MapId). dev_read_answer (is_marked_known h.loans) (loan_of h.loans.loans m.made_at) c.args.off
+          c.args.len)
           c.map_id.ensures
           ∙ ap (λ f. dev_read_answer f (loan_of h.loans.loans c.args.map) c.args.off c.args.len)
           (sym (known-held h.loans.bytes h.loans.loans (devices_of h.maps.map) h.memory.memory)));

@@ -4,7 +4,7 @@ use Rattle.lane_core.specs.declared.lane.Lane.{Lane}
 use Rattle.lane_core.specs.LaneIdeal.{ideal}
 use Rattle.ideal_runs.specs.Runs.{Log}
 use Rattle.lane_threads.specs.Closing.{LanePass}
-use Rattle.lane_threads.specs.PassDoor.{place_of, seen}
+use Rattle.lane_threads.specs.PassDoor.{door_place, seen}
 use Rattle.lane_rounds.specs.AtWork.{IsAtWork, Works}
 use Rattle.lane_run.specs.Parked.{ArePassed}
 use Rattle.lane_run.specs.Seated.{Seat, seat_of}
@@ -23,7 +23,7 @@ loop-worker-preserved g c =
     let work : IsAtWork (seat_of w).first (ideal f.result.lane) f.result.log.items (seen q) =
     subst (λ (x : LanePass). IsAtWork (seat_of w).first (ideal f.result.lane) f.result.log.items (seen x))
     (sym c.into_pass.ensures) f.ensures.work in
-    let same : place_of q ≡ (seat_of w).fixed = ap place_of c.into_pass.ensures ∙ f.ensures.fixed in
+    let same : door_place q ≡ (seat_of w).fixed = ap door_place c.into_pass.ensures ∙ f.ensures.fixed in
     let logs = c.loop-worker.parked.logs.items in
     let more =
     passed-more done c.loop-worker.parked.lanes.items (map (λ x. x.items) logs) c.loop-worker.passes.items

@@ -4,7 +4,7 @@ use Rattle.ideal_world.specs.World.{WorldState}
 use Rattle.ideal_runs.specs.Runs.{Log}
 use Rattle.ideal_runs.specs.FromLogs.{RunsTo}
 use Rattle.ideal_runs.proofs.FromLogs.{run-well}
-use Rattle.world_core.specs.Kept.{world_of}
+use Rattle.world_core.specs.Kept.{kept_world}
 use Rattle.lane_run.proofs.run.closing_of.Goals as goal
 
 pub from_parts-requires : goal.from_parts-requires
@@ -14,7 +14,7 @@ from_parts-requires c =
     let logs : List Log = map (λ l. l.items) c.args.parked.logs.items in
     let hub = c.args.hub in
     record {
-      well = run-well s logs hub.history (world_of lanes hub) c.requires.ran.run c.requires.valid;
+      well = run-well s logs hub.history (kept_world lanes hub) c.requires.ran.run c.requires.valid;
       opening = c.requires.ran.begins;
     }
 

@@ -1,5 +1,5 @@
 use Rattle.std.proofs.Common.{◌+◌, ◌∙◌, ap, length, length-append}
-use Rattle.lane_run.proofs.Closings.{none-more}
+use Rattle.lane_run.proofs.ClosingLaws.{none-more}
 use Rattle.lane_run.proofs.run.empty_logs.Goals as goal
 
 pub loop-preserved : goal.loop-preserved

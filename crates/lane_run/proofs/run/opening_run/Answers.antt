@@ -1,5 +1,5 @@
 use Rattle.std.proofs.Common.{◌∙◌}
-use Rattle.lane_run.proofs.Closings.{opening-run}
+use Rattle.lane_run.proofs.ClosingLaws.{opening-run}
 use Rattle.lane_run.proofs.run.opening_run.Goals as goal
 
 pub returns : goal.returns

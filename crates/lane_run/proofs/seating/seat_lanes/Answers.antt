@@ -1,9 +1,10 @@
-use Rattle.std.proofs.Common.{◌≡◌, ℕ, ◌+◌, ◌++◌, [], ◌∷◌, length, sym, ap, ◌∙◌, subst, append_assoc, length-append, arith}
+use Rattle.std.proofs.Common.{◌≡◌, ℕ, ◌+◌, ◌++◌, [], ◌∷◌, length, sym, ap, ◌∙◌, subst, append_assoc, length-append}
+use Rattle.std.proofs.Common.{arith}
 use Rattle.lane_threads.specs.PassDoor as pass
 use Rattle.lane_threads.specs.Closing.{LanePass}
 use Rattle.lane_rounds.specs.AtWork.{Place}
 use Rattle.lane_run.specs.Seated.{AreFresh, AreSeated, IsSeated, Seat}
-use Rattle.lane_run.proofs.Seats.{seated-more}
+use Rattle.lane_run.proofs.SeatedLaws.{seated-more}
 use Rattle.lane_run.proofs.seating.seat_lanes.Goals as goal
 
 pub loop-lane-preserved : goal.loop-lane-preserved

@@ -1,7 +1,7 @@
 use Rattle.std.proofs.Common.{rules, sym, subst}
 use mir.Syntax.{static}
 use denote.Param.{param}
-use Rattle.lane_run.proofs.Seats.{Rounded, rounded-next}
+use Rattle.lane_run.proofs.SeatedLaws.{Rounded, rounded-next}
 use Rattle.lane_run.proofs.Sending.{door_send}
 use Rattle.lane_run.proofs.threads.all_rounds.Goals.{in-None, in-Some+then-not-wants_round}
 use Rattle.lane_run.proofs.threads.all_rounds.Goals as goal

@@ -1,5 +1,5 @@
 use Rattle.std.proofs.Common.{◌≡◌, length}
-use Rattle.lane_run.proofs.Seats.{Rounded}
+use Rattle.lane_run.proofs.SeatedLaws.{Rounded}
 use Rattle.lane_run.proofs.threads.all_rounds.Given as goal
 
 abbrev pub invariant-loop : goal.invariant-loop

@@ -3,12 +3,12 @@ use Rattle.bounce_hub.specs.Seen.{HubSeen}
 use Rattle.turnstile.specs.Start.{start_of}
 use Rattle.ideal_runs.specs.Runs.{Log}
 use Rattle.lane_threads.specs.Closing.{LanePass}
-use Rattle.lane_threads.proofs.Closings.{closed_same}
+use Rattle.lane_threads.proofs.ClosingLaws.{closed_same}
 use Rattle.lane_threads.specs.PassDoor.{seen}
 use Rattle.lane_rounds.specs.AtWork.{Works}
 use Rattle.lane_run.specs.Seated.{AreSeated}
 use Rattle.lane_run.proofs.Passing.{back, has-run, seated-back, tables}
-use Rattle.lane_run.proofs.Seats.{few-lanes, fresh, seated-work, started}
+use Rattle.lane_run.proofs.SeatedLaws.{few-lanes, fresh, seated-work, started}
 use Rattle.lane_run.proofs.threads.run_on_threads.Goals as goal
 
 pub overflow_cast-names : goal.overflow_cast-names

@@ -76,7 +76,8 @@ returns-in-Refused-may_cpu_read-clause-refused c =
     let free : is_free (get l.maps s.map) ≡ true = ap is_free there ∙ idle in
     let fine : load_judged l s.map (Vector s.clusters) ≡ Fine = sym c.judge_load.ensures ∙ c.in_default-judge_load.is in
     (stopped-read l s free fine c.in-Refused-may_cpu_read.refusal
-    (read-same h c.args.from.now s c.requires.bytes.chain ∙ sym c.may_cpu_read.ensures ∙ c.in-Refused-may_cpu_read.is)).step
+    (read-same h c.args.from.now s c.requires.bytes.chain ∙ sym c.may_cpu_read.ensures
+    ∙ c.in-Refused-may_cpu_read.is)).step
 
 pub returns-in-Refused-may_cpu_read-clause-stays : goal.returns-in-Refused-may_cpu_read-clause-stays
 returns-in-Refused-may_cpu_read-clause-stays c =
@@ -89,7 +90,8 @@ returns-in-Refused-may_cpu_read-clause-stays c =
     let free : is_free (get l.maps s.map) ≡ true = ap is_free there ∙ idle in
     let fine : load_judged l s.map (Vector s.clusters) ≡ Fine = sym c.judge_load.ensures ∙ c.in_default-judge_load.is in
     (stopped-read l s free fine c.in-Refused-may_cpu_read.refusal
-    (read-same h c.args.from.now s c.requires.bytes.chain ∙ sym c.may_cpu_read.ensures ∙ c.in-Refused-may_cpu_read.is)).wire
+    (read-same h c.args.from.now s c.requires.bytes.chain ∙ sym c.may_cpu_read.ensures
+    ∙ c.in-Refused-may_cpu_read.is)).wire
 
 pub returns-in-Refused-may_cpu_write-clause-refused : goal.returns-in-Refused-may_cpu_write-clause-refused
 returns-in-Refused-may_cpu_write-clause-refused c =
@@ -130,7 +132,8 @@ returns-in_default-state c =
     let s = the_send c.args.resend in
     let o = c.in-Some.kept.now in
     let there = image-some map_of h.maps.map s.map o (sym c.in-Some.ensures) in
-    let x = stopped-busy l s (map_of o) there (state-busy o.map.stage (λ e. c.in_default-state.not-Idle (c.state.ensures ∙ e))) in
+    let x = stopped-busy l s (map_of o) there
+    (state-busy o.map.stage (λ e. c.in_default-state.not-Idle (c.state.ensures ∙ e))) in
     record { refused = x.step; stays = x.wire; fine = tt }
 
 pub returns-clause-fine : goal.returns-clause-fine

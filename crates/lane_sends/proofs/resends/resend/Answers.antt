@@ -3,7 +3,7 @@ use Rattle.busdma_machine.specs.declared.machine.address.Extent.{Extent}
 use Rattle.busdma_machine.specs.declared.machine.bio.Bio.TheVariants.{Vector}
 use Rattle.busdma_machine.specs.Runs.{addresses, byte_count}
 use Rattle.loan_table.specs.Table.{AreIn}
-use Rattle.mbuf_defrag.specs.Copying.{ShareNone, copied}
+use Rattle.mbuf_defrag.specs.Copying.{ShareNone, extents_copied}
 use Rattle.phys_memory.specs.Frames.{Lie}
 use Rattle.phys_memory.specs.Memory.{wire}
 use Rattle.ideal_lane.specs.Loads.{asked, load}
@@ -66,7 +66,8 @@ copy_bytes-requires-clause-from g c =
     let e = g.D.HubDoor.seen c.load.new.door in
     let a = c.in_ok-loaded.loaded.answer in
     let done : IsDone d h.id.0 (load s.map (asked s.map (Vector s.clusters) true s.items l) l) (given k a) e =
-    subst (λ (x : LaneState). IsDone d x.id (load s.map (asked s.map (Vector s.clusters) true s.items x) x) (given k a) e)
+    subst (λ (x : LaneState). IsDone d x.id (load s.map (asked s.map (Vector s.clusters) true s.items x) x)
+    (given k a) e)
     c.make_room.ensures.ideal c.in_ok-loaded.ensures.done in
     let stays = stays-from h r k c.make_room.ensures.memory c.make_room.ensures.maps c.load.ensures.bytes in
     subst (Lie k.memory.memory) (sym c.deref-4.ensures.value)
@@ -84,7 +85,8 @@ copy_bytes-requires-clause-to g c =
     let e = g.D.HubDoor.seen c.load.new.door in
     let a = c.in_ok-loaded.loaded.answer in
     let done : IsDone d h.id.0 (load s.map (asked s.map (Vector s.clusters) true s.items l) l) (given k a) e =
-    subst (λ (x : LaneState). IsDone d x.id (load s.map (asked s.map (Vector s.clusters) true s.items x) x) (given k a) e)
+    subst (λ (x : LaneState). IsDone d x.id (load s.map (asked s.map (Vector s.clusters) true s.items x) x)
+    (given k a) e)
     c.make_room.ensures.ideal c.in_ok-loaded.ensures.done in
     let stays = stays-from h r k c.make_room.ensures.memory c.make_room.ensures.maps c.load.ensures.bytes in
     subst (Lie k.memory.memory) (sym c.deref-5.ensures.value)
@@ -102,7 +104,8 @@ copy_bytes-requires-clause-inside g c =
     let e = g.D.HubDoor.seen c.load.new.door in
     let a = c.in_ok-loaded.loaded.answer in
     let done : IsDone d h.id.0 (load s.map (asked s.map (Vector s.clusters) true s.items l) l) (given k a) e =
-    subst (λ (x : LaneState). IsDone d x.id (load s.map (asked s.map (Vector s.clusters) true s.items x) x) (given k a) e)
+    subst (λ (x : LaneState). IsDone d x.id (load s.map (asked s.map (Vector s.clusters) true s.items x) x)
+    (given k a) e)
     c.make_room.ensures.ideal c.in_ok-loaded.ensures.done in
     let stays = stays-from h r k c.make_room.ensures.memory c.make_room.ensures.maps c.load.ensures.bytes in
     subst (λ (es : List Extent). AreIn k.loans.bytes (addresses es)) (sym c.deref-5.ensures.value)
@@ -116,7 +119,8 @@ copy_bytes-requires-clause-alike g c =
     let u = c.in_default.ensures.fine in
     let from = c.in_ok-from.from.items in
     let to = c.in_ok-to.to.items in
-    let are = its-bytes h c.requires.wired s c.requires.due from to c.in_ok-from.ensures.bytes c.in_ok-to.ensures.bytes in
+    let are = its-bytes h c.requires.wired s c.requires.due from to c.in_ok-from.ensures.bytes
+    c.in_ok-to.ensures.bytes in
     ap byte_count c.deref-4.ensures.value
     ∙ bytes-alike h c.requires.wired s c.requires.due u from to are
     ∙ sym (ap byte_count c.deref-5.ensures.value)
@@ -129,7 +133,8 @@ copy_bytes-requires-clause-apart g c =
     let u = c.in_default.ensures.fine in
     let from = c.in_ok-from.from.items in
     let to = c.in_ok-to.to.items in
-    let are = its-bytes h c.requires.wired s c.requires.due from to c.in_ok-from.ensures.bytes c.in_ok-to.ensures.bytes in
+    let are = its-bytes h c.requires.wired s c.requires.due from to c.in_ok-from.ensures.bytes
+    c.in_ok-to.ensures.bytes in
     (λ (p : c.deref-4.result.now ≡ from) (q : c.deref-5.result.now ≡ to).
     subst (λ (x : List Extent × List Extent). ShareNone x.0 x.1) (λ i. (sym p i, sym q i))
     (share-none h c.requires.wired s c.requires.due u from to are)) c.deref-4.ensures.value c.deref-5.ensures.value
@@ -168,14 +173,16 @@ returns-clause-done g c =
     let u = c.in_default.ensures.fine in
     let from = c.in_ok-from.from.items in
     let to = c.in_ok-to.to.items in
-    let are = its-bytes h c.requires.wired s c.requires.due from to c.in_ok-from.ensures.bytes c.in_ok-to.ensures.bytes in
+    let are = its-bytes h c.requires.wired s c.requires.due from to c.in_ok-from.ensures.bytes
+    c.in_ok-to.ensures.bytes in
     let r = c.make_room.new.holdings in
     let k = c.load.new.holdings in
     let d = g.D.HubDoor.seen c.args.door.now in
     let e = g.D.HubDoor.seen c.load.new.door in
     let a = c.in_ok-loaded.loaded.answer in
     let done : IsDone d h.id.0 (load s.map (asked s.map (Vector s.clusters) true s.items l) l) (given k a) e =
-    subst (λ (x : LaneState). IsDone d x.id (load s.map (asked s.map (Vector s.clusters) true s.items x) x) (given k a) e)
+    subst (λ (x : LaneState). IsDone d x.id (load s.map (asked s.map (Vector s.clusters) true s.items x) x)
+    (given k a) e)
     c.make_room.ensures.ideal c.in_ok-loaded.ensures.done in
     let stays = stays-from h r k c.make_room.ensures.memory c.make_room.ensures.maps c.load.ensures.bytes in
     let n = c.copy_bytes.new.holdings in
@@ -184,7 +191,7 @@ returns-clause-done g c =
     (c.copy_bytes.ensures.ideal
     ∙ ap (λ (es : List Extent). with_marked (addresses es) n.memory.memory k) c.deref-5.ensures.value)
     (c.copy_bytes.ensures.wire
-    ∙ (λ i. copied (c.deref-4.ensures.value i) (c.deref-5.ensures.value i) (wire k.memory.memory)))
+    ∙ (λ i. extents_copied (c.deref-4.ensures.value i) (c.deref-5.ensures.value i) (wire k.memory.memory)))
 
 pub returns-clause-wire : goal.returns-clause-wire
 returns-clause-wire g c =
@@ -194,14 +201,16 @@ returns-clause-wire g c =
     let u = c.in_default.ensures.fine in
     let from = c.in_ok-from.from.items in
     let to = c.in_ok-to.to.items in
-    let are = its-bytes h c.requires.wired s c.requires.due from to c.in_ok-from.ensures.bytes c.in_ok-to.ensures.bytes in
+    let are = its-bytes h c.requires.wired s c.requires.due from to c.in_ok-from.ensures.bytes
+    c.in_ok-to.ensures.bytes in
     let r = c.make_room.new.holdings in
     let k = c.load.new.holdings in
     let d = g.D.HubDoor.seen c.args.door.now in
     let e = g.D.HubDoor.seen c.load.new.door in
     let a = c.in_ok-loaded.loaded.answer in
     let done : IsDone d h.id.0 (load s.map (asked s.map (Vector s.clusters) true s.items l) l) (given k a) e =
-    subst (λ (x : LaneState). IsDone d x.id (load s.map (asked s.map (Vector s.clusters) true s.items x) x) (given k a) e)
+    subst (λ (x : LaneState). IsDone d x.id (load s.map (asked s.map (Vector s.clusters) true s.items x) x)
+    (given k a) e)
     c.make_room.ensures.ideal c.in_ok-loaded.ensures.done in
     let stays = stays-from h r k c.make_room.ensures.memory c.make_room.ensures.maps c.load.ensures.bytes in
     let n = c.copy_bytes.new.holdings in
@@ -210,6 +219,6 @@ returns-clause-wire g c =
     (c.copy_bytes.ensures.ideal
     ∙ ap (λ (es : List Extent). with_marked (addresses es) n.memory.memory k) c.deref-5.ensures.value)
     (c.copy_bytes.ensures.wire
-    ∙ (λ i. copied (c.deref-4.ensures.value i) (c.deref-5.ensures.value i) (wire k.memory.memory)))
+    ∙ (λ i. extents_copied (c.deref-4.ensures.value i) (c.deref-5.ensures.value i) (wire k.memory.memory)))
     c.copy_bytes.ensures.maps
     (c.copy_bytes.ensures.memories ∙ c.load.ensures.memories ∙ c.make_room.ensures.memories)

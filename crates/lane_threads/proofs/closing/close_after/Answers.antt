@@ -1,7 +1,7 @@
 use Rattle.std.proofs.Common.{sym, subst}
 use Rattle.bounce_hub.specs.Seen.{HubSeen}
 use Rattle.lane_threads.specs.Closing.{ClosesAfter}
-use Rattle.lane_threads.proofs.Closings.{closed}
+use Rattle.lane_threads.proofs.ClosingLaws.{closed}
 use Rattle.lane_threads.proofs.closing.close_after.Goals as goal
 
 pub returns : goal.returns

@@ -1,7 +1,7 @@
 use Rattle.std.proofs.Common.{rules, ◌≡◌, ◌++◌, [], ◌∷◌, All, ap, ◌∙◌, sym, subst, append_assoc}
 use Rattle.std.proofs.lemmas.List.Elements.{All-tail}
 use Rattle.lane_threads.specs.Closing.{LanePass}
-use Rattle.lane_threads.proofs.Closings.{joins_none, joins-more}
+use Rattle.lane_threads.proofs.ClosingLaws.{joins_none, joins-more}
 use Rattle.lane_threads.proofs.closing.join_all.Goals as goal
 
 pub loop-pass-init : goal.loop-pass-init

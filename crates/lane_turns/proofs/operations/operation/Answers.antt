@@ -6,7 +6,7 @@ use Rattle.ideal_lane.specs.Turns.{operation}
 use Rattle.ideal_wire.specs.WireStep as wires
 use Rattle.lane_state.specs.Doing.{IsAllowedBy, IsDone, asks}
 use Rattle.lane_state.specs.Ideal.{given, ideal_of}
-use Rattle.lane_state.specs.Kept.{map_of, memory_of, ring_of, tag_of}
+use Rattle.lane_state.specs.Kept.{map_of, memory_of, kept_ring, tag_of}
 use Rattle.lane_state.specs.SmallLoads.{loaded_once}
 use Rattle.lane_state.specs.Wire.{wire_of}
 use Rattle.lane_state.proofs.Doors.{always-ok, ok-weak}
@@ -89,7 +89,8 @@ returns-in-Dmamem-clause-held g c =
 pub returns-in-Dmamem-clause-wire : goal.returns-in-Dmamem-clause-wire
 returns-in-Dmamem-clause-wire g c =
     ok-weak c.make_memory.result
-    (beside-wire c.args.holdings.now c.make_memory.new.holdings c.args.op.now _ c.in-Dmamem.is refl) c.make_memory.ensures.bytes
+    (beside-wire c.args.holdings.now c.make_memory.new.holdings c.args.op.now _ c.in-Dmamem.is refl)
+    c.make_memory.ensures.bytes
 
 pub end_memory-requires-clause-allowed : goal.end_memory-requires-clause-allowed
 end_memory-requires-clause-allowed g c =
@@ -156,7 +157,8 @@ returns-in-Load-clause-held g c =
 
 pub returns-in-Load-clause-wire : goal.returns-in-Load-clause-wire
 returns-in-Load-clause-wire g c =
-    always-ok c.load_buffer.result (paged-wire c.args.holdings.now c.load_buffer.new.holdings c.args.op.now _ c.in-Load.is
+    always-ok c.load_buffer.result (paged-wire c.args.holdings.now c.load_buffer.new.holdings c.args.op.now _
+    c.in-Load.is
     c.load_buffer.ensures.memories refl
     c.load_buffer.ensures.bytes)
 
@@ -260,18 +262,21 @@ returns-in_ok-sync_range-in-SyncRange-clause-held g c =
 
 pub returns-in_ok-sync_range-in-SyncRange-clause-wire : goal.returns-in_ok-sync_range-in-SyncRange-clause-wire
 returns-in_ok-sync_range-in-SyncRange-clause-wire g c =
-    done-wire c.args.holdings.now c.sync_range.new.holdings c.args.op.now _ c.in-SyncRange.is c.sync_range.ensures.memories
+    done-wire c.args.holdings.now c.sync_range.new.holdings c.args.op.now _ c.in-SyncRange.is
+    c.sync_range.ensures.memories
     c.in_ok-sync_range-in-SyncRange.ensures.wire
 
 pub returns-in_ok-cpu_read-in-CpuRead-clause-done : goal.returns-in_ok-cpu_read-in-CpuRead-clause-done
 returns-in_ok-cpu_read-in-CpuRead-clause-done g c =
-    quiet-done c.args.holdings.now c.args.holdings.now c.args.op.now _ c.in-CpuRead.is c.in_ok-cpu_read-in-CpuRead.field-0
+    quiet-done c.args.holdings.now c.args.holdings.now c.args.op.now _ c.in-CpuRead.is
+    c.in_ok-cpu_read-in-CpuRead.field-0
     c.unheld-in-CpuRead.result
     c.unheld-in-CpuRead.ensures c.in_ok-cpu_read-in-CpuRead.ensures (g.D.HubDoor.seen c.args.door.now)
 
 pub returns-in_ok-cpu_read-in-CpuRead-clause-held : goal.returns-in_ok-cpu_read-in-CpuRead-clause-held
 returns-in_ok-cpu_read-in-CpuRead-clause-held g c =
-    quiet-held c.args.holdings.now c.args.holdings.now c.args.op.now _ c.in-CpuRead.is c.in_ok-cpu_read-in-CpuRead.field-0
+    quiet-held c.args.holdings.now c.args.holdings.now c.args.op.now _ c.in-CpuRead.is
+    c.in_ok-cpu_read-in-CpuRead.field-0
     c.unheld-in-CpuRead.result
     c.unheld-in-CpuRead.ensures c.in_ok-cpu_read-in-CpuRead.ensures
 
@@ -299,7 +304,8 @@ pub returns-in_ok-cpu_write-in-CpuWrite-clause-wire : goal.returns-in_ok-cpu_wri
 returns-in_ok-cpu_write-in-CpuWrite-clause-wire g c =
     done-wire c.args.holdings.now c.cpu_write.new.holdings c.args.op.now _ c.in-CpuWrite.is c.cpu_write.ensures.memories
     (c.in_ok-cpu_write-in-CpuWrite.ensures.wire
-    ∙ ap (λ vs. wires.cpu_write c.in-CpuWrite.place vs (ideal_of c.args.holdings.now) (wire_of c.args.holdings.now))
+    ∙ ap (λ vs. wires.wire_cpu_write c.in-CpuWrite.place vs (ideal_of c.args.holdings.now)
+    (wire_of c.args.holdings.now))
     (c.deref.ensures.value ∙ c.in_ok-bytes-in-CpuWrite.ensures))
 
 pub returns-in-Await-clause-done : goal.returns-in-Await-clause-done
@@ -330,38 +336,46 @@ make_map-requires-clause-vacant g c =
 
 pub returns-in-Tag-clause-due : goal.returns-in-Tag-clause-due
 returns-in-Tag-clause-due g c =
-    either-promise c.args.holdings.now c.make_tag.new.holdings c.requires.stands c.args.op.now (g.D.HubDoor.seen c.args.door.now)
+    either-promise c.args.holdings.now c.make_tag.new.holdings c.requires.stands c.args.op.now
+    (g.D.HubDoor.seen c.args.door.now)
     (g.D.HubDoor.seen c.make_tag.new.door) c.make_tag.result (returns-in-Tag-clause-done g c) c.make_tag.ensures.err
     (subst IsStillOp (sym c.in-Tag.is) tt) c.make_tag.ensures.agenda
 
 pub returns-in-Map-clause-due : goal.returns-in-Map-clause-due
 returns-in-Map-clause-due g c =
-    either-promise c.args.holdings.now c.make_map.new.holdings c.requires.stands c.args.op.now (g.D.HubDoor.seen c.args.door.now)
+    either-promise c.args.holdings.now c.make_map.new.holdings c.requires.stands c.args.op.now
+    (g.D.HubDoor.seen c.args.door.now)
     (g.D.HubDoor.seen c.make_map.new.door) c.make_map.result (returns-in-Map-clause-done g c) c.make_map.ensures.err
     (subst IsStillOp (sym c.in-Map.is) tt) c.make_map.ensures.agenda
 
 pub returns-in-Dmamem-clause-due : goal.returns-in-Dmamem-clause-due
 returns-in-Dmamem-clause-due g c =
-    either-promise c.args.holdings.now c.make_memory.new.holdings c.requires.stands c.args.op.now (g.D.HubDoor.seen c.args.door.now)
-    (g.D.HubDoor.seen c.make_memory.new.door) c.make_memory.result (returns-in-Dmamem-clause-done g c) c.make_memory.ensures.err
+    either-promise c.args.holdings.now c.make_memory.new.holdings c.requires.stands c.args.op.now
+    (g.D.HubDoor.seen c.args.door.now)
+    (g.D.HubDoor.seen c.make_memory.new.door) c.make_memory.result (returns-in-Dmamem-clause-done g c)
+    c.make_memory.ensures.err
     (subst IsStillOp (sym c.in-Dmamem.is) tt) c.make_memory.ensures.agenda
 
 pub returns-in-DmamemFree-clause-due : goal.returns-in-DmamemFree-clause-due
 returns-in-DmamemFree-clause-due g c =
-    either-promise c.args.holdings.now c.end_memory.new.holdings c.requires.stands c.args.op.now (g.D.HubDoor.seen c.args.door.now)
-    (g.D.HubDoor.seen c.end_memory.new.door) c.end_memory.result (returns-in-DmamemFree-clause-done g c) c.end_memory.ensures.err
+    either-promise c.args.holdings.now c.end_memory.new.holdings c.requires.stands c.args.op.now
+    (g.D.HubDoor.seen c.args.door.now)
+    (g.D.HubDoor.seen c.end_memory.new.door) c.end_memory.result (returns-in-DmamemFree-clause-done g c)
+    c.end_memory.ensures.err
     (subst IsStillOp (sym c.in-DmamemFree.is) tt) c.end_memory.ensures.agenda
 
 pub returns-in-MapDestroy-clause-due : goal.returns-in-MapDestroy-clause-due
 returns-in-MapDestroy-clause-due g c =
-    done-promise c.args.holdings.now c.destroy_map.new.holdings c.requires.stands c.args.op.now c.destroy_map.result.answer
+    done-promise c.args.holdings.now c.destroy_map.new.holdings c.requires.stands c.args.op.now
+    c.destroy_map.result.answer
     (g.D.HubDoor.seen c.args.door.now) (g.D.HubDoor.seen c.destroy_map.new.door)
     (returns-in-MapDestroy-clause-done g c) (subst IsStillOp (sym c.in-MapDestroy.is) tt)
     (ap (λ a. a.promised) c.destroy_map.ensures.agenda)
 
 pub returns-in-TagDestroy-clause-due : goal.returns-in-TagDestroy-clause-due
 returns-in-TagDestroy-clause-due g c =
-    done-promise c.args.holdings.now c.destroy_tag.new.holdings c.requires.stands c.args.op.now c.unheld-in-TagDestroy.result.answer
+    done-promise c.args.holdings.now c.destroy_tag.new.holdings c.requires.stands c.args.op.now
+    c.unheld-in-TagDestroy.result.answer
     (g.D.HubDoor.seen c.args.door.now) (g.D.HubDoor.seen c.args.door.now)
     (returns-in-TagDestroy-clause-done g c) (subst IsStillOp (sym c.in-TagDestroy.is) tt)
     (ap (λ a. a.promised) c.destroy_tag.ensures.agenda)
@@ -380,7 +394,8 @@ returns-in_err-sync-in-Sync-clause-due g c =
 
 pub returns-in_ok-sync_range-in-SyncRange-clause-due : goal.returns-in_ok-sync_range-in-SyncRange-clause-due
 returns-in_ok-sync_range-in-SyncRange-clause-due g c =
-    done-promise c.args.holdings.now c.sync_range.new.holdings c.requires.stands c.args.op.now c.unheld-in-SyncRange.result.answer
+    done-promise c.args.holdings.now c.sync_range.new.holdings c.requires.stands c.args.op.now
+    c.unheld-in-SyncRange.result.answer
     (g.D.HubDoor.seen c.args.door.now) (g.D.HubDoor.seen c.args.door.now)
     (returns-in_ok-sync_range-in-SyncRange-clause-done g c) (subst IsStillOp (sym c.in-SyncRange.is) tt)
     (ap (λ a. a.promised) c.sync_range.ensures.agenda)
@@ -392,7 +407,8 @@ returns-in_err-sync_range-in-SyncRange-clause-due g c =
 
 pub returns-in_ok-cpu_write-in-CpuWrite-clause-due : goal.returns-in_ok-cpu_write-in-CpuWrite-clause-due
 returns-in_ok-cpu_write-in-CpuWrite-clause-due g c =
-    done-promise c.args.holdings.now c.cpu_write.new.holdings c.requires.stands c.args.op.now c.unheld-in-CpuWrite.result.answer
+    done-promise c.args.holdings.now c.cpu_write.new.holdings c.requires.stands c.args.op.now
+    c.unheld-in-CpuWrite.result.answer
     (g.D.HubDoor.seen c.args.door.now) (g.D.HubDoor.seen c.args.door.now)
     (returns-in_ok-cpu_write-in-CpuWrite-clause-done g c) (subst IsStillOp (sym c.in-CpuWrite.is) tt)
     (ap (λ a. a.promised) c.cpu_write.ensures.agenda)
@@ -441,7 +457,7 @@ returns-in_err-make_iommu_tag-in-IommuTag-clause-due g c =
 pub make_ring-requires-clause-vacant : goal.make_ring-requires-clause-vacant
 make_ring-requires-clause-vacant g c =
     let h = c.args.holdings.now in
-    vacant ring_of h.rings.map h.agenda.place (c.requires.stands.no_ring h.agenda.place (omega arith))
+    vacant kept_ring h.rings.map h.agenda.place (c.requires.stands.no_ring h.agenda.place (omega arith))
 
 pub returns-in_ok-make_ring-in-Ring-clause-done : goal.returns-in_ok-make_ring-in-Ring-clause-done
 returns-in_ok-make_ring-in-Ring-clause-done g c =

@@ -10,14 +10,14 @@ use Rattle.busdma_base.specs.declared.journals.journal.Did.TheVariants as did
 use Rattle.busdma_base.specs.declared.journals.journal.Side.TheVariants as side
 use Rattle.busdma_machine.specs.declared.machine.address.Pa.{Pa}
 use Rattle.busdma_machine.specs.declared.name.MapId.{MapId}
-use Rattle.busdma_machine.specs.Bounce.Door.{Holds}
+use Rattle.busdma_machine.specs.Bounce.Door.{HoldsAtDoor}
 use Rattle.busdma_machine.specs.Machine.PageList.{page_address}
 use Rattle.lane_agreement.specs.View.{Return}
 use Rattle.lane_tables.specs.declared.queued.QueuedPage.{QueuedPage}
 use Rattle.ideal_lane.specs.State.{LaneState, named}
 use Rattle.ideal_lane.specs.Turns.{lane_step, script_turn, stepped, maps_completed as served_of}
 use Rattle.ideal_lane.specs.Unloads.{given_back}
-use Rattle.lane_state.specs.Covered.{is_returning, pages_due}
+use Rattle.lane_state.specs.Covered.{is_covered_returning, pages_due}
 use Rattle.lane_state.specs.Held.{devices_of, held}
 use Rattle.lane_state.specs.Ideal.{ideal_of}
 use Rattle.lane_state.specs.Kept.{map_of, return_of}
@@ -45,9 +45,9 @@ invariant_of-holdings-2 g c =
     (sym (ap (λ qs. list_any (λ (p : QueuedPage). not (p.map.lane.0 == h.id.0)) qs) c.in_ok-map.ensures.page)
     ∙ h.own_returns) in
     let back =
-    own-head (is_returning (get h.maps.map k))
-    (list_any (λ (p : QueuedPage). not (is_returning (get h.maps.map p.map.made_at))) rest)
-    (sym (ap (λ qs. list_any (λ (p : QueuedPage). not (is_returning (get h.maps.map p.map.made_at))) qs)
+    own-head (is_covered_returning (get h.maps.map k))
+    (list_any (λ (p : QueuedPage). not (is_covered_returning (get h.maps.map p.map.made_at))) rest)
+    (sym (ap (λ qs. list_any (λ (p : QueuedPage). not (is_covered_returning (get h.maps.map p.map.made_at))) qs)
     c.in_ok-map.ensures.page) ∙ h.returning) in
     let found = returning-there (get h.maps.map k) back.0 in
     let mine : r.map.lane.0 ≡ h.id.0 = exact_unsigned_eq r.map.lane.0 h.id.0 own.0 in
@@ -102,9 +102,9 @@ returns-clause-done g c =
     (sym (ap (λ qs. list_any (λ (p : QueuedPage). not (p.map.lane.0 == h.id.0)) qs) c.in_ok-map.ensures.page)
     ∙ h.own_returns) in
     let back =
-    own-head (is_returning (get h.maps.map k))
-    (list_any (λ (p : QueuedPage). not (is_returning (get h.maps.map p.map.made_at))) rest)
-    (sym (ap (λ qs. list_any (λ (p : QueuedPage). not (is_returning (get h.maps.map p.map.made_at))) qs)
+    own-head (is_covered_returning (get h.maps.map k))
+    (list_any (λ (p : QueuedPage). not (is_covered_returning (get h.maps.map p.map.made_at))) rest)
+    (sym (ap (λ qs. list_any (λ (p : QueuedPage). not (is_covered_returning (get h.maps.map p.map.made_at))) qs)
     c.in_ok-map.ensures.page) ∙ h.returning) in
     let found = returning-there (get h.maps.map k) back.0 in
     let mine : r.map.lane.0 ≡ h.id.0 = exact_unsigned_eq r.map.lane.0 h.id.0 own.0 in
@@ -156,7 +156,7 @@ returns-clause-done g c =
     (ap (λ qs. script_turn (map return_of qs) l) c.in_ok-map.ensures.page)
     (record {
       reply = reply.Served served;
-      holds = subst (λ (m : MapId). Holds d m.lane.0 (Release m r.zone page) (reply.Served served) e) map_is
+      holds = subst (λ (m : MapId). HoldsAtDoor d m.lane.0 (Release m r.zone page) (reply.Served served) e) map_is
           c.release-served.ensures.held;
       is = λ i. stepped side.Script (did.Release (map_is i) (c.address-at.ensures i))
           (record { lane = lanes i; answer = answer.Served served });
@@ -173,9 +173,9 @@ returns-clause-bytes g c =
     (sym (ap (λ qs. list_any (λ (p : QueuedPage). not (p.map.lane.0 == h.id.0)) qs) c.in_ok-map.ensures.page)
     ∙ h.own_returns) in
     let back =
-    own-head (is_returning (get h.maps.map k))
-    (list_any (λ (p : QueuedPage). not (is_returning (get h.maps.map p.map.made_at))) rest)
-    (sym (ap (λ qs. list_any (λ (p : QueuedPage). not (is_returning (get h.maps.map p.map.made_at))) qs)
+    own-head (is_covered_returning (get h.maps.map k))
+    (list_any (λ (p : QueuedPage). not (is_covered_returning (get h.maps.map p.map.made_at))) rest)
+    (sym (ap (λ qs. list_any (λ (p : QueuedPage). not (is_covered_returning (get h.maps.map p.map.made_at))) qs)
     c.in_ok-map.ensures.page) ∙ h.returning) in
     let found = returning-there (get h.maps.map k) back.0 in
     let mine : r.map.lane.0 ≡ h.id.0 = exact_unsigned_eq r.map.lane.0 h.id.0 own.0 in
@@ -228,9 +228,9 @@ returns-clause-due g c =
     (sym (ap (λ qs. list_any (λ (p : QueuedPage). not (p.map.lane.0 == h.id.0)) qs) c.in_ok-map.ensures.page)
     ∙ h.own_returns) in
     let back =
-    own-head (is_returning (get h.maps.map k))
-    (list_any (λ (p : QueuedPage). not (is_returning (get h.maps.map p.map.made_at))) rest)
-    (sym (ap (λ qs. list_any (λ (p : QueuedPage). not (is_returning (get h.maps.map p.map.made_at))) qs)
+    own-head (is_covered_returning (get h.maps.map k))
+    (list_any (λ (p : QueuedPage). not (is_covered_returning (get h.maps.map p.map.made_at))) rest)
+    (sym (ap (λ qs. list_any (λ (p : QueuedPage). not (is_covered_returning (get h.maps.map p.map.made_at))) qs)
     c.in_ok-map.ensures.page) ∙ h.returning) in
     let found = returning-there (get h.maps.map k) back.0 in
     let mine : r.map.lane.0 ≡ h.id.0 = exact_unsigned_eq r.map.lane.0 h.id.0 own.0 in

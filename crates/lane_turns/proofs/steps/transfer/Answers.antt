@@ -9,10 +9,10 @@ pub returns-in-DevReadAt-clause-wire : goal.returns-in-DevReadAt-clause-wire
 returns-in-DevReadAt-clause-wire c =
     let h = c.args.holdings.now in
     always-ok c.dev_read_at.result (c.dev_read_at.ensures.wire
-    ∙ sym (ap (λ i. wires.transfer i (ideal_of h) (wire_of h)) c.in-DevReadAt.is))
+    ∙ sym (ap (λ i. wires.wire_transfer i (ideal_of h) (wire_of h)) c.in-DevReadAt.is))
 
 pub returns-in-DevRead-clause-wire : goal.returns-in-DevRead-clause-wire
 returns-in-DevRead-clause-wire c =
     let h = c.args.holdings.now in
     always-ok c.dev_read.result (c.dev_read.ensures.wire
-    ∙ sym (ap (λ i. wires.transfer i (ideal_of h) (wire_of h)) c.in-DevRead.is))
+    ∙ sym (ap (λ i. wires.wire_transfer i (ideal_of h) (wire_of h)) c.in-DevRead.is))

@@ -5,7 +5,7 @@ use Rattle.lane_state.specs.declared.holdings.Holdings.{Holdings}
 use Rattle.lane_state.specs.Changes.{KeepsState}
 use Rattle.lane_state.specs.Doing.{IsUndone}
 use Rattle.lane_state.specs.SmallLoads.{HasSmallLoads}
-use Rattle.lane_turns.specs.Turning.{IsReady}
+use Rattle.lane_turns.specs.TakenTurns.{IsReady}
 use Rattle.lane_state.proofs.Doors.{err-map, on-err}
 use Rattle.lane_turns.proofs.Providing.{made-from}
 use Rattle.lane_turns.proofs.SmallLoads.{small-same}

@@ -3,7 +3,7 @@ use Rattle.busdma_base.specs.declared.journals.journal.Side.{Side}
 use Rattle.busdma_base.specs.declared.journals.journal.Side.TheVariants as side
 use Rattle.lane_state.specs.Ideal.{ideal_of}
 use Rattle.lane_state.specs.Kept.{return_of}
-use Rattle.lane_turns.specs.Turning.{IsTurnOf, MayWant}
+use Rattle.lane_turns.specs.TakenTurns.{IsTurnOf, MayWant}
 use Rattle.lane_state.proofs.Doors.{err-map, on-err}
 use Rattle.lane_turns.proofs.MadeTurns.{made-ready}
 use Rattle.lane_turns.proofs.Providing.{length-after, made-script, ready-after, same-room, transfer-all}
@@ -86,7 +86,8 @@ pub returns-in-Script-clause-wanting : goal.returns-in-Script-clause-wanting
 returns-in-Script-clause-wanting g c =
     let l = ideal_of c.args.holdings.now in
     err-map c.script_turn.result
-    (λ (none : c.args.holdings.now.agenda.returns ≡ []). subst (MayWant l) (sym c.in-Script.is) (ap (map return_of) none))
+    (λ (none : c.args.holdings.now.agenda.returns ≡ []). subst (MayWant l) (sym c.in-Script.is)
+    (ap (map return_of) none))
     c.script_turn.ensures.wanting
 
 pub returns-in-Transfer-clause-wanting : goal.returns-in-Transfer-clause-wanting

@@ -8,7 +8,8 @@ use Rattle.lane_turns.proofs.turns.transfer_turn.Goals as goal
 
 pub transfer-requires-clause-wired : goal.transfer-requires-clause-wired
 transfer-requires-clause-wired c =
-    queue-wired c.args.holdings.now c.pop_item.new.holdings c.pop_item.ensures.rest c.pop_item.ensures.agenda c.requires.wired
+    queue-wired c.args.holdings.now c.pop_item.new.holdings c.pop_item.ensures.rest c.pop_item.ensures.agenda
+    c.requires.wired
 
 pub transfer-requires-clause-stands : goal.transfer-requires-clause-stands
 transfer-requires-clause-stands c =
@@ -18,19 +19,22 @@ transfer-requires-clause-stands c =
 pub returns-in-Ok-clause-done : goal.returns-in-Ok-clause-done
 returns-in-Ok-clause-done c =
     let p = c.pop_item.ensures in
-    item-done c.args.holdings.now c.pop_item.new.holdings c.transfer.new.holdings c.in-Some.queued c.in-Some.ensures.item p.rest
+    item-done c.args.holdings.now c.pop_item.new.holdings c.transfer.new.holdings c.in-Some.queued
+    c.in-Some.ensures.item p.rest
     p.agenda c.transfer.ensures.agenda c.in-Ok.answer c.stepped.result c.in-Ok.ensures.done c.stepped.ensures
 
 pub returns-in-Ok-clause-wire : goal.returns-in-Ok-clause-wire
 returns-in-Ok-clause-wire c =
     let p = c.pop_item.ensures in
-    item-wire c.args.holdings.now c.pop_item.new.holdings c.transfer.new.holdings c.in-Some.queued c.in-Some.ensures.item p.rest
+    item-wire c.args.holdings.now c.pop_item.new.holdings c.transfer.new.holdings c.in-Some.queued
+    c.in-Some.ensures.item p.rest
     p.agenda c.transfer.ensures.agenda c.in-Ok.ensures.wire
 
 pub returns-in-Ok-clause-agenda : goal.returns-in-Ok-clause-agenda
 returns-in-Ok-clause-agenda c =
     let p = c.pop_item.ensures in
-    item-agenda c.args.holdings.now c.pop_item.new.holdings c.transfer.new.holdings c.in-Some.queued c.in-Some.ensures.item p.rest
+    item-agenda c.args.holdings.now c.pop_item.new.holdings c.transfer.new.holdings c.in-Some.queued
+    c.in-Some.ensures.item p.rest
     p.agenda c.transfer.ensures.agenda c.in-Some.ensures.room
 
 pub put_item_back-requires : goal.put_item_back-requires
@@ -39,13 +43,16 @@ put_item_back-requires c = omega (arith, c.in-Some.ensures.room, ap (λ a. a.roo
 pub returns-in-Err-clause-agenda : goal.returns-in-Err-clause-agenda
 returns-in-Err-clause-agenda c =
     let p = c.pop_item.ensures in
-    back-agenda c.args.holdings.now c.pop_item.new.holdings c.transfer.new.holdings c.in-Some.queued c.in-Some.ensures.item p.rest
-    p.agenda c.transfer.ensures.agenda c.put_item_back.new.holdings c.in-Some.ensures.room c.put_item_back.ensures.agenda
+    back-agenda c.args.holdings.now c.pop_item.new.holdings c.transfer.new.holdings c.in-Some.queued
+    c.in-Some.ensures.item p.rest
+    p.agenda c.transfer.ensures.agenda c.put_item_back.new.holdings c.in-Some.ensures.room
+    c.put_item_back.ensures.agenda
 
 pub returns-in-Err-clause-err : goal.returns-in-Err-clause-err
 returns-in-Err-clause-err c =
     let p = c.pop_item.ensures in
-    item-back c.args.holdings.now c.pop_item.new.holdings c.transfer.new.holdings c.in-Some.queued c.in-Some.ensures.item p.rest
+    item-back c.args.holdings.now c.pop_item.new.holdings c.transfer.new.holdings c.in-Some.queued
+    c.in-Some.ensures.item p.rest
     p.agenda c.transfer.ensures.agenda c.put_item_back.new.holdings c.in-Err.ensures.err c.put_item_back.ensures.rest
     c.put_item_back.ensures.agenda
 

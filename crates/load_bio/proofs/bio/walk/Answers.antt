@@ -7,9 +7,9 @@ use Rattle.busdma_machine.specs.Machine.Entry.{IsEntry, entries_addresses}
 use Rattle.busdma_machine.specs.Machine.Spans.{bio_spans, one_span, span_addresses}
 use Rattle.busdma_machine.specs.Runs.{run_of}
 use Rattle.phys_memory.specs.declared.entries.Entries.{Entries}
-use Rattle.phys_memory.specs.Memory.{physical}
+use Rattle.phys_memory.specs.Memory.{memory_physical}
 use Rattle.busdma_rules.specs.Memory.Translation.{physical_or_0}
-use Rattle.phys_memory.specs.Vector.{IfAll, spans_walk}
+use Rattle.phys_memory.specs.VectorStreams.{IfAll, spans_walk}
 use Rattle.load_bio.specs.Bio.{IsBio, LiesInBio, bio_walk}
 use Rattle.busdma_rules.specs.Memory.Bios.{bio_translation}
 use Rattle.load_bio.specs.Frames.{LiesInOneOf}
@@ -19,13 +19,13 @@ use Rattle.load_bio.proofs.bio.walk.Goals as goal
 
 pub returns-in-Mapped-clause-walk : goal.returns-in-Mapped-clause-walk
 returns-in-Mapped-clause-walk c =
-    let t = physical c.args.memory.now.memory in
+    let t = memory_physical c.args.memory.now.memory in
     subst (λ (bio : Bio). IfOk c.walk_flat.result (λ (w : Entries). w ≡ bio_walk t bio))
     (sym c.in-Mapped.is) c.walk_flat.ensures.walk
 
 pub returns-in-Mapped-clause-addresses : goal.returns-in-Mapped-clause-addresses
 returns-in-Mapped-clause-addresses c =
-    let t = physical c.args.memory.now.memory in
+    let t = memory_physical c.args.memory.now.memory in
     let s = c.in-Mapped.span in
     let one = ap (map (physical_or_0 t)) (sym (append-nil (run_of s.va.0 s.len))) in
     subst (λ (bio : Bio). IfOk c.walk_flat.result
@@ -36,13 +36,13 @@ returns-in-Mapped-clause-addresses c =
 
 pub returns-in-Vector-clause-walk : goal.returns-in-Vector-clause-walk
 returns-in-Vector-clause-walk c =
-    let t = physical c.args.memory.now.memory in
+    let t = memory_physical c.args.memory.now.memory in
     subst (λ (bio : Bio). IfOk c.walk_vector.result (λ (w : Entries). w ≡ bio_walk t bio)) (sym c.in-Vector.is)
     (rw c.as_slice.ensures at c.walk_vector.ensures.walk)
 
 pub returns-in-Vector-clause-addresses : goal.returns-in-Vector-clause-addresses
 returns-in-Vector-clause-addresses c =
-    let t = physical c.args.memory.now.memory in
+    let t = memory_physical c.args.memory.now.memory in
     subst (λ (bio : Bio). IfOk c.walk_vector.result
     (λ (w : Entries). IfAll w (λ es. entries_addresses es
     ≡ map (physical_or_0 (bio_translation t bio)) (span_addresses (bio_spans bio))))) (sym c.in-Vector.is)
@@ -50,7 +50,7 @@ returns-in-Vector-clause-addresses c =
 
 pub returns-in-Unmapped-clause-addresses : goal.returns-in-Unmapped-clause-addresses
 returns-in-Unmapped-clause-addresses c =
-    let t = physical c.args.memory.now.memory in
+    let t = memory_physical c.args.memory.now.memory in
     let fs = c.in-Unmapped.frames in
     let off = c.in-Unmapped.off in
     let len = c.in-Unmapped.len in

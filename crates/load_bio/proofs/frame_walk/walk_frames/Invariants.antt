@@ -1,6 +1,6 @@
 use Rattle.std.proofs.Common.{◌≡◌, false, []}
 use Rattle.busdma_machine.specs.Machine.Spans.{one_span}
-use Rattle.phys_memory.specs.Vector.{spans_stream}
+use Rattle.phys_memory.specs.VectorStreams.{spans_stream}
 use Rattle.phys_memory.specs.Walk.{walked}
 use Rattle.busdma_rules.specs.Memory.BioFrames.{in_frames}
 use Rattle.load_bio.proofs.frame_walk.walk_frames.Given as goal

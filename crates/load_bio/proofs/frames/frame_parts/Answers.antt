@@ -1,6 +1,6 @@
 use Rattle.std.proofs.Common.{false, sym, subst}
 use Rattle.busdma_machine.specs.Machine.Entry.{IsStream}
-use Rattle.phys_memory.proofs.Vectors.{spans_one}
+use Rattle.phys_memory.proofs.VectorLaws.{spans_one}
 use Rattle.busdma_rules.specs.Memory.BioFrames.{in_frames}
 use Rattle.load_bio.proofs.FrameWalks.{frames_load}
 use Rattle.load_bio.proofs.frames.frame_parts.Goals as goal

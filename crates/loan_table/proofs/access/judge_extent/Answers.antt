@@ -10,6 +10,7 @@ pub returns-then-has-clause-is : goal.returns-then-has-clause-is
 returns-then-has-clause-is c loans counted =
     let known = is_marked c.args.bytes.now.bytes in
     let extent = c.args.extent.now in
-    sym (ap (λ access. judged (cpu_refusal access known loans) c.args.place (run_of extent.pa.0 extent.len)) c.in-Write.is
+    sym (ap (λ access. judged (cpu_refusal access known loans) c.args.place (run_of extent.pa.0 extent.len))
+    c.in-Write.is
     ∙ writes_pass c.args.lent.now loans counted known c.args.place extent.pa.0 extent.len
     (c.if-has.ensures.run refl))

@@ -16,7 +16,8 @@ loop-extent-preserved c k d lt =
       | true ↦ λ e.
           let from : i ≤ k = leb-true i k e in
           let is : i ≡ k = omega (arith, lt, from) in
-          subst (LiesFromTo first end) (get_or_default xs i no_extent d c.loop-extent-test.true ∙ ap (λ j. get_or xs j d) is)
+          subst (LiesFromTo first end) (get_or_default xs i no_extent d c.loop-extent-test.true
+          ∙ ap (λ j. get_or xs j d) is)
           c.widened.ensures.within
       | false ↦ λ e.
           let before : k < i = leb-false i k e in

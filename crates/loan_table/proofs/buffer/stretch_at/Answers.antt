@@ -44,5 +44,6 @@ returns-clause-bytes c =
     let skipped = c.args.at - get_or c.args.starts.now (k - 1) 0 in
     let first : run.pa.0 + skipped ≡ c.part_of.result.pa.0 = omega (arith, c.part_of.ensures.pa) in
     found_bytes _ _ c.args.at _ c.args.end c.requires.starts c.requires.some c.requires.range
-    c.count_near-count.ensures.small c.count_near-count.ensures.below c.count_near-count.ensures.above c.part_of.result.len
+    c.count_near-count.ensures.small c.count_near-count.ensures.below c.count_near-count.ensures.above
+    c.part_of.result.len
     c.part_of.ensures.within ∙ ap (λ a. run_of a c.part_of.result.len) first

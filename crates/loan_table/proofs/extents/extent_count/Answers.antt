@@ -41,5 +41,6 @@ loop-at-preserved c =
 
 pub returns : goal.returns
 returns c =
-    let none = ap (more_extents c.loop-at.last) (nothing c.loop-at.at c.min-end.result c.args.buffer.now (omega arith)) in
+    let none = ap (more_extents c.loop-at.last)
+    (nothing c.loop-at.at c.min-end.result c.args.buffer.now (omega arith)) in
     omega (arith, none, c.loop-at.invariant.counted)

@@ -2,7 +2,7 @@ use Rattle.std.proofs.Common.{ℕ, ◌+◌, drop, get_or, ◌∙◌, ap, cond, a
 use Rattle.std.proofs.lemmas.List.{at_drop_more}
 use Rattle.busdma_machine.specs.Runs.{addresses}
 use Rattle.run_set.specs.Counts.{changed, count}
-use Rattle.run_set.specs.Edges.{in_run}
+use Rattle.run_set.specs.Edges.{is_inside_run}
 use Rattle.loan_table.specs.Rows.{stands}
 use Rattle.loan_table.proofs.Addresses.{no_extent}
 use Rattle.loan_table.proofs.Places.{counted_on, held_on, stands_ahead, stands_here}
@@ -23,7 +23,7 @@ loop-extent-preserved c =
     let more = at_drop_more addresses xs i no_extent c.loop-extent-test.true in
     record {
       counted = λ a.
-          let here = in_run run.pa.0 (run.pa.0 + run.len) a in
+          let here = is_inside_run run.pa.0 (run.pa.0 + run.len) a in
           let ahead = stands_ahead a run.pa.0 run.len _ _ more in
           counted_on c.args.up here (count c.loop-extent.counts a) (count c.count_extent.new.counts a)
           (stands a (addresses xs)) (stands a (addresses (drop i xs))) (stands a (addresses (drop (i + 1) xs)))
@@ -31,7 +31,7 @@ loop-extent-preserved c =
           (λ down is. omega (arith, ahead, ap {B = ℕ} (λ b. cond b 1 0) is, c.loop-extent.invariant.held down a)) ahead
           (c.loop-extent.invariant.counted a);
       held = λ down a.
-          let here = in_run run.pa.0 (run.pa.0 + run.len) a in
+          let here = is_inside_run run.pa.0 (run.pa.0 + run.len) a in
           let ahead = stands_ahead a run.pa.0 run.len _ _ more in
           held_on here (count c.loop-extent.counts a) (count c.count_extent.new.counts a)
           (stands a (addresses (drop i xs))) (stands a (addresses (drop (i + 1) xs)))

@@ -1,7 +1,7 @@
 use Rattle.std.proofs.Common.{ℕ, ◌+◌, ◌-◌, ◌∙◌, ap, cond, arith}
 use Rattle.busdma_machine.specs.Machine.Wire.{stretch}
 use Rattle.run_set.specs.Counts.{changed, count}
-use Rattle.run_set.specs.Edges.{in_run}
+use Rattle.run_set.specs.Edges.{is_inside_run}
 use Rattle.busdma_rules.specs.Lending.Loans.{addresses_of}
 use Rattle.loan_table.specs.Rows.{stands}
 use Rattle.loan_table.proofs.Places.{counted_on, held_on, stands_ahead, stands_here}
@@ -21,7 +21,7 @@ loop-at-preserved c =
     let end = c.end_of-end.result in
     record {
       counted = λ a.
-          let here = in_run run.pa.0 (run.pa.0 + run.len) a in
+          let here = is_inside_run run.pa.0 (run.pa.0 + run.len) a in
           let ahead = stands_ahead a run.pa.0 run.len _ _ c.stretch-run.ensures.is in
           counted_on c.args.up here (count c.loop-at.counts a) (count c.change.new.self a)
           (stands a (addresses_of (stretch c.args.off c.args.len ps)))
@@ -31,7 +31,7 @@ loop-at-preserved c =
           (λ down is. omega (arith, ahead, ap {B = ℕ} (λ b. cond b 1 0) is, c.loop-at.invariant.held down a)) ahead
           (c.loop-at.invariant.counted a);
       held = λ down a.
-          let here = in_run run.pa.0 (run.pa.0 + run.len) a in
+          let here = is_inside_run run.pa.0 (run.pa.0 + run.len) a in
           let ahead = stands_ahead a run.pa.0 run.len _ _ c.stretch-run.ensures.is in
           held_on here (count c.loop-at.counts a) (count c.change.new.self a)
           (stands a (addresses_of (stretch at (end - at) ps)))

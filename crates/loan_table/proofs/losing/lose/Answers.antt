@@ -5,7 +5,8 @@ use Rattle.loan_table.specs.Kinds.{losing_test}
 use Rattle.busdma_rules.specs.Lending.Loans.{addresses_of}
 use Rattle.loan_table.specs.Table.{set_all}
 use Rattle.loan_table.proofs.Addresses.{AreIn-set_all}
-use Rattle.loan_table.proofs.Pieces.{filter_ahead, marked_front, nothing, span_bytes, there_back, there_front, two_parts}
+use Rattle.loan_table.proofs.Pieces.{filter_ahead, marked_front, nothing, span_bytes, there_back, there_front}
+use Rattle.loan_table.proofs.Pieces.{two_parts}
 use Rattle.loan_table.proofs.Pieces.{whole}
 use Rattle.loan_table.proofs.losing.lose.Goals as goal
 

@@ -1,7 +1,7 @@
 use Rattle.std.proofs.Common.{false, ap, sym, ◌∙◌}
 use Rattle.busdma_rules.specs.Lending.Loans.{addresses_of}
 use Rattle.loan_table.specs.Table.{set_all}
-use Rattle.loan_table.proofs.Marking.{none_lost}
+use Rattle.loan_table.proofs.MarkLaws.{none_lost}
 use Rattle.loan_table.proofs.losing.lose_by_call.Goals as goal
 
 pub returns-else-contains-clause-bytes : goal.returns-else-contains-clause-bytes

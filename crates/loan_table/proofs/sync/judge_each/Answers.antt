@@ -1,6 +1,6 @@
 use Rattle.std.proofs.Common.{refl, ap, sym, ◌∙◌, arith}
 use Rattle.busdma_machine.specs.Judging.{judged}
-use Rattle.busdma_rules.specs.Lending.Syncing.{sync_refusal}
+use Rattle.busdma_rules.specs.Lending.SyncEffects.{sync_refusal}
 use Rattle.loan_table.proofs.Hulls.{fine_range}
 use Rattle.loan_table.proofs.Pieces.{nothing, whole}
 use Rattle.loan_table.proofs.sync.judge_each.Goals as goal

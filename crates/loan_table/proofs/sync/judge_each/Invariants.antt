@@ -2,7 +2,7 @@ use Rattle.std.proofs.Common.{◌≡◌, ◌-◌, ◌≤◌}
 use Rattle.busdma_machine.specs.Judging.{judged}
 use Rattle.busdma_machine.specs.Machine.Wire.{stretch}
 use Rattle.loan_table.specs.Counted.{AreUnlent, Lender, IsOf}
-use Rattle.busdma_rules.specs.Lending.Syncing.{sync_refusal}
+use Rattle.busdma_rules.specs.Lending.SyncEffects.{sync_refusal}
 use Rattle.loan_table.proofs.sync.judge_each.Given as goal
 
 abbrev pub invariant-loop-at : goal.invariant-loop-at

@@ -1,7 +1,7 @@
 use Rattle.std.proofs.Common.{true, false, sym, ◌∙◌}
 use Rattle.busdma_machine.specs.declared.report.ReportName.TheVariants.{SyncOrder}
 use Rattle.loan_table.specs.Kinds.{unlent_refusal}
-use Rattle.busdma_rules.specs.Lending.Syncing.{sync_refusal}
+use Rattle.busdma_rules.specs.Lending.SyncEffects.{sync_refusal}
 use Rattle.loan_table.proofs.Judgement.{judged-none, judged-same}
 use Rattle.loan_table.proofs.SameRefusals.{met_by_ends}
 use Rattle.loan_table.proofs.sync.judge_ends.Goals as goal

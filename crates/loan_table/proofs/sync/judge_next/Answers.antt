@@ -2,9 +2,9 @@ use Rattle.std.proofs.Common.{◌≡◌, leb, ◌+◌, ◌-◌, ◌<◌, ◌≤�
 use Rattle.std.proofs.lemmas.Bool.{leb-true, leb-false}
 use Rattle.busdma_machine.specs.Judging.{judged}
 use Rattle.busdma_machine.specs.Machine.Wire.{stretch}
-use Rattle.loan_table.specs.Counted.{IsPlaced}
-use Rattle.busdma_rules.specs.Lending.Syncing.{sync_refusal}
-use Rattle.loan_table.proofs.Marking.{no_position}
+use Rattle.loan_table.specs.Counted.{IsCountPlaced}
+use Rattle.busdma_rules.specs.Lending.SyncEffects.{sync_refusal}
+use Rattle.loan_table.proofs.MarkLaws.{no_position}
 use Rattle.loan_table.proofs.Pieces.{first_refused, in_piece, lent_as, none_refused, shorter}
 use Rattle.loan_table.proofs.Recounting.{all_placed}
 use Rattle.loan_table.proofs.SameRefusals.{same_refusal}
@@ -22,7 +22,7 @@ sync_refusal-requires c =
     let row = c.args.row.now in
     let first = c.piece-piece.result.first in
     record {
-      placed = in_piece (IsPlaced row) no_position c.args.at c.args.end c.piece-piece.result.len
+      placed = in_piece (IsCountPlaced row) no_position c.args.at c.args.end c.piece-piece.result.len
           first row.positions c.piece-piece.ensures.is c.piece-piece.ensures.within
           c.requires.range (all_placed row) first.pa (omega arith) (omega (arith, c.piece-piece.ensures.some));
     }
@@ -44,8 +44,8 @@ returns-in-None-clause-passed c lender of =
     let m = c.same_len.result in
     let end = c.args.end in
     let rest = stretch (c.args.at + m) (end - (c.args.at + m)) row.positions in
-    let here : (a : ℕ) → first.pa ≤ a → a < first.pa + piece.len → IsPlaced row (lent_as first a) =
-    in_piece (IsPlaced row) no_position c.args.at end piece.len first row.positions c.piece-piece.ensures.is
+    let here : (a : ℕ) → first.pa ≤ a → a < first.pa + piece.len → IsCountPlaced row (lent_as first a) =
+    in_piece (IsCountPlaced row) no_position c.args.at end piece.len first row.positions c.piece-piece.ensures.is
     c.piece-piece.ensures.within c.requires.range (all_placed row) in
     let refusal = sync_refusal lender.loans lender.map c.args.ops.0 in
     let passed : refusal (lent_as first first.pa) ≡ None = sym (c.sync_refusal.ensures lender of) ∙ c.in-None.is in

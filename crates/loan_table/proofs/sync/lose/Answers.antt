@@ -1,4 +1,4 @@
-use Rattle.loan_table.proofs.Marking.{AreIn-range}
+use Rattle.loan_table.proofs.MarkLaws.{AreIn-range}
 use Rattle.loan_table.proofs.sync.lose.Goals as goal
 
 pub lose_by_call-requires-clause-range : goal.lose_by_call-requires-clause-range

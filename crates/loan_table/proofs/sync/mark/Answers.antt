@@ -27,7 +27,8 @@ returns-then-not-is_coherent-clause-marks c =
     ∙ ap (λ b. with_value (loans_in true es) c.args.map (loan_if true (record { is_open = b; row = c.mark.new.self })))
     is_open
     ∙ synced_open _ _ c.args.off c.args.len c.args.ops.0 _ _ (loan_found es c.args.map _ at is_open)
-    (sym (rw c.as_row.ensures at c.is_coherent.ensures) ∙ c.if-not-is_coherent.true) c.mark.ensures.coherent c.mark.ensures.positions
+    (sym (rw c.as_row.ensures at c.is_coherent.ensures) ∙ c.if-not-is_coherent.true) c.mark.ensures.coherent
+    c.mark.ensures.positions
 
 pub returns-then-not-is_coherent-clause-prepared : goal.returns-then-not-is_coherent-clause-prepared
 returns-then-not-is_coherent-clause-prepared c =

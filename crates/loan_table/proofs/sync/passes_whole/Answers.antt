@@ -1,4 +1,4 @@
-use Rattle.busdma_rules.specs.Lending.Syncing.{sync_refusal}
+use Rattle.busdma_rules.specs.Lending.SyncEffects.{sync_refusal}
 use Rattle.loan_table.proofs.Hulls.{met_nowhere}
 use Rattle.loan_table.proofs.sync.passes_whole.Goals as goal
 

@@ -2,7 +2,7 @@ use Rattle.std.proofs.Common.{◌≡◌, ◌+◌, ◌-◌, ◌%◌, min, length,
 use Rattle.busdma_machine.specs.Machine.Wire.{page_byte}
 use Rattle.busdma_machine.specs.Runs.{run_of}
 use Rattle.phys_memory.specs.Frames.{SamePages}
-use Rattle.phys_memory.specs.Memory.{Memory, wire}
+use Rattle.phys_memory.specs.Memory.{FrameMemory as Memory, wire}
 use Rattle.phys_memory.proofs.PageBytes.{slice_page}
 use Rattle.phys_memory.proofs.SameFrames.{same_rewritten}
 use Rattle.map_sync.proofs.Extents.{copied_extent, nothing_copied}

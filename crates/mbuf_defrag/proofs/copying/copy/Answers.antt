@@ -5,13 +5,13 @@ use Rattle.std.specs.List.{AllByRecursion}
 use Rattle.busdma_machine.specs.declared.machine.address.Extent.{Extent}
 use Rattle.busdma_machine.specs.Machine.Wire.{Wire, put}
 use Rattle.busdma_machine.specs.Runs.{IsExtent, addresses, run_of}
-use Rattle.phys_memory.specs.Extents.{LiesIn}
+use Rattle.phys_memory.specs.Extents.{LiesInFrames}
 use Rattle.phys_memory.specs.Memory.{wire}
 use Rattle.phys_memory.proofs.Extents.{length-run_of}
 use Rattle.phys_memory.proofs.RunParts.{all_drop, all_imply}
 use Rattle.phys_memory.proofs.SameFrames.{same_refl, same_trans}
 use Rattle.mbuf_defrag.specs.Copying.{IsAway}
-use Rattle.mbuf_defrag.specs.Walking.{IsThere, rest_of}
+use Rattle.mbuf_defrag.specs.CopySteps.{IsThere, rest_of}
 use Rattle.mbuf_defrag.proofs.Copies.{all_back, all_front, all_there, bytes_length, put_on, take_and_drop, take_size}
 use Rattle.mbuf_defrag.proofs.Walk.{no_extent}
 use Rattle.mbuf_defrag.proofs.copying.copy.Goals as goal
@@ -33,7 +33,8 @@ loop-target-init c =
 
 -- the bytes of the next extent and of the extents after it
 next_bytes : (es : List Extent) (i : ℕ) → i < length es →
-    addresses (drop i es) ≡ run_of (get_or es i no_extent).pa.0 (get_or es i no_extent).len ++ addresses (drop (i + 1) es)
+    addresses (drop i es) ≡ run_of (get_or es i no_extent).pa.0 (get_or es i no_extent).len
+    ++ addresses (drop (i + 1) es)
 next_bytes es i h = ap addresses (drop_more es i no_extent h)
 
 pub copy_into-requires-clause-enough : goal.copy_into-requires-clause-enough
@@ -92,7 +93,7 @@ loop-target-preserved c =
       alike = ap length rest ∙ (omega (arith, total, length-drop t.len source));
       lies = record {
         extents = (subst (AllByRecursion IsExtent) lies before.lies.extents).1;
-        frames = (subst (AllByRecursion (LiesIn c.args.memory.now.memory)) lies before.lies.frames).1;
+        frames = (subst (AllByRecursion (LiesInFrames c.args.memory.now.memory)) lies before.lies.frames).1;
       };
       same = same_trans _ _ _ before.same c.copy_into.ensures.same;
       spare = c.copy_into.ensures.spare ∙ before.spare;

@@ -1,17 +1,18 @@
-use Rattle.std.proofs.Common.{◌≡◌, ℕ, ◌+◌, ◌-◌, ◌/◌, ◌≤◌, ◌++◌, List, length, map, take, drop, ap, sym, subst, ◌∙◌, arith}
+use Rattle.std.proofs.Common.{◌≡◌, ℕ, ◌+◌, ◌-◌, ◌/◌, ◌≤◌, ◌++◌, List, length, map, take, drop, ap, sym, subst, ◌∙◌}
+use Rattle.std.proofs.Common.{arith}
 use Rattle.std.proofs.Common.{length-append, true}
 use Rattle.std.proofs.lemmas.List.{drop-drop, length-map}
 use Rattle.std.specs.List.{AllByRecursion}
 use Rattle.busdma_machine.specs.Machine.Wire.{Wire, put}
 use Rattle.busdma_machine.specs.Runs.{run_of}
 use Rattle.phys_memory.specs.Frames.{SamePages}
-use Rattle.phys_memory.specs.Memory.{Memory, wire, has_frame}
+use Rattle.phys_memory.specs.Memory.{FrameMemory as Memory, wire, memory_has_frame}
 use Rattle.phys_memory.proofs.Extents.{length-run_of}
 use Rattle.phys_memory.proofs.RunParts.{all_take, run_append}
 use Rattle.phys_memory.proofs.SameFrames.{same_trans, same_rewritten}
 use Rattle.phys_memory.proofs.Writing.{written_run}
 use Rattle.mbuf_defrag.specs.Copying.{IsAway}
-use Rattle.mbuf_defrag.specs.Walking.{IsThere, rest_of}
+use Rattle.mbuf_defrag.specs.CopySteps.{IsThere, rest_of}
 use Rattle.mbuf_defrag.proofs.Copies.{all_back, all_behind, all_front, drop_past, put_on, split_run, take_size}
 use Rattle.mbuf_defrag.proofs.copying.copy_into.Goals as goal
 
@@ -62,8 +63,8 @@ loop-done-preserved c =
     let frames = c.requires.target.in_frame in
     let some = c.next-run.ensures.extent.some in
     let one : (pa + done) / 4096 ≡ pa / 4096 = omega (arith, frames, most, some, inside) in
-    let there : has_frame c.loop-done.memory.memory ((pa + done) / 4096) ≡ true =
-    before.same.frames ((pa + done) / 4096) ∙ ap (has_frame c.args.memory.now.memory) one ∙ c.requires.lies in
+    let there : memory_has_frame c.loop-done.memory.memory ((pa + done) / 4096) ≡ true =
+    before.same.frames ((pa + done) / 4096) ∙ ap (memory_has_frame c.args.memory.now.memory) one ∙ c.requires.lies in
     record {
       left = ap (λ k. put (run_of (pa + (done + n)) k) (map now (take k rest)) now) fewer
           ∙ sym (put_on here more (run_of from n) (take (left - n) rest) w now even

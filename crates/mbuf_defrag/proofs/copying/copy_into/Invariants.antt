@@ -5,7 +5,7 @@ use Rattle.busdma_machine.specs.Runs.{run_of}
 use Rattle.phys_memory.specs.Frames.{SamePages}
 use Rattle.phys_memory.specs.Memory.{wire}
 use Rattle.mbuf_defrag.specs.Copying.{IsAway}
-use Rattle.mbuf_defrag.specs.Walking.{IsThere, rest_of}
+use Rattle.mbuf_defrag.specs.CopySteps.{IsThere, rest_of}
 use Rattle.mbuf_defrag.proofs.copying.copy_into.Given as goal
 
 abbrev pub invariant-loop-done : goal.invariant-loop-done

@@ -4,7 +4,7 @@ use Rattle.std.proofs.lemmas.List.{append-nil, drop_all}
 use Rattle.busdma_machine.specs.declared.machine.address.Span.{Span}
 use Rattle.busdma_machine.specs.declared.machine.address.Va.{Va}
 use Rattle.busdma_machine.specs.Machine.Spans.{span_bytes}
-use Rattle.mbuf_defrag.specs.Plan.{front_of}
+use Rattle.busdma_rules.specs.Memory.Clusters.{front_of}
 use Rattle.mbuf_defrag.proofs.Fronts.{front_bytes, front_none, planned}
 use Rattle.mbuf_defrag.proofs.planning.plan.Goals.{else-loop-va-test, then-loop-va-test+then-left-eq0}
 use Rattle.mbuf_defrag.proofs.planning.plan.Goals as goal
@@ -22,7 +22,8 @@ returns-clause-plan c =
           ap (λ n. front_of n later) e ∙ front_none later
     ] in
     let is : c.new.result ≡ front_of (span_bytes c.args.chain.now) c.args.clusters.now =
-    c.new.ensures ∙ sym (append-nil c.loop-va.spans.items) ∙ ap (λ (xs : List Span). c.loop-va.spans.items ++ xs) (sym none)
+    c.new.ensures ∙ sym (append-nil c.loop-va.spans.items) ∙ ap (λ (xs : List Span). c.loop-va.spans.items ++ xs)
+    (sym none)
     ∙ c.loop-va.invariant.all in
     let enough : span_bytes c.args.chain.now ≤ 4096 * length c.args.clusters.now = grind (arith, common_steps) in
     planned c.args.chain.now c.args.clusters.now c.new.result enough is
@@ -40,7 +41,8 @@ returns-clause-bytes c =
           ap (λ n. front_of n later) e ∙ front_none later
     ] in
     let is : c.new.result ≡ front_of (span_bytes c.args.chain.now) c.args.clusters.now =
-    c.new.ensures ∙ sym (append-nil c.loop-va.spans.items) ∙ ap (λ (xs : List Span). c.loop-va.spans.items ++ xs) (sym none)
+    c.new.ensures ∙ sym (append-nil c.loop-va.spans.items) ∙ ap (λ (xs : List Span). c.loop-va.spans.items ++ xs)
+    (sym none)
     ∙ c.loop-va.invariant.all in
     let enough : span_bytes c.args.chain.now ≤ 4096 * length c.args.clusters.now = grind (arith, common_steps) in
     ap span_bytes is ∙ front_bytes (span_bytes c.args.chain.now) c.args.clusters.now enough

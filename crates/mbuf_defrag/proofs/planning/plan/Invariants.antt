@@ -1,6 +1,6 @@
 use Rattle.std.proofs.Common.{◌≡◌, ◌++◌, ◌*◌, ◌≤◌, length, drop}
 use Rattle.busdma_machine.specs.Machine.Spans.{span_bytes}
-use Rattle.mbuf_defrag.specs.Plan.{front_of}
+use Rattle.busdma_rules.specs.Memory.Clusters.{front_of}
 use Rattle.mbuf_defrag.proofs.planning.plan.Given as goal
 
 abbrev pub invariant-loop-va : goal.invariant-loop-va

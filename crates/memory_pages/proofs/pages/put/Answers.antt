@@ -4,7 +4,7 @@ use Rattle.std.specs.Vec.Iter.{into_iter_items}
 use Rattle.busdma_machine.specs.Machine.Page.{FrameBytes}
 use Rattle.busdma_machine.specs.Machine.Wire.{with_bytes_of}
 use Rattle.busdma_rules.specs.Memory.Memories.{virtual_of}
-use Rattle.phys_memory.specs.Memory.{Memory, wire, with_page}
+use Rattle.phys_memory.specs.Memory.{FrameMemory, wire, with_page}
 use Rattle.memory_pages.specs.Bytes.{all_filled, filled}
 use Rattle.memory_pages.proofs.Coming.{IsPart, IsWhole, all_put, next_fresh, next_put, no_row, others_stay}
 use Rattle.memory_pages.proofs.Coming.{still_placed, zeros_come}
@@ -12,7 +12,7 @@ use Rattle.memory_pages.proofs.Reaching.{come_reached}
 use Rattle.memory_pages.proofs.pages.put.Goals as goal
 
 -- there is a page that is left
-some_left : (old new : Memory) (first len : ℕ) (clear : Bool) (all rest : List FrameBytes) (left spare : ℕ)
+some_left : (old new : FrameMemory) (first len : ℕ) (clear : Bool) (all rest : List FrameBytes) (left spare : ℕ)
     (p : FrameBytes) (ps : List FrameBytes) → rest ≡ p ∷ ps →
     IsPart old new first len clear all rest left spare → IsPart old new first len clear all (p ∷ ps) left spare
 some_left old new first len clear all rest left spare p ps e part =
@@ -44,9 +44,10 @@ loop-page-preserved c = record {
       let put = next_put c.args.memory.now.memory c.loop-page.memory.memory c.args.first.0 c.args.len c.args.clear
       c.args.pages.items c.in-Some.page (into_iter_items c.next.new.self) c.loop-page.left c.loop-page.memory.spare
       part c.put_page.ensures.frame c.put_page.new.memory.spare c.put_page.ensures.spare in
-      let after : Memory → ℕ → Type 0 = λ m r. IsPart c.args.memory.now.memory m c.args.first.0 c.args.len c.args.clear
+      let after : FrameMemory → ℕ → Type 0 = λ m r. IsPart c.args.memory.now.memory m c.args.first.0 c.args.len
+      c.args.clear
       c.args.pages.items (into_iter_items c.next.new.self) (c.loop-page.left - r) c.put_page.new.memory.spare in
-      let here : ℕ → Memory = λ r. with_page c.loop-page.memory.memory (virtual_of (4096 * c.in-Some.page.frame))
+      let here : ℕ → FrameMemory = λ r. with_page c.loop-page.memory.memory (virtual_of (4096 * c.in-Some.page.frame))
       (filled c.args.clear c.in-Some.page) r in
       subst (λ m. after m c.min-reach.result) (sym c.put_page.ensures.memory)
       (subst (λ r. after (here r) r) (sym c.min-reach.ensures) put);

@@ -6,7 +6,7 @@ use Rattle.busdma_machine.specs.Machine.Page.{FrameBytes}
 use Rattle.busdma_machine.specs.Machine.PageList.{RoomyPages, page_addresses}
 use Rattle.busdma_rules.specs.Memory.Memories.{virtual_of}
 use Rattle.phys_memory.specs.Memory.{page_at, without_page}
-use Rattle.memory_pages.specs.Bytes.{page_of, pages_of}
+use Rattle.memory_pages.specs.Bytes.{page_of, memory_pages_of}
 use Rattle.memory_pages.specs.Placed.{Goes}
 use Rattle.memory_pages.proofs.Going.{addresses_taken, left_placed, length-taken, next_gone, next_page}
 use Rattle.memory_pages.proofs.Going.{none_gone, taken_more}
@@ -54,7 +54,8 @@ loop-i-preserved c =
     ∙ next_page c.args.memory.now.memory c.loop-i.memory.memory c.args.first.0 c.args.count c.loop-i.i
     c.requires.whole c.loop-i-test.true c.requires.there c.loop-i.invariant.goes in
     record {
-      pages = c.push_reserved.ensures ∙ pushed (c.loop-i.pages) (c.args.pages.now) (pages_of c.args.memory.now.memory
+      pages = c.push_reserved.ensures ∙ pushed (c.loop-i.pages) (c.args.pages.now)
+          (memory_pages_of c.args.memory.now.memory
           (frames_from c.loop-i.i c.args.first.0)) c.unwrap-page.result (page_of c.args.memory.now.memory
           (c.args.first.0 + 4096 * c.loop-i.i)) c.loop-i.invariant.pages
           (only (sym c.unwrap-page.ensures ∙ taken))
@@ -71,7 +72,7 @@ returns-clause-addresses c =
     let e : c.loop-i.i ≡ c.args.count = omega arith in
     ap (λ (r : RoomyPages). page_addresses r.items) c.loop-i.invariant.pages
     ∙ ap (λ i. page_addresses (c.args.pages.now.items
-    ++ pages_of c.args.memory.now.memory (frames_from i c.args.first.0))) e
+    ++ memory_pages_of c.args.memory.now.memory (frames_from i c.args.first.0))) e
     ∙ addresses_taken c.args.memory.now.memory c.args.count c.args.first.0 c.args.pages.now.items c.requires.whole
 
 pub returns-clause-placed : goal.returns-clause-placed

@@ -8,4 +8,5 @@ returns-then-is_empty g c =
 
 pub returns : goal.returns
 returns g c =
-    gives_as (some_bytes _ _ c.is_empty.ensures c.if-is_empty.false) (gives_then c.push_str.ensures c.push_digits.ensures)
+    gives_as (some_bytes _ _ c.is_empty.ensures c.if-is_empty.false)
+    (gives_then c.push_str.ensures c.push_digits.ensures)

@@ -6,10 +6,13 @@ use Rattle.report_text.proofs.answer.push_digits.Goals as goal
 
 pub loop-byte-preserved : goal.loop-byte-preserved
 loop-byte-preserved g c = λ ended rest.
-    c.loop-byte.invariant ended (gives_as (flat_next byte_text c.args.bytes.now c.loop-byte.byte-index (get_or c.args.bytes.now c.loop-byte.byte-index 0) 0 c.loop-byte-test.true refl)
+    c.loop-byte.invariant ended
+    (gives_as (flat_next byte_text c.args.bytes.now c.loop-byte.byte-index
+    (get_or c.args.bytes.now c.loop-byte.byte-index 0) 0 c.loop-byte-test.true refl)
     (gives_then c.push_byte.ensures rest))
 
 pub returns : goal.returns
 returns g c =
-    c.loop-byte.invariant c.loop-byte.out (gives_as (flat_end byte_text c.args.bytes.now c.loop-byte.byte-index c.loop-byte-test.false)
+    c.loop-byte.invariant c.loop-byte.out
+    (gives_as (flat_end byte_text c.args.bytes.now c.loop-byte.byte-index c.loop-byte-test.false)
     (gives_nothing c.loop-byte.out))

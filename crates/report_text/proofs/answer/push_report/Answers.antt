@@ -2,4 +2,5 @@ use Rattle.io_edge.proofs.Giving.{gives_then}
 use Rattle.report_text.proofs.answer.push_report.Goals as goal
 
 pub returns : goal.returns
-returns g c = gives_then c.push_str.ensures (gives_then (rw c.report_name.ensures at c.push_str-2.ensures) (gives_then c.push_str-3.ensures c.push_decimal.ensures))
+returns g c = gives_then c.push_str.ensures (gives_then (rw c.report_name.ensures at c.push_str-2.ensures)
+    (gives_then c.push_str-3.ensures c.push_decimal.ensures))

@@ -6,10 +6,13 @@ use Rattle.report_text.proofs.answer.push_segments.Goals as goal
 
 pub loop-segment-preserved : goal.loop-segment-preserved
 loop-segment-preserved g c = λ ended rest.
-    c.loop-segment.invariant ended (gives_as (flat_next segment_text c.args.segments.now c.loop-segment.segment-index _ _ c.loop-segment-test.true refl)
+    c.loop-segment.invariant ended
+    (gives_as (flat_next segment_text c.args.segments.now c.loop-segment.segment-index _ _ c.loop-segment-test.true
+    refl)
     (gives_then c.push_segment.ensures rest))
 
 pub returns : goal.returns
 returns g c =
-    c.loop-segment.invariant c.loop-segment.out (gives_as (flat_end segment_text c.args.segments.now c.loop-segment.segment-index c.loop-segment-test.false)
+    c.loop-segment.invariant c.loop-segment.out
+    (gives_as (flat_end segment_text c.args.segments.now c.loop-segment.segment-index c.loop-segment-test.false)
     (gives_nothing c.loop-segment.out))

@@ -2,4 +2,5 @@ use Rattle.io_edge.proofs.Giving.{gives_then}
 use Rattle.report_text.proofs.did.push_release.Goals as goal
 
 pub returns : goal.returns
-returns g c = gives_then c.push_str.ensures (gives_then (rw c.map_name.ensures at c.push_str-2.ensures) (gives_then c.push_str-3.ensures c.push_hex.ensures))
+returns g c = gives_then c.push_str.ensures (gives_then (rw c.map_name.ensures at c.push_str-2.ensures)
+    (gives_then c.push_str-3.ensures c.push_hex.ensures))

@@ -2,4 +2,6 @@ use Rattle.io_edge.proofs.Giving.{gives_then}
 use Rattle.report_text.proofs.zone.push_name.Goals as goal
 
 pub returns : goal.returns
-returns g c = gives_then c.push_str.ensures (gives_then c.push_decimal.ensures (gives_then c.push_str-2.ensures (gives_then c.push_str-3.ensures c.push_str-4.ensures)))
+returns g c = gives_then c.push_str.ensures
+    (gives_then c.push_decimal.ensures
+    (gives_then c.push_str-2.ensures (gives_then c.push_str-3.ensures c.push_str-4.ensures)))

@@ -10,7 +10,8 @@ returns-clause-written_again c =
     let small : (i : ℕ) → b i < 256 = λ i. search (rules, c.fits-bytes) in
     let addr : to_le_bytes w64 c.from_le_bytes.result ≡ b 0 ∷ b 1 ∷ b 2 ∷ b 3 ∷ b 4 ∷ b 5 ∷ b 6 ∷ b 7 ∷ [] =
     le_bytes_8 _ _ refl
-    (eight_bytes _ _ _ _ _ _ _ _ (small 0) (small 1) (small 2) (small 3) (small 4) (small 5) (small 6) (small 7)) c.from_le_bytes.ensures in
+    (eight_bytes _ _ _ _ _ _ _ _ (small 0) (small 1) (small 2) (small 3) (small 4) (small 5) (small 6) (small 7))
+    c.from_le_bytes.ensures in
     let len : to_le_bytes w32 c.from_le_bytes-2.result ≡ b 8 ∷ b 9 ∷ b 10 ∷ b 11 ∷ [] =
     le_bytes_4 _ _ refl (four_bytes _ _ _ _ (small 8) (small 9) (small 10) (small 11)) c.from_le_bytes-2.ensures in
     (λ i. addr i ++ len i ++ b 12 ∷ b 13 ∷ b 14 ∷ b 15 ∷ []) ∙ sixteen c.args.bytes.now (search rules)

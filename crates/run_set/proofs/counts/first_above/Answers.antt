@@ -13,9 +13,11 @@ loop-at-preserved c =
     (λ q. counted_above 0 c.args.starts.now.items c.loop-at.at c.count_to.result c.args.end c.requires.starts_climb
     (omega arith) q) in
     let here : count_of c.args.starts.now.items c.args.ends.now.items c.loop-at.at ≤ c.args.n = omega arith in
-    let until : (n : ℕ) → c.loop-at.at ≤ n → n < get_or c.args.starts.now.items c.count_to.result c.args.end → f n ≡ false =
+    let until : (n : ℕ) → c.loop-at.at ≤ n → n < get_or c.args.starts.now.items c.count_to.result c.args.end → f n
+    ≡ false =
     λ n p q. le-ltb c.args.n (count_of c.args.starts.now.items c.args.ends.now.items n)
-    (let x : count_of c.args.starts.now.items c.args.ends.now.items n ≤ count_of c.args.starts.now.items c.args.ends.now.items c.loop-at.at =
+    (let x : count_of c.args.starts.now.items c.args.ends.now.items n ≤ count_of c.args.starts.now.items
+    c.args.ends.now.items c.loop-at.at =
     none_until_start c.args.starts.now.items c.args.ends.now.items c.loop-at.at c.args.end c.count_to.result
     c.requires.starts_climb c.count_to.ensures.small c.count_to.ensures.is
     (λ k d a. counted_below 0 c.args.starts.now.items c.loop-at.at k d c.requires.starts_climb (omega arith)) n p q in

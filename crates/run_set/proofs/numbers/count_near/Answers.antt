@@ -12,8 +12,10 @@ returns-then-is_count-clause-above c k d p q =
 
 pub returns-then-is_count-2-clause-below : goal.returns-then-is_count-2-clause-below
 returns-then-is_count-2-clause-below c k d p =
-    counted_below 0 c.args.list.now c.args.n k d c.requires (omega (arith, c.is_count-2.ensures.is c.if-is_count-2.true))
+    counted_below 0 c.args.list.now c.args.n k d c.requires
+    (omega (arith, c.is_count-2.ensures.is c.if-is_count-2.true))
 
 pub returns-then-is_count-2-clause-above : goal.returns-then-is_count-2-clause-above
 returns-then-is_count-2-clause-above c k d p q =
-    counted_above 0 c.args.list.now c.args.n k d c.requires (omega (arith, c.is_count-2.ensures.is c.if-is_count-2.true)) q
+    counted_above 0 c.args.list.now c.args.n k d c.requires
+    (omega (arith, c.is_count-2.ensures.is c.if-is_count-2.true)) q

@@ -13,6 +13,7 @@ loop-value-preserved c = record {
       c.loop-value.invariant.valid (rw (← c.deref.ensures.value) c.in_ok-cluster.ensures.valid));
   count = grind (arith, common_steps);
   highest = rw c.in_ok-push.ensures.items
-      (up_to_more c.loop-value.highest c.max-highest.result _ c.in_ok-cluster.cluster (omega (arith, c.max-highest.ensures))
+      (up_to_more c.loop-value.highest c.max-highest.result _ c.in_ok-cluster.cluster
+      (omega (arith, c.max-highest.ensures))
       (omega (arith, c.max-highest.ensures)) c.loop-value.invariant.highest);
 }

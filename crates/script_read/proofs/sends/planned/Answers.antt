@@ -2,7 +2,7 @@ use Rattle.std.proofs.Common.{◌≡◌, List, Option, IfSome, subst, sym}
 use Rattle.std.proofs.lemmas.Result.{IfOk-weaker}
 use Rattle.busdma_machine.specs.declared.machine.address.Span.{Span}
 use Rattle.busdma_base.specs.Scenarios.Buffers.{AreClustersFor}
-use Rattle.scenario_format.specs.Scripts.Plan.{plan}
+use Rattle.busdma_rules.specs.Memory.Clusters.{plan}
 use Rattle.script_read.proofs.Clusters.{plan_for}
 use Rattle.script_read.proofs.sends.planned.Goals as goal
 

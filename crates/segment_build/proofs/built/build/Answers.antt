@@ -2,7 +2,7 @@ use Rattle.std.proofs.Common.{◌≡◌, ◌<◌, List, length, get_or, subst, s
 use Rattle.std.specs.Prelude.{Ok, false}
 use Rattle.busdma_machine.specs.declared.machine.address.Segment.{Segment}
 use Rattle.busdma_machine.specs.declared.tags.tag.TagLimits.{TagLimits}
-use Rattle.segment_build.specs.Joining.{added}
+use Rattle.segment_build.specs.Joining.{extent_added}
 use Rattle.busdma_rules.specs.Segments.Built.{IsFew, AreTooMany}
 use Rattle.segment_build.proofs.Cuts.{are_few, are_many}
 use Rattle.segment_build.proofs.built.build.Goals as goal
@@ -16,7 +16,7 @@ returns-then-not-branch c =
     let none : Segment = record { addr = record { 0 = 0 }; len = 0 } in
     let many =
     subst (λ (u : TagLimits). u.nsegments < length
-    (added u l.list.items (get_or c.as_slice-piece-items.result.now l.piece-index none))) c.limits.ensures.limits
+    (extent_added u l.list.items (get_or c.as_slice-piece-items.result.now l.piece-index none))) c.limits.ensures.limits
     (c.add_piece.ensures.many refused) in
     subst (AreTooMany t) pieces (are_many t l.list.items c.as_slice-piece-items.result.now l.piece-index none
     c.loop-piece-test.true l.invariant.is many)

@@ -9,7 +9,7 @@ use Rattle.busdma_machine.specs.declared.machine.chunk.Entry.{Entry}
 use Rattle.busdma_machine.specs.Machine.Entry.{IsEntry, entries_bytes, entry_parts, parts_of}
 use Rattle.busdma_machine.specs.Runs.{byte_count}
 use Rattle.busdma_rules.specs.Segments.Chunks.{chunks_of}
-use Rattle.segment_build.specs.Cutting.{after, closed, uncut}
+use Rattle.segment_build.specs.Cutting.{cut_after as after, closed, uncut}
 use Rattle.segment_build.proofs.Chunking.{after_append, closed_append, entries_cut, with_last}
 use Rattle.segment_build.proofs.chunk.chunks.Goals as goal
 use Rattle.segment_build.proofs.chunk.chunks.Goals.{in-Some+in_ok-push, in_default}

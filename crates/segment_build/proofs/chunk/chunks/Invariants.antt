@@ -1,7 +1,7 @@
 use Rattle.std.proofs.Common.{◌≡◌, ◌+◌, ◌++◌, drop}
 use Rattle.std.specs.List.{AllByRecursion}
 use Rattle.busdma_machine.specs.Machine.Entry.{IsEntry, entries_bytes, parts_of}
-use Rattle.segment_build.specs.Cutting.{after, closed, uncut}
+use Rattle.segment_build.specs.Cutting.{cut_after as after, closed, uncut}
 use Rattle.segment_build.proofs.chunk.chunks.Given as goal
 
 abbrev pub invariant-loop-entry : goal.invariant-loop-entry

@@ -2,7 +2,7 @@ use Rattle.std.proofs.Common.{◌≡◌, ◌+◌, ◌++◌, drop}
 use Rattle.std.specs.List.{AllByRecursion}
 use Rattle.busdma_machine.specs.Machine.Entry.{entry_parts, extent_parts}
 use Rattle.busdma_machine.specs.Runs.{IsExtent, byte_count}
-use Rattle.segment_build.specs.Cutting.{after, closed}
+use Rattle.segment_build.specs.Cutting.{cut_after as after, closed}
 use Rattle.segment_build.proofs.chunk.cut_entry.Given as goal
 
 abbrev pub invariant-loop-extent : goal.invariant-loop-extent

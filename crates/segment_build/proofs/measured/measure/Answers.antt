@@ -3,11 +3,11 @@ use Rattle.std.specs.Prelude.{Option, IfSome}
 use Rattle.std.specs.Option.{option_to_list}
 use Rattle.busdma_machine.specs.declared.machine.chunk.Chunk.{Chunk}
 use Rattle.busdma_machine.specs.declared.tags.tag.TagLimits.{TagLimits}
-use Rattle.busdma_machine.specs.Machine.Entry.{IsStream, entries_of}
+use Rattle.busdma_machine.specs.Machine.Entry.{IsStream, stream_entries}
 use Rattle.segment_build.specs.declared.cutter.Cutter.{Cutter}
 use Rattle.busdma_rules.specs.Segments.Building.{IsPlaceable, placed_pieces}
 use Rattle.busdma_rules.specs.Segments.Chunks.{chunks_of, need_of}
-use Rattle.segment_build.specs.Cutting.{after, after_part, closed, closed_part, uncut}
+use Rattle.segment_build.specs.Cutting.{cut_after, after_part, closed, closed_part, uncut}
 use Rattle.busdma_rules.proofs.Segments.Counting.{need_append}
 use Rattle.segment_build.proofs.Frames.{as_many}
 use Rattle.segment_build.proofs.Iterating.{holds_so_far, holds_seen, drained}
@@ -85,7 +85,7 @@ loop-part-preserved g c =
     let inv = c.loop-part.invariant in
     let one = c.take.ensures.closed ∙ ap (λ (s : Cutter). closed_part s p) inv.cutter in
     let cs = closed t m uncut ps in
-    let last = option_to_list (closed_part (after t m uncut ps) p) in
+    let last = option_to_list (closed_part (cut_after t m uncut ps) p) in
     record {
       can = search rules;
       finite = search rules;
@@ -156,7 +156,7 @@ returns-in-None-unmapped g c =
     c.into_iter-part-iterator.ensures.into_iter_gives c.requires.stream c.loop-part.yielded_by in
     let all = holds t m ps eff stream in
     let cs = closed t m uncut ps in
-    let last = option_to_list (after t m uncut ps).last in
+    let last = option_to_list (cut_after t m uncut ps).last in
     let is = ap (λ (s : Cutter). option_to_list s.last) inv.cutter in (
       ps,
       drained g.I.Iterator.next_gives c.into_iter-part-iterator.result ps c.loop-part.part-iterator c.next.new.self
@@ -174,8 +174,8 @@ returns-in-None-unmapped g c =
               ap (λ (u : TagLimits). length (placed_pieces u last [])) c.limits-limits.ensures.limits,
               ap (λ xs. length (placed_pieces t xs [])) all.chunks,
               pieces_more t cs last,
-              as_many t (chunks_of t m (entries_of ps)) pages [] eff
-                  (chunks_sound t m (entries_of ps) eff stream.entries) are tt,
+              as_many t (chunks_of t m (stream_entries ps)) pages [] eff
+                  (chunks_sound t m (stream_entries ps) eff stream.entries) are tt,
             );
         bytes = ap (λ (s : Cutter). s.at) inv.cutter ∙ all.at;
       },

@@ -1,9 +1,9 @@
 use Rattle.std.proofs.Common.{◌≡◌, ◌+◌, ◌-◌, length, true, false, Ok, ap, sym, ◌∙◌, arith}
 use Rattle.busdma_machine.specs.Runs.{run_of}
 use Rattle.busdma_rules.specs.Segments.Pieces.{pieces_of}
-use Rattle.segment_build.specs.Joining.{added, added_all}
+use Rattle.segment_build.specs.Joining.{extent_added as added, added_all}
 use Rattle.segment_build.proofs.Cuts.{added_all_longer}
-use Rattle.segment_build.proofs.Joins.{not_refused}
+use Rattle.segment_build.proofs.JoinLaws.{not_refused}
 use Rattle.busdma_rules.proofs.Segments.Places.{piece_at, pieces_step}
 use Rattle.segment_build.proofs.pieces.add_run.Goals as goal
 
@@ -48,7 +48,8 @@ loop-left-preserved c =
     let added : c.add_piece.result ≡ Ok true = cc in
     record {
       is = ap (λ a. added_all t c.add_piece.new.list.items (pieces_of t (run_of a (l.left - k)))) next
-          ∙ (ap (λ segs. added_all t segs (pieces_of t (run_of (at + k) (l.left - k)))) (c.add_piece.ensures.added added)
+          ∙ (ap (λ segs. added_all t segs (pieces_of t (run_of (at + k) (l.left - k))))
+          (c.add_piece.ensures.added added)
           ∙ (ap (λ ps. added_all t l.list.items ps)
           (sym (pieces_step t at l.left k c.requires.size c.loop-left-test.true c.piece_len-len.ensures.is))
           ∙ l.invariant.is));

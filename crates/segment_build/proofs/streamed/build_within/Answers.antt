@@ -12,7 +12,7 @@ use Rattle.segment_build.specs.Cutting.{after_part, closed, closed_part, uncut}
 use Rattle.segment_build.specs.Streams.{IsBuiltFrom, OverflowsFrom, stream_chunks}
 use Rattle.segment_build.proofs.Fronts.{front_need, front_pieces}
 use Rattle.segment_build.proofs.Iterating.{holds_so_far, holds_seen, drained}
-use Rattle.segment_build.proofs.Joins.{not_refused}
+use Rattle.segment_build.proofs.JoinLaws.{not_refused}
 use Rattle.segment_build.proofs.PartByPart.{holds, holds_at}
 use Rattle.segment_build.proofs.streamed.build_within.Goals as goal
 

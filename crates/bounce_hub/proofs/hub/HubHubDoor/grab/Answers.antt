@@ -1,7 +1,7 @@
 use Rattle.std.proofs.Common.{◌≡◌, List, [], ◌∷◌, ◌++◌, vec_capacity, refl, ap, ◌∙◌, subst, arith}
 use Rattle.busdma_machine.specs.declared.bounce.hold.HoldEntry.{HoldEntry}
 use Rattle.busdma_machine.specs.declared.bounce.hold.HubCall.TheVariants.{Grab}
-use Rattle.busdma_machine.specs.Bounce.Door.{Holds}
+use Rattle.busdma_machine.specs.Bounce.Door.{HoldsAtDoor}
 use Rattle.busdma_machine.specs.Bounce.History.{account_of}
 use Rattle.bounce_hub.specs.Pools.{Stepped}
 use Rattle.bounce_hub.specs.Seen.{IsKept, opening_of, door}
@@ -55,7 +55,8 @@ invariant_of-self-2 c = later c
 
 pub returns-clause-held : goal.returns-clause-held
 returns-clause-held c =
-    subst (λ r. Holds (door c.args.self.now) c.args.map.lane.0 (Grab c.args.map c.args.zone c.args.need c.args.nowait)
+    subst (λ r. HoldsAtDoor (door c.args.self.now) c.args.map.lane.0
+    (Grab c.args.map c.args.zone c.args.need c.args.nowait)
     r (door (record { opening = opening_of c.self.inside.first.value; history = c.push_reserved.new.self.items })))
     c.in_ok-grabbed.ensures.reply
     (holds-own c.args.self.now (opening_of c.self.inside.first.value) c.self.inside.history.items

@@ -1,7 +1,7 @@
 use Rattle.std.proofs.Common.{◌≡◌, List, [], ◌∷◌, ◌++◌, vec_capacity, refl, ap, ◌∙◌, subst, arith}
 use Rattle.busdma_machine.specs.declared.bounce.hold.HoldEntry.{HoldEntry}
 use Rattle.busdma_machine.specs.declared.bounce.hold.HubCall.TheVariants.{MemAlloc}
-use Rattle.busdma_machine.specs.Bounce.Door.{Holds}
+use Rattle.busdma_machine.specs.Bounce.Door.{HoldsAtDoor}
 use Rattle.busdma_machine.specs.Bounce.History.{account_of}
 use Rattle.bounce_hub.specs.Pools.{Stepped}
 use Rattle.bounce_hub.specs.Seen.{IsKept, opening_of, door}
@@ -53,7 +53,7 @@ invariant_of-self-2 c = later c
 
 pub returns-clause-held : goal.returns-clause-held
 returns-clause-held c =
-    subst (λ r. Holds (door c.args.self.now) c.args.mem.lane.0 (MemAlloc c.args.mem c.args.tag.now) r
+    subst (λ r. HoldsAtDoor (door c.args.self.now) c.args.mem.lane.0 (MemAlloc c.args.mem c.args.tag.now) r
     (door (record { opening = opening_of c.self.inside.first.value; history = c.push_reserved.new.self.items })))
     c.in_ok-pages.ensures.reply
     (holds-own c.args.self.now (opening_of c.self.inside.first.value) c.self.inside.history.items

@@ -1,7 +1,7 @@
 use Rattle.std.proofs.Common.{◌≡◌, [], ◌∷◌, ◌++◌, vec_capacity, refl, subst, arith}
 use Rattle.busdma_machine.specs.declared.bounce.hold.HubCall.TheVariants.{TakeCallback}
 use Rattle.busdma_machine.specs.declared.bounce.hold.HubReply.TheVariants.{Called}
-use Rattle.busdma_machine.specs.Bounce.Door.{Holds}
+use Rattle.busdma_machine.specs.Bounce.Door.{HoldsAtDoor}
 use Rattle.busdma_machine.specs.Bounce.History.{account_of}
 use Rattle.bounce_hub.specs.Pools.{Stepped}
 use Rattle.bounce_hub.specs.Seen.{IsKept, opening_of, door}
@@ -43,7 +43,7 @@ invariant_of-self-2 c = later c
 
 pub returns-clause-held : goal.returns-clause-held
 returns-clause-held c =
-    subst (λ ps. Holds (door c.args.self.now) c.args.lane.0 TakeCallback (Called c.in_ok-called.called.map ps)
+    subst (λ ps. HoldsAtDoor (door c.args.self.now) c.args.lane.0 TakeCallback (Called c.in_ok-called.called.map ps)
     (door (record { opening = opening_of c.self.inside.first.value; history = c.push_reserved.new.self.items })))
     c.in_ok-called.ensures.pages
     (holds-own c.args.self.now (opening_of c.self.inside.first.value) c.self.inside.history.items

@@ -6,11 +6,11 @@ use Rattle.busdma_machine.specs.declared.bounce.hold.HubCall.TheVariants.{MemAll
 use Rattle.busdma_machine.specs.declared.bounce.hold.HubReply.TheVariants.{Run}
 use Rattle.busdma_machine.specs.declared.machine.address.Pa.{Pa}
 use Rattle.busdma_machine.specs.Bounce.Account.{Memory}
-use Rattle.busdma_machine.specs.Bounce.AccountStep.{memory_placed as placed}
+use Rattle.busdma_machine.specs.Bounce.AccountStep.{memory_placed}
 use Rattle.busdma_machine.specs.Machine.Page.{FrameBytes}
-use Rattle.busdma_machine.specs.Bounce.MemoryRuns.{frames_for, lowest_run, in_run, with_memory_run as with_memory}
+use Rattle.busdma_machine.specs.Bounce.MemoryRuns.{frames_for, lowest_run, in_run, with_memory_run}
 use Rattle.busdma_machine.specs.Machine.PageList.{page_addresses, page_address}
-use Rattle.frame_bank.specs.FrameBank.{free_frames, pages_left, is_in_run}
+use Rattle.frame_bank.specs.FrameBank.{free_frames, pages_left, is_in_bank_run}
 use Rattle.busdma_machine.specs.Bounce.Door.{IsRow}
 use Rattle.bounce_hub.proofs.Answering.{stepped}
 use Rattle.bounce_hub.proofs.Frames.{Found, found, from-row, from-length, from-first, left-addresses, filter-few}
@@ -26,13 +26,13 @@ few c =
     (free_frames c.args.self.now.bank) in
     let f : Found first n c.in-Some.pages.items =
     found first n c.in-Some.pages.items (rw c.in-Some.is at c.in_ok-pages.ensures.placed) in
-    let items : c.in-Some.pages.items ≡ filter (is_in_run f.at n) c.args.self.now.bank.pages =
+    let items : c.in-Some.pages.items ≡ filter (is_in_bank_run f.at n) c.args.self.now.bank.pages =
     run-items first n f.at c.in-Some.pages.items c.args.self.now.bank.pages f.is
     (rw c.in-Some.is at c.in_ok-pages.ensures.pages) in
     omega (
       arith,
       ap (λ (x : List FrameBytes). length x) items,
-      filter-few (is_in_run f.at n) c.args.self.now.bank.pages,
+      filter-few (is_in_bank_run f.at n) c.args.self.now.bank.pages,
       length-map c.args.self.now.bank.pages page_address,
       ap (λ (x : List ℕ). length x) c.requires.allowed.agrees.bank,
       c.requires.allowed.fits.few,
@@ -78,10 +78,10 @@ returns-in-Some-clause-steps c = λ a agrees fits may.
     ) in
     let taken : Memory = record { mem = c.args.mem; frames = filter (in_run f.at n) a.bank } in
     stepped c.args.self.now _ c.args.mem.lane.0 (MemAlloc c.args.mem c.args.tag.now)
-    _ a (with_memory a c.args.mem f.at n)
-    (ap (λ (o : Option ℕ). placed c.args.mem n o a) same
-    ∙ ap (λ (k : Pa). record { account = with_memory a c.args.mem f.at n; reply = Run k n }) (sym address)
-    ∙ ap (λ (k : ℕ). record { account = with_memory a c.args.mem f.at n; reply = Run c.first_address.result k })
+    _ a (with_memory_run a c.args.mem f.at n)
+    (ap (λ (o : Option ℕ). memory_placed c.args.mem n o a) same
+    ∙ ap (λ (k : Pa). record { account = with_memory_run a c.args.mem f.at n; reply = Run k n }) (sym address)
+    ∙ ap (λ (k : ℕ). record { account = with_memory_run a c.args.mem f.at n; reply = Run c.first_address.result k })
     (sym size))
     (agrees-bank c.args.self.now _ a (filter (λ g. not (in_run f.at n g)) a.bank) (a.mems ++ taken ∷ []) agrees
     (ap page_addresses (c.in_ok-pages.ensures.left

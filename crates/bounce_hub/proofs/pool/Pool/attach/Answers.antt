@@ -3,8 +3,8 @@ use Rattle.busdma_machine.specs.declared.name.ZoneId.{ZoneId}
 use Rattle.busdma_machine.specs.declared.bounce.hold.HubReply.TheVariants.{Grown}
 use Rattle.busdma_machine.specs.Bounce.Account.{Account, total}
 use Rattle.busdma_machine.specs.Bounce.AccountStep.{AccountReply as Outcome}
-use Rattle.busdma_machine.specs.Bounce.Growth.{zone_for_tag as zone_of, with_zone_for, wanted_by_tag, added, grown}
-use Rattle.bounce_hub.specs.Growing.{GrewBy, pages_of}
+use Rattle.busdma_machine.specs.Bounce.Growth.{zone_for_tag, with_zone_for, wanted_by_tag, added, grown}
+use Rattle.bounce_hub.specs.Growing.{GrewBy, grown_pages}
 use Rattle.bounce_hub.proofs.Agreeing.{agrees-as}
 use Rattle.bounce_hub.proofs.ZoneGrowth.{place-is, pages-is, attached-as}
 use Rattle.bounce_hub.proofs.pool.Pool.attach.Goals as goal
@@ -21,12 +21,12 @@ grow-requires c = record {
 pub returns-clause-steps : goal.returns-clause-steps
 returns-clause-steps c = λ a agrees fits may.
     let n : ℕ = c.in_ok-added.added in
-    let z : ℕ = zone_of c.args.tag.now a.zones in
+    let z : ℕ = zone_for_tag c.args.tag.now a.zones in
     let b : Account = with_zone_for c.args.tag.now a in
     let at : c.place_for-place.result ≡ z =
     c.place_for-place.ensures.is ∙ place-is c.args.tag.now c.args.self.now a agrees in
     let pages : c.pages_at.result ≡ total b z =
-    c.pages_at.ensures ∙ ap (λ (k : ℕ). pages_of (slice_get c.args.self.now.zones.items k)) at
+    c.pages_at.ensures ∙ ap (λ (k : ℕ). grown_pages (slice_get c.args.self.now.zones.items k)) at
     ∙ pages-is c.args.tag.now c.args.self.now a agrees fits.well in
     let wanted : c.wanted_by_tag-wanted.result ≡ wanted_by_tag c.args.tag.now (total b z) =
     c.wanted_by_tag-wanted.ensures ∙ ap (λ (k : ℕ). wanted_by_tag c.args.tag.now k) pages in

@@ -3,7 +3,7 @@ use Rattle.busdma_machine.specs.declared.bounce.hold.HubCall.TheVariants.{Grab}
 use Rattle.busdma_machine.specs.declared.bounce.hold.HubReply.TheVariants.{Granted, Queued}
 use Rattle.busdma_machine.specs.Bounce.Account.{zone_at, free}
 use Rattle.busdma_machine.specs.Bounce.AccountStep.{as_pages}
-use Rattle.busdma_machine.specs.Bounce.Serving.{handed, waiting_at_tail as queued}
+use Rattle.busdma_machine.specs.Bounce.Serving.{handed, waiting_at_tail}
 use Rattle.busdma_machine.proofs.Accounts.Counts.{in_zones}
 use Rattle.bounce_zone.specs.ZonePages.{free_pages}
 use Rattle.bounce_hub.specs.declared.hub_zone.HubZone.{HubZone}
@@ -51,7 +51,8 @@ returns-then-nowait-clause-steps c = λ a agrees fits may.
     let short : free a z < c.args.need = omega (arith, free-is s a z here, c.free.ensures, c.if-need-free.false) in
     stepped c.args.self.now _ c.args.map.lane.0 (Grab c.args.map c.args.zone c.args.need c.args.nowait) _ a a
     (grabbed-no c.args.map z c.args.need c.args.nowait a short c.if-nowait.true)
-    (agrees-same c.args.self.now _ a z s agrees (record { bank = refl; nested = refl; maxmem = refl; max_bpages = refl })
+    (agrees-same c.args.self.now _ a z s agrees
+    (record { bank = refl; nested = refl; maxmem = refl; max_bpages = refl })
     c.index_mut-hub_zone.ensures.value refl refl refl)
     refl
 
@@ -76,9 +77,9 @@ returns-in_ok-have-clause-steps c = λ a agrees fits may.
           ++ record { map = c.args.map; zone = c.args.zone; need = c.args.need; have = k } ∷ [];
     }) f in
     stepped c.args.self.now _ c.args.map.lane.0 (Grab c.args.map c.args.zone c.args.need c.args.nowait) _
-    a (queued a c.args.map z c.args.need)
+    a (waiting_at_tail a c.args.map z c.args.need)
     (grabbed-waits c.args.map z c.args.need c.args.nowait a short c.if-nowait.false
-    ∙ ap (λ k. record { account = queued a c.args.map z c.args.need; reply = Queued k }) (sym have))
+    ∙ ap (λ k. record { account = waiting_at_tail a c.args.map z c.args.need; reply = Queued k }) (sym have))
     (agrees-queued c.args.self.now _ a c.args.map z c.args.need s c.queue.new.self agrees
     (record { bank = refl; nested = refl; maxmem = refl; max_bpages = refl }) fits.well inside short here new
     refl c.in_ok-have.ensures.room refl)

@@ -1,7 +1,7 @@
 use Rattle.std.proofs.Common.{◌≡◌, ℕ, ◌∷◌, ◌++◌, [], List, length, min, take, refl, sym, ap, ◌∙◌, arith}
 use Rattle.busdma_machine.specs.Bounce.Account.{Zone}
 use Rattle.busdma_machine.specs.Machine.Page.{FrameBytes}
-use Rattle.busdma_machine.specs.Bounce.Growth.{zone_for_tag as zone_of, with_zone_for, frames_below, added, grown}
+use Rattle.busdma_machine.specs.Bounce.Growth.{zone_for_tag, with_zone_for, frames_below, added, grown}
 use Rattle.bounce_zone.specs.ZonePages.{ZonePages}
 use Rattle.frame_bank.specs.FrameBank.{Bank, free_frames}
 use Rattle.bounce_hub.specs.declared.hub_zone.HubZone.{HubZone}
@@ -41,7 +41,7 @@ pub returns-clause-grows : goal.returns-clause-grows
 returns-clause-grows c = λ a agrees fits at.
     let z : ℕ = c.args.place in
     let n : ℕ = c.in_ok-added.added in
-    let none : zone_of c.args.tag.now a.zones ≡ length a.zones =
+    let none : zone_for_tag c.args.tag.now a.zones ≡ length a.zones =
     omega (arith, at, c.requires.none, agrees.count, place-bound c.args.tag.now a.zones) in
     let zones : c.push_reserved.new.self.items ≡ c.args.self.now.zones.items
     ++ new_hub_zone c.args.tag.now (take n c.args.self.now.bank.pages) ∷ [] =
@@ -50,7 +50,7 @@ returns-clause-grows c = λ a agrees fits at.
     ∷ []) c.in_ok-reserve.ensures.items in
     record {
       agrees =
-          agrees-as _ (grown (with_zone_for c.args.tag.now a) (zone_of c.args.tag.now a.zones) n)
+          agrees-as _ (grown (with_zone_for c.args.tag.now a) (zone_for_tag c.args.tag.now a.zones) n)
           (grown (with_zone_for c.args.tag.now a) z n)
           (ap (λ (k : ℕ). grown (with_zone_for c.args.tag.now a) k n) (sym at))
           (agrees-new c.args.tag.now a none c.args.self.now _ n agrees fits.well zones (nested c)

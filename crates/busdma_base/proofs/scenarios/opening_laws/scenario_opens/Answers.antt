@@ -1,4 +1,4 @@
-use Rattle.busdma_base.proofs.Openings.{opening-may_begin, below-opening}
+use Rattle.busdma_base.proofs.OpeningLaws.{opening-may_begin, below-opening}
 use Rattle.busdma_base.proofs.scenarios.opening_laws.scenario_opens.Goals as goal
 
 pub returns-clause-may_begin : goal.returns-clause-may_begin

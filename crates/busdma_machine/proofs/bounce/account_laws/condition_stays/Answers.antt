@@ -1,4 +1,4 @@
-use Rattle.busdma_machine.proofs.Accounts.Shares.{MayCall-stays, frames-stay, SameFor-history}
+use Rattle.busdma_machine.proofs.Accounts.ShareLaws.{MayCall-stays, frames-stay, SameFor-history}
 use Rattle.busdma_machine.proofs.bounce.account_laws.condition_stays.Goals as goal
 
 pub returns-clause-may : goal.returns-clause-may

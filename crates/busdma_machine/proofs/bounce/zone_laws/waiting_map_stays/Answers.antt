@@ -1,4 +1,4 @@
-use Rattle.busdma_machine.proofs.Accounts.Shares.{names-history}
+use Rattle.busdma_machine.proofs.Accounts.ShareLaws.{names-history}
 use Rattle.busdma_machine.proofs.Accounts.Waiting.{stays-waiting}
 use Rattle.busdma_machine.proofs.bounce.zone_laws.waiting_map_stays.Goals as goal
 

@@ -1,5 +1,5 @@
 use Rattle.std.proofs.Common.{◌<◌, ◌+◌, ◌^◌, length, get_or, ap, sym, subst, ◌∙◌, arith}
-use Rattle.device_model.specs.Walking.{BeginsLow, rest_of}
+use Rattle.device_model.specs.AccessSteps.{BeginsLow, rest_of}
 use Rattle.device_model.proofs.Walk.{low_byte, next_run, no_segment, past_segment, some_segment}
 use Rattle.device_model.proofs.cursor.Cursor.next.Goals as goal
 

@@ -1,5 +1,5 @@
 use Rattle.std.proofs.Common.{◌≡◌, length, ◌-◌}
-use Rattle.device_model.specs.Walking.{rest_of}
+use Rattle.device_model.specs.AccessSteps.{rest_of}
 use Rattle.device_model.proofs.cursor.Cursor.next.Given as goal
 
 abbrev pub invariant-loop-self : goal.invariant-loop-self

@@ -2,7 +2,7 @@ use Rattle.std.proofs.Common.{◌≡◌, ◌+◌, ◌-◌, ◌<◌, ◌∙◌, [
 use Rattle.std.proofs.lemmas.List.{take_min, drop_min, drop_more}
 use Rattle.std.specs.List.{AllByRecursion}
 use Rattle.ring_device.specs.Ends.{EndsLow}
-use Rattle.busdma_rules.specs.Rings.Ranges.{address_of, byte_count}
+use Rattle.busdma_rules.specs.Rings.Ranges.{address_of, segments_byte_count}
 use Rattle.dma_map.specs.declared.part.Part.{Part}
 use Rattle.dma_map.specs.Parts.{ArePartsOf}
 use Rattle.dma_map.proofs.Parts.{address-behind-part, address-in-part, bytes-cut, low-behind}
@@ -20,7 +20,7 @@ returns-then-inside-part c =
     subst (λ ps. ArePartsOf most ps rest []) (drop_more parts index none inside) c.loop-part.invariant.cut in
     let first : c.split_at.result.0.now ≡ take most rest =
     c.split_at.ensures.front ∙ ap (λ n. take n rest) c.min.ensures ∙ take_min most rest in
-    let bytes : (get_or parts index none).bytes ≡ byte_count (take most rest) =
+    let bytes : (get_or parts index none).bytes ≡ segments_byte_count (take most rest) =
     cut.0.bytes (omega (arith, c.loop-part.invariant.short, bytes-cut most rest)) in
     c.address_of.ensures.address ∙ ap (address_of c.loop-part.inside c.args.len) first
     ∙ sym (address-in-part c.loop-part.inside c.args.len most rest (omega (arith, bytes, c.if-inside-part.true)))
@@ -38,11 +38,11 @@ loop-part-preserved c =
     subst (λ ps. ArePartsOf most ps rest []) (drop_more parts index none inside) c.loop-part.invariant.cut in
     let second : c.split_at.result.1.now ≡ drop most rest =
     c.split_at.ensures.back ∙ ap (λ n. drop n rest) c.min.ensures ∙ drop_min most rest in
-    let bytes : (get_or parts index none).bytes ≡ byte_count (take most rest) =
+    let bytes : (get_or parts index none).bytes ≡ segments_byte_count (take most rest) =
     cut.0.bytes (omega (arith, c.loop-part.invariant.short, bytes-cut most rest)) in
     record {
       cut = subst (λ ss. ArePartsOf most (drop (index + 1) parts) ss []) (sym second) cut.1;
-      short = omega (arith, c.loop-part.invariant.short, bytes-cut most rest, ap byte_count second);
+      short = omega (arith, c.loop-part.invariant.short, bytes-cut most rest, ap segments_byte_count second);
       low = subst (AllByRecursion EndsLow) (sym second) (low-behind most rest c.loop-part.invariant.low);
       address =
           c.loop-part.invariant.address

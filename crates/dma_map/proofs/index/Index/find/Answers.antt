@@ -1,12 +1,13 @@
 use Rattle.std.proofs.Common.{◌≡◌, ◌+◌, ◌<◌, ◌≤◌, ◌∙◌, [], length, take, drop, get_or, None, sym, subst, ap, arith}
 use Rattle.std.proofs.lemmas.List.{take_min, drop_min, drop_more, drop_all}
 use Rattle.std.specs.Option.{option_map}
-use Rattle.busdma_rules.specs.Rings.Ranges.{byte_count, place_of}
+use Rattle.busdma_rules.specs.Rings.Ranges.{segments_byte_count, place_of}
 use Rattle.dma_map.specs.declared.part.Part.{Part}
 use Rattle.dma_map.specs.Parts.{ArePartsOf}
 use Rattle.dma_map.proofs.Parts.{behind-part, bytes-cut, found-in-part, part-bytes, place-within}
 use Rattle.dma_map.proofs.index.Index.find.Goals as goal
-use Rattle.dma_map.proofs.index.Index.find.Goals.{else-may_have-via-else-may_have, else-may_have-via-then-may_have+in-None-1}
+use Rattle.dma_map.proofs.index.Index.find.Goals.{else-may_have-via-else-may_have}
+use Rattle.dma_map.proofs.index.Index.find.Goals.{else-may_have-via-then-may_have+in-None-1}
 
 pub overflow_add-result : goal.overflow_add-result
 overflow_add-result c =
@@ -39,7 +40,7 @@ loop-part-preserved c =
     c.split_at.ensures.front ∙ ap (λ n. take n rest) c.min.ensures ∙ take_min most rest in
     let second : c.split_at.result.1.now ≡ drop most rest =
     c.split_at.ensures.back ∙ ap (λ n. drop n rest) c.min.ensures ∙ drop_min most rest in
-    let bytes : (get_or parts index none).bytes ≡ byte_count (take most rest) =
+    let bytes : (get_or parts index none).bytes ≡ segments_byte_count (take most rest) =
     part-bytes most c.loop-part.before all rest (get_or parts index none) c.requires.short c.loop-part.invariant.bytes
     cut.0 in
     let passed : place_of c.args.addr c.args.len (take most rest) ≡ None =
@@ -52,7 +53,7 @@ loop-part-preserved c =
     ] in
     record {
       cut = subst (λ ss. ArePartsOf most (drop (index + 1) parts) ss []) (sym second) cut.1;
-      bytes = omega (arith, bytes, bytes-cut most rest, ap byte_count second);
+      bytes = omega (arith, bytes, bytes-cut most rest, ap segments_byte_count second);
       place =
           behind-part c.args.addr c.args.len c.loop-part.before most all rest c.loop-part.invariant.place passed
           ∙ ap (λ n. option_map (λ at. c.loop-part.before + n + at) (place_of c.args.addr c.args.len (drop most rest)))

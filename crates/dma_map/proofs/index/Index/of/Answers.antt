@@ -1,6 +1,6 @@
 use Rattle.std.proofs.Common.{◌≡◌, ◌<◌, ◌∙◌, [], ◌∷◌, ◌++◌, length, take, drop, sym, subst, ap, arith, length-set}
 use Rattle.std.proofs.lemmas.List.{take_min, drop_min, take_more_set}
-use Rattle.dma_map.specs.Parts.{ArePartsOf, IsPart}
+use Rattle.dma_map.specs.Parts.{ArePartsOf, IsMapPart}
 use Rattle.dma_map.proofs.Parts.{ArePartsOf-push}
 use Rattle.dma_map.proofs.index.Index.of.Goals as goal
 
@@ -18,7 +18,7 @@ loop-part-preserved c =
     c.split_at.ensures.back ∙ ap (λ n. drop n rest) c.min.ensures ∙ drop_min most rest in
     let more =
     ArePartsOf-push most (take index parts) part c.args.segments.now rest c.loop-part.invariant.cut
-    (subst (λ ss. IsPart ss part) first c.of.ensures) in
+    (subst (λ ss. IsMapPart ss part) first c.of.ensures) in
     record {
       sixteen = length-set parts index part ∙ c.loop-part.invariant.sixteen;
       cut =

@@ -3,7 +3,8 @@ use Rattle.std.proofs.lemmas.Nat.Bits.{shr_and_one}
 use Rattle.std.specs.Int.{bit_at}
 use Rattle.dma_map.proofs.Parts.{begins-before, ends-behind, in-no-page}
 use Rattle.dma_map.proofs.part.Part.may_have.Goals as goal
-use Rattle.dma_map.proofs.part.Part.may_have.Goals.{then-addr-self-via-then-addr-self, then-addr-self-via-else-addr-self+then-self-saturating_add}
+use Rattle.dma_map.proofs.part.Part.may_have.Goals.{then-addr-self-via-then-addr-self}
+use Rattle.dma_map.proofs.part.Part.may_have.Goals.{then-addr-self-via-else-addr-self+then-self-saturating_add}
 
 pub returns-then-addr-self : goal.returns-then-addr-self
 returns-then-addr-self c = λ segments is no.

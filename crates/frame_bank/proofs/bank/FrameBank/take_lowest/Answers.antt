@@ -16,7 +16,12 @@ invariant_of-self c =
         numbered =
             All-same (λ p. p.frame < 2 ^ 30) _ _ c.drop_first.ensures.left
             (All-drop (λ p. p.frame < 2 ^ 30) c.args.count items c.self.invariant.0.numbered);
-        roomy = omega (arith, ap length c.drop_first.ensures.left, length-drop c.args.count items, c.self.invariant.0.roomy);
+        roomy = omega (
+          arith,
+          ap length c.drop_first.ensures.left,
+          length-drop c.args.count items,
+          c.self.invariant.0.roomy,
+        );
         few = c.self.invariant.0.few;
       },
       omega arith,

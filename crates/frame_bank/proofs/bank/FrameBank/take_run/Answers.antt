@@ -7,7 +7,8 @@ use Rattle.std.proofs.lemmas.List.Elements.{All-same, All-append, All-take, All-
 use Rattle.busdma_machine.specs.Machine.PageList.{page_addresses}
 use Rattle.busdma_machine.specs.Bounce.History.{IsRising}
 use Rattle.busdma_machine.specs.Bounce.MemoryRuns.{frames_for, frames_from, lowest_run, in_run}
-use Rattle.frame_bank.specs.FrameBank.{Bank, free_frames, is_in_run, run_frames, frames_left, run_pages, pages_left}
+use Rattle.frame_bank.specs.FrameBank.{Bank, free_frames, is_in_bank_run}
+use Rattle.frame_bank.specs.FrameBank.{run_frames, frames_left, run_pages, pages_left}
 use Rattle.frame_bank.proofs.Rising.{rising_pages, rising_addresses}
 use Rattle.frame_bank.proofs.Taking.{TakenAt, begun_at, turned_back, rising_without}
 use Rattle.frame_bank.proofs.Taking.{filter-page_addresses}
@@ -96,7 +97,7 @@ pub returns-clause-pages : goal.returns-clause-pages
 returns-clause-pages c =
     ap (λ ps. Some ps) (part c ∙ sym (at_run c).run
     ∙ ap
-    (λ (b : Bank). filter (is_in_run (get_or (page_addresses c.self.inside.free.items) c.in-Some.at 0)
+    (λ (b : Bank). filter (is_in_bank_run (get_or (page_addresses c.self.inside.free.items) c.in-Some.at 0)
     (frames_for c.args.len)) b.pages) c.self.view_is)
     ∙ ap (λ r. run_pages r (frames_for c.args.len) c.args.self.now.pages) (sym (lowest c))
 
@@ -111,7 +112,7 @@ returns-clause-left c =
     rest c ∙ sym (at_run c).left
     ∙ ap
     (λ (b : Bank). filter
-    (λ p. not (is_in_run (get_or (page_addresses c.self.inside.free.items) c.in-Some.at 0)
+    (λ p. not (is_in_bank_run (get_or (page_addresses c.self.inside.free.items) c.in-Some.at 0)
     (frames_for c.args.len) p)) b.pages) c.self.view_is
     ∙ ap (λ r. pages_left r (frames_for c.args.len) c.args.self.now.pages) (sym (lowest c))
 

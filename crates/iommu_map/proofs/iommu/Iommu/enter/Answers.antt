@@ -1,6 +1,6 @@
 use Rattle.std.proofs.Common.{◌≡◌, length, Some, refl, ap, sym, subst, ◌∙◌, arith}
 use Rattle.std.specs.List.{insert}
-use Rattle.busdma_rules.specs.Iommu.Space.{AreRuns, DeviceRun, Space, first_free, gap, put_run}
+use Rattle.busdma_rules.specs.Iommu.Space.{AreSpaceRuns, DeviceRun, Space, first_free, gap, put_run}
 use Rattle.busdma_rules.proofs.Iommu.Runs.{free-is, free-none, gap-low, runs-put}
 use Rattle.iommu_map.proofs.iommu.Iommu.enter.Goals as goal
 
@@ -27,7 +27,7 @@ invariant_of-self-2 c =
     record {
       few = c.self.invariant.few;
       runs =
-          subst (λ rs. AreRuns 1 c.self.inside.pages rs) (sym put)
+          subst (λ rs. AreSpaceRuns 1 c.self.inside.pages rs) (sym put)
           (runs-put 1 s.pages k run s.runs c.self.invariant.runs (omega (arith, c.requires.some)) at refl
           (record {
             behind = omega (arith, at, gap-low 1 s.pages k s.runs c.self.invariant.runs);

@@ -1,6 +1,6 @@
 use Rattle.std.proofs.Common.{sym, ◌∙◌}
 use Rattle.lane_state.specs.Ideal.{ideal_of}
-use Rattle.lane_core.proofs.Appended.{ideal-after, ideal-kept, lane-after, ready-for, same-wire}
+use Rattle.lane_core.proofs.AppendingLaws.{ideal-after, ideal-kept, lane-after, ready-for, same-wire}
 use Rattle.lane_core.proofs.lane.Lane.append.Goals as goal
 
 pub append-requires-clause-place : goal.append-requires-clause-place

@@ -14,7 +14,8 @@ invariant_of-self c =
     let lane =
     called-lane h k
     (record { wired = l.wired; stands = l.stands; small = l.small; length = l.length; room = l.room })
-    (cpu_write-after h k l.wired (stands-of (ideal_of h) l.stands) c.args.place c.args.bytes.now c.cpu_write.result r.done r.wire r.err)
+    (cpu_write-after h k l.wired (stands-of (ideal_of h) l.stands) c.args.place c.args.bytes.now c.cpu_write.result
+    r.done r.wire r.err)
     r.script r.agenda in
     record {
       wired = lane.wired;

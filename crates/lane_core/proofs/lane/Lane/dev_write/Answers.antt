@@ -22,7 +22,8 @@ invariant_of-self c =
     let lane =
     called-lane h k
     (record { wired = l.wired; stands = l.stands; small = l.small; length = l.length; room = l.room })
-    (dev_write-after h k l.wired (stands-of (ideal_of h) l.stands) c.args.map.made_at c.args.off c.args.bytes.now c.dev_write.result r.done r.wire
+    (dev_write-after h k l.wired (stands-of (ideal_of h) l.stands) c.args.map.made_at c.args.off c.args.bytes.now
+    c.dev_write.result r.done r.wire
     r.err) r.script r.agenda in
     record {
       wired = lane.wired;
@@ -42,7 +43,7 @@ returns-then-not-owns-clause-done c =
 pub returns-then-not-owns-clause-wire : goal.returns-then-not-owns-clause-wire
 returns-then-not-owns-clause-wire c =
     let h = c.args.self.now.holdings in
-    sym (foreign-wire c.args.map (ideal_of h) (wires.dev_write c.args.map.made_at c.args.off c.args.bytes.now
+    sym (foreign-wire c.args.map (ideal_of h) (wires.wire_dev_write c.args.map.made_at c.args.off c.args.bytes.now
     (ideal_of h) (wire_of h)) (wire_of h)
     (sym c.owns.ensures ∙ c.if-not-owns.true))
 
@@ -58,7 +59,7 @@ pub returns-clause-wire : goal.returns-clause-wire
 returns-clause-wire c =
     let h = c.args.self.now.holdings in
     ok-map c.dev_write.result _ _ (λ a wire. wire
-    ∙ sym (own-wire c.args.map (ideal_of h) (wires.dev_write c.args.map.made_at c.args.off c.args.bytes.now
+    ∙ sym (own-wire c.args.map (ideal_of h) (wires.wire_dev_write c.args.map.made_at c.args.off c.args.bytes.now
     (ideal_of h) (wire_of h)) (wire_of h)
     (sym c.owns.ensures ∙ c.if-not-owns.false))) c.dev_write.ensures.wire
 

@@ -8,12 +8,13 @@ use Rattle.ideal_lane.specs.Ahead.{awaited_items, maps_items}
 use Rattle.ideal_lane.specs.State.{LaneMap}
 use Rattle.ideal_lane.specs.Opening.{opening_lane}
 use Rattle.ideal_lane.specs.Standing.{Stands}
-use Rattle.ideal_lane.proofs.Openings.{opens-standing}
+use Rattle.ideal_lane.proofs.OpeningLaws.{opens-standing}
 use Rattle.ideal_lane.proofs.Weights.{weigh-empty}
 use Rattle.lane_state.specs.declared.kept.KeptMemory.{KeptMemory}
 use Rattle.lane_state.specs.Covered.{items_left, pages_due}
 use Rattle.lane_state.specs.Held.{devices_of}
-use Rattle.lane_state.specs.Kept.{map_of, memory_of, return_of, ring_of, share_of, spaces_of, tag_of}
+use Rattle.lane_state.specs.Kept.{map_of, memory_of, return_of}
+use Rattle.lane_state.specs.Kept.{kept_ring, kept_share, spaces_of, tag_of}
 use Rattle.lane_state.specs.MapValues.{map_values}
 use Rattle.lane_state.proofs.MapValues.{map_values-empty}
 use Rattle.lane_state.proofs.OwnRuns.{AreKnown}
@@ -121,7 +122,7 @@ invariant_of-result-2-clause-wired c =
     let tags = ap (λ t. map_values tag_of t.map) c.in_ok-new.ensures ∙ map_values-empty tag_of in
     let maps = ap (λ t. map_values map_of t.map) c.in_ok-new-2.ensures ∙ map_values-empty map_of in
     let mems = ap (λ t. map_values memory_of t.map) c.in_ok-new-3.ensures ∙ map_values-empty memory_of in
-    let rings = ap (λ t. map_values ring_of t.map) c.in_ok-new-4.ensures ∙ map_values-empty ring_of in
+    let rings = ap (λ t. map_values kept_ring t.map) c.in_ok-new-4.ensures ∙ map_values-empty kept_ring in
     let spaces = ap (λ t. spaces_of t.map) c.in_ok-new.ensures ∙ spaces-empty in
     opens-wired c.args.id.0 c.args.maxmem c.args.driver.now _
     (λ i. record {
@@ -139,7 +140,7 @@ invariant_of-result-2-clause-wired c =
       loans = loans i;
       queue = (agenda i).queue;
       returns = map return_of (agenda i).returns;
-      shares = share_of (c.new-6.ensures.items i);
+      shares = kept_share (c.new-6.ensures.items i);
       spaces = spaces i;
     })
     (ap (λ t. t.map) c.in_ok-new-2.ensures) c.requires.memory.zero c.requires.script c.requires.pages
@@ -158,7 +159,7 @@ invariant_of-result-2-clause-stands c =
     let tags = ap (λ t. map_values tag_of t.map) c.in_ok-new.ensures ∙ map_values-empty tag_of in
     let maps = ap (λ t. map_values map_of t.map) c.in_ok-new-2.ensures ∙ map_values-empty map_of in
     let mems = ap (λ t. map_values memory_of t.map) c.in_ok-new-3.ensures ∙ map_values-empty memory_of in
-    let rings = ap (λ t. map_values ring_of t.map) c.in_ok-new-4.ensures ∙ map_values-empty ring_of in
+    let rings = ap (λ t. map_values kept_ring t.map) c.in_ok-new-4.ensures ∙ map_values-empty kept_ring in
     let spaces = ap (λ t. spaces_of t.map) c.in_ok-new.ensures ∙ spaces-empty in
     let is : _ ≡ opening_lane c.args.id.0 c.args.maxmem c.args.driver.now =
     (λ i. record {
@@ -176,7 +177,7 @@ invariant_of-result-2-clause-stands c =
       loans = loans i;
       queue = (agenda i).queue;
       returns = map return_of (agenda i).returns;
-      shares = share_of (c.new-6.ensures.items i);
+      shares = kept_share (c.new-6.ensures.items i);
       spaces = spaces i;
     }) in
     ∣ subst Stands (sym is) (opens-standing c.args.id.0 c.args.maxmem c.args.driver.now) ∣₁
@@ -217,7 +218,7 @@ returns c =
     let tags = ap (λ t. map_values tag_of t.map) c.in_ok-new.ensures ∙ map_values-empty tag_of in
     let maps = ap (λ t. map_values map_of t.map) c.in_ok-new-2.ensures ∙ map_values-empty map_of in
     let mems = ap (λ t. map_values memory_of t.map) c.in_ok-new-3.ensures ∙ map_values-empty memory_of in
-    let rings = ap (λ t. map_values ring_of t.map) c.in_ok-new-4.ensures ∙ map_values-empty ring_of in
+    let rings = ap (λ t. map_values kept_ring t.map) c.in_ok-new-4.ensures ∙ map_values-empty kept_ring in
     let spaces = ap (λ t. spaces_of t.map) c.in_ok-new.ensures ∙ spaces-empty in
     (λ i. record {
       id = c.args.id.0;
@@ -234,6 +235,6 @@ returns c =
       loans = loans i;
       queue = (agenda i).queue;
       returns = map return_of (agenda i).returns;
-      shares = share_of (c.new-6.ensures.items i);
+      shares = kept_share (c.new-6.ensures.items i);
       spaces = spaces i;
     })

@@ -2,10 +2,10 @@ use Rattle.std.proofs.Common.{◌≡◌, inl, inr, sym, ap, ◌∙◌, subst}
 use Rattle.ideal_lane.specs.State.{LaneState}
 use Rattle.lane_state.specs.Served.{IsServed}
 use Rattle.lane_core.specs.Appending.{with_next}
-use Rattle.lane_core.specs.LaneIdeal.{ideal, turned}
-use Rattle.lane_turns.specs.Turning.{is_held}
+use Rattle.lane_core.specs.LaneIdeal.{ideal, lane_turned}
+use Rattle.lane_turns.specs.TakenTurns.{is_held}
 use Rattle.lane_state.proofs.Doors.{err-map, ok-map}
-use Rattle.lane_core.proofs.Appended.{next-served, next-turned}
+use Rattle.lane_core.proofs.AppendingLaws.{next-served, next-turned}
 use Rattle.lane_core.proofs.lane.Lane.perform.Goals as goal
 
 pub turn-requires : goal.turn-requires
@@ -20,7 +20,7 @@ returns-clause-done g c =
     ok-map c.turn.result _ _
     (λ t made. next-turned (ideal c.args.self.now) (ideal c.append.new.self) c.args.op.now c.in_ok-append.ensures.ok
     c.requires.may.ready c.requires.free (g.D.HubDoor.seen c.args.door.now) (g.D.HubDoor.seen c.turn.new.door)
-    (turned c.turn.new.self t) (is_held t) made) c.turn.ensures.done
+    (lane_turned c.turn.new.self t) (is_held t) made) c.turn.ensures.done
 
 pub returns-clause-err : goal.returns-clause-err
 returns-clause-err g c = err-map c.turn.result (λ same. inr (same ∙ c.in_ok-append.ensures.ok)) c.turn.ensures.err

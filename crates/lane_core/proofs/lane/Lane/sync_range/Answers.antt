@@ -19,7 +19,8 @@ invariant_of-self c =
     let lane =
     called-lane h k
     (record { wired = l.wired; stands = l.stands; small = l.small; length = l.length; room = l.room })
-    (sync_range-after h k l.wired (stands-of (ideal_of h) l.stands) c.args.map.made_at c.args.off c.args.len c.args.ops.0 c.sync_range.result r.done
+    (sync_range-after h k l.wired (stands-of (ideal_of h) l.stands) c.args.map.made_at c.args.off c.args.len
+    c.args.ops.0 c.sync_range.result r.done
     r.wire r.err) r.script r.agenda in
     record {
       wired = lane.wired;
@@ -39,7 +40,8 @@ returns-then-not-owns-clause-done c =
 pub returns-then-not-owns-clause-wire : goal.returns-then-not-owns-clause-wire
 returns-then-not-owns-clause-wire c =
     let h = c.args.self.now.holdings in
-    sym (foreign-wire c.args.map (ideal_of h) (wires.sync_range c.args.map.made_at c.args.off c.args.len c.args.ops.0
+    sym (foreign-wire c.args.map (ideal_of h) (wires.wire_sync_range c.args.map.made_at c.args.off c.args.len
+    c.args.ops.0
     (ideal_of h) (wire_of h)) (wire_of h)
     (sym c.owns.ensures ∙ c.if-not-owns.true))
 
@@ -55,7 +57,7 @@ pub returns-clause-wire : goal.returns-clause-wire
 returns-clause-wire c =
     let h = c.args.self.now.holdings in
     ok-map c.sync_range.result _ _ (λ a wire. wire
-    ∙ sym (own-wire c.args.map (ideal_of h) (wires.sync_range c.args.map.made_at c.args.off c.args.len c.args.ops.0
+    ∙ sym (own-wire c.args.map (ideal_of h) (wires.wire_sync_range c.args.map.made_at c.args.off c.args.len c.args.ops.0
     (ideal_of h) (wire_of h)) (wire_of h)
     (sym c.owns.ensures ∙ c.if-not-owns.false))) c.sync_range.ensures.wire
 

@@ -31,7 +31,8 @@ returns-clause-done g c = ok-map c.take_turn.result _ _ (λ t made. made.done) c
 pub returns-clause-wire : goal.returns-clause-wire
 returns-clause-wire g c =
     let l = c.args.self.now in
-    follows-after l.holdings c.take_turn.new.holdings (g.D.HubDoor.seen c.args.door.now) (g.D.HubDoor.seen c.take_turn.new.door)
+    follows-after l.holdings c.take_turn.new.holdings (g.D.HubDoor.seen c.args.door.now)
+    (g.D.HubDoor.seen c.take_turn.new.door)
     c.args.side (record {
       stands = stands-of (ideal_of l.holdings) l.stands;
       wired = l.wired;

@@ -2,8 +2,8 @@ use Rattle.std.proofs.Common.{◌≡◌, ◌++◌, [], ◌∷◌, false, ap, ◌
 use Rattle.ideal_lane.specs.Turns.{lane_step}
 use Rattle.lane_turns.specs.declared.turn.Turn.{Turn}
 use Rattle.lane_turns.specs.declared.turn.Turn.TheVariants.{Blocked, Ended}
-use Rattle.lane_core.specs.LaneIdeal.{ideal, turned}
-use Rattle.lane_turns.specs.Turning.{IsTurned, answered, is_held}
+use Rattle.lane_core.specs.LaneIdeal.{ideal, lane_turned}
+use Rattle.lane_turns.specs.TakenTurns.{IsTurned, answered, is_held}
 use Rattle.ideal_runs.specs.Merged.{logged}
 use Rattle.lane_rounds.proofs.Shapes.{is_step}
 use Rattle.lane_rounds.proofs.Working.{grows-one, work-fails, work-stays, work-steps}
@@ -26,7 +26,7 @@ returns-in-Stepped-clause-works g c =
     c.push_back_reserved.new.self.items c.args.side d e c.requires c.in_ok-turn.ensures.served c.in-Stepped.entry
     c.in-Stepped.held
     (subst (λ (t : Turn). IsTurned d (ideal w.lane).id (lane_step (ideal w.lane) c.args.side)
-    (turned c.turn.new.self t) (is_held t) e) c.in-Stepped.is c.in_ok-turn.ensures.done)
+    (lane_turned c.turn.new.self t) (is_held t) e) c.in-Stepped.is c.in_ok-turn.ensures.done)
     (c.push_back_reserved.ensures.items ∙ (λ i. c.reserve.ensures.items i ++ c.new.ensures i ∷ []))
 
 pub returns-in-Stepped-clause-grew : goal.returns-in-Stepped-clause-grew

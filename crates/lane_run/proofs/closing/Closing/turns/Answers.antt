@@ -1,7 +1,7 @@
 use Rattle.std.proofs.Common.{ap, subst}
 use Rattle.std.proofs.lemmas.List.{take_all}
 use Rattle.lane_run.specs.Closing.{HaveTurned}
-use Rattle.lane_run.proofs.Closings.{turned-first, turned-more}
+use Rattle.lane_run.proofs.ClosingLaws.{turned-first, turned-more}
 use Rattle.world_core.specs.Ideal.{ideal_world}
 use Rattle.lane_run.proofs.closing.Closing.turns.Goals as goal
 

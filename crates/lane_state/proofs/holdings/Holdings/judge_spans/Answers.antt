@@ -4,8 +4,8 @@ use Rattle.busdma_machine.specs.declared.machine.address.Span.{Span}
 use Rattle.busdma_machine.specs.Machine.Spans.{span_addresses}
 use Rattle.busdma_machine.specs.Runs.{run_of}
 use Rattle.loan_table.proofs.Judgement.{length-run_of}
-use Rattle.phys_memory.proofs.Vectors.{bytes_here}
-use Rattle.phys_memory.specs.Memory.{physical}
+use Rattle.phys_memory.proofs.VectorLaws.{bytes_here}
+use Rattle.phys_memory.specs.Memory.{memory_physical}
 use Rattle.lane_state.specs.Ideal.{ideal_of}
 use Rattle.lane_state.specs.Judging.{foreign_bytes}
 use Rattle.lane_state.proofs.Foreign.{first-judged, only-fine, rest-of-spans, then-judged}
@@ -43,7 +43,7 @@ loop-span-preserved c =
       total = omega (
         arith,
         loop.invariant.total,
-        bytes_here (physical m) [] loop.offset spans loop.span-index no_span c.loop-span-test.true,
+        bytes_here (memory_physical m) [] loop.offset spans loop.span-index no_span c.loop-span-test.true,
       );
       judged = ap (λ n. foreign_bytes l c.args.map (loop.offset + n) (span_addresses rest)) (sym len)
           ∙ sym (then-judged _ loop.offset (run_of s.va.0 s.len) (span_addresses rest)

@@ -3,7 +3,7 @@ use Rattle.busdma_machine.specs.Runs.{addresses, byte_count, run_of}
 use Rattle.loan_table.specs.Table.{AreIn}
 use Rattle.phys_memory.specs.declared.walk.Walked.{Walked}
 use Rattle.phys_memory.specs.Frames.{Lie}
-use Rattle.phys_memory.specs.Memory.{physical}
+use Rattle.phys_memory.specs.Memory.{memory_physical}
 use Rattle.busdma_rules.specs.Memory.Translation.{physical_or_0}
 use Rattle.phys_memory.specs.Walk.{IfParts, verdict}
 use Rattle.lane_state.proofs.Nowhere.{nowhere-bytes, nowhere-len, nowhere-parts, nowhere-verdict}
@@ -30,7 +30,7 @@ returns-else-va-lt-END-clause-verdict c =
 
 pub returns-else-va-lt-END-clause-addresses : goal.returns-else-va-lt-END-clause-addresses
 returns-else-va-lt-END-clause-addresses c =
-    let f = physical_or_0 (physical c.args.self.now.memory.memory) in
+    let f = physical_or_0 (memory_physical c.args.self.now.memory.memory) in
     subst (λ (w : Walked). IfParts w (λ es. addresses es ≡ map f (run_of c.args.va c.args.len)))
     (sym c.unreached.ensures) (nowhere-bytes f c.args.va c.args.len)
 

@@ -1,5 +1,5 @@
 use Rattle.std.proofs.Common.{◌≡◌, ◌+◌, ◌≤◌, ◌<◌, ◌^◌, ◌++◌, ap, length, refl, arith, length-append}
-use Rattle.busdma_base.specs.Scenarios.Queues.{queued_items as queued}
+use Rattle.busdma_base.specs.Scenarios.Queues.{queued_items}
 use Rattle.lane_tables.proofs.QueueLemmas.{length-queued_from}
 use Rattle.lane_tables.proofs.agenda.Agenda.push_items.Goals as goal
 
@@ -10,7 +10,7 @@ invariant_of-self c =
     omega (
       arith,
       ap length c.push_all.ensures.items,
-      length-append c.self.inside.queue.items (queued c.args.load_at c.args.items),
+      length-append c.self.inside.queue.items (queued_items c.args.load_at c.args.items),
       length-queued_from c.args.load_at 0 c.args.items,
     ) in
     record {

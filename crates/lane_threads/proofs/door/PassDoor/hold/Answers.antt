@@ -1,6 +1,6 @@
 use Rattle.std.proofs.Common.{ap, ◌∙◌, subst}
 use Rattle.lane_threads.specs.Closing.{LanePass}
-use Rattle.lane_threads.specs.PassDoor.{seen, place_of, Replied}
+use Rattle.lane_threads.specs.PassDoor.{seen, door_place, Replied}
 use Rattle.lane_threads.proofs.Turning.{turn_replied}
 use Rattle.lane_threads.proofs.door.PassDoor.hold.Goals as goal
 
@@ -11,4 +11,4 @@ returns-clause-replied g c =
     c.hold.ensures.turn c.hold.ensures.sound)
 
 pub returns-clause-fixed : goal.returns-clause-fixed
-returns-clause-fixed g c = ap place_of (c.hold.ensures.turn.rest) ∙ ap place_of c.self.view_is
+returns-clause-fixed g c = ap door_place (c.hold.ensures.turn.rest) ∙ ap door_place c.self.view_is

@@ -2,14 +2,14 @@ use Rattle.std.proofs.Common.{◌≡◌, [], ◌∷◌, Option, rules, subst}
 use Rattle.busdma_machine.specs.Machine.PageList.{page_address, page_addresses}
 use Rattle.lane_agreement.specs.View.{OwnMap, Waiting, Loaded, Returning}
 use Rattle.lane_threads.specs.PassDoor.{seen}
-use Rattle.lane_threads_tests.specs.Knowing.{Knows, HasMaps, in_zone}
+use Rattle.lane_threads_tests.specs.Knowing.{Knows, HasMaps, is_known_in_zone}
 use Rattle.lane_threads_tests.proofs.Pages.{two_pages}
 use Rattle.lane_threads_tests.proofs.Table.{back}
 use Rattle.lane_threads_tests.proofs.TableCalls.{unload_first, may_give_back, first_back, second_back}
 use Rattle.lane_threads_tests.proofs.tests.two_doors.release_pages.Goals as goal
 
 abbrev waits : Option OwnMap
-waits = in_zone 0 (Waiting 2)
+waits = is_known_in_zone 0 (Waiting 2)
 
 pub release-requires : goal.release-requires
 release-requires g c =
@@ -19,8 +19,9 @@ release-requires g c =
     let are : page_addresses c.args.pages.items ≡ p ∷ q ∷ [] =
     two_pages c.args.pages.items c.pop.new.self.items c.pop-2.new.self.items c.in-Some-pop.first c.in-Some.second
     c.in-Some.ensures.some c.in-Some-pop.ensures.some none in
-    may_give_back d d (in_zone 0 Returning) waits p (back q ∷ []) (unload_first d d (in_zone 0 Returning) waits p q
-    (subst (λ ps. Knows 0 (HasMaps (in_zone 0 (Loaded ps)) waits []) d) are c.requires))
+    may_give_back d d (is_known_in_zone 0 Returning) waits p (back q ∷ [])
+    (unload_first d d (is_known_in_zone 0 Returning) waits p q
+    (subst (λ ps. Knows 0 (HasMaps (is_known_in_zone 0 (Loaded ps)) waits []) d) are c.requires))
 
 pub release-requires-2 : goal.release-requires-2
 release-requires-2 g c =
@@ -30,9 +31,9 @@ release-requires-2 g c =
     let are : page_addresses c.args.pages.items ≡ p ∷ q ∷ [] =
     two_pages c.args.pages.items c.pop.new.self.items c.pop-2.new.self.items c.in-Some-pop.first c.in-Some.second
     c.in-Some.ensures.some c.in-Some-pop.ensures.some none in
-    let start = unload_first d d (in_zone 0 Returning) waits p q
-    (subst (λ ps. Knows 0 (HasMaps (in_zone 0 (Loaded ps)) waits []) d) are c.requires) in
-    may_give_back e e (in_zone 0 Returning) waits q []
+    let start = unload_first d d (is_known_in_zone 0 Returning) waits p q
+    (subst (λ ps. Knows 0 (HasMaps (is_known_in_zone 0 (Loaded ps)) waits []) d) are c.requires) in
+    may_give_back e e (is_known_in_zone 0 Returning) waits q []
     (first_back d e waits p q c.release.result start c.release.ensures.held)
 
 pub returns-clause-maps : goal.returns-clause-maps
@@ -43,7 +44,7 @@ returns-clause-maps g c =
     let are : page_addresses c.args.pages.items ≡ p ∷ q ∷ [] =
     two_pages c.args.pages.items c.pop.new.self.items c.pop-2.new.self.items c.in-Some-pop.first c.in-Some.second
     c.in-Some.ensures.some c.in-Some-pop.ensures.some none in
-    let start = unload_first d d (in_zone 0 Returning) waits p q
-    (subst (λ ps. Knows 0 (HasMaps (in_zone 0 (Loaded ps)) waits []) d) are c.requires) in
+    let start = unload_first d d (is_known_in_zone 0 Returning) waits p q
+    (subst (λ ps. Knows 0 (HasMaps (is_known_in_zone 0 (Loaded ps)) waits []) d) are c.requires) in
     second_back e f waits p q c.release-2.result
     (first_back d e waits p q c.release.result start c.release.ensures.held) c.release-2.ensures.held

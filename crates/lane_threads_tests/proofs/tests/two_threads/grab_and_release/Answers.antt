@@ -2,7 +2,7 @@ use Rattle.std.proofs.Common.{◌≡◌, true, [], ◌∷◌, rules, subst}
 use Rattle.busdma_machine.specs.declared.bounce.hold.HubCall.TheVariants.{Grab}
 use Rattle.busdma_machine.specs.declared.bounce.hold.HubReply.TheVariants.{Granted}
 use Rattle.busdma_machine.specs.Bounce.AccountStep.{as_pages}
-use Rattle.busdma_machine.specs.Bounce.Door.{Holds, grab_reply}
+use Rattle.busdma_machine.specs.Bounce.Door.{HoldsAtDoor, grab_reply}
 use Rattle.busdma_machine.specs.Machine.PageList.{page_address, page_addresses}
 use Rattle.lane_threads.specs.PassDoor.{seen}
 use Rattle.lane_threads_tests.proofs.Pages.{one_page}
@@ -18,8 +18,8 @@ release-requires g c =
     let is : page_addresses c.in-Granted.pages.items ≡ p ∷ [] =
     one_page c.in-Granted.pages.items c.pop.new.self.items page c.in_ok-page.ensures.some none in
     let granted =
-    subst (λ r. Holds d m.lane.0 (Grab m zone 1 true) (grab_reply r) e) c.in-Granted.is c.in-Ok.ensures.held in
-    let held = subst (λ ps. Holds d m.lane.0 (Grab m zone 1 true) (Granted (as_pages ps)) e) is granted in
+    subst (λ r. HoldsAtDoor d m.lane.0 (Grab m zone 1 true) (grab_reply r) e) c.in-Granted.is c.in-Ok.ensures.held in
+    let held = subst (λ ps. HoldsAtDoor d m.lane.0 (Grab m zone 1 true) (Granted (as_pages ps)) e) is granted in
     may_give_back m e e p (grabbed_one m d e c.requires p held)
 
 pub returns-clause-idle : goal.returns-clause-idle
@@ -31,6 +31,6 @@ returns-clause-idle g c =
     let is : page_addresses c.in-Granted.pages.items ≡ p ∷ [] =
     one_page c.in-Granted.pages.items c.pop.new.self.items page c.in_ok-page.ensures.some none in
     let granted =
-    subst (λ r. Holds d m.lane.0 (Grab m zone 1 true) (grab_reply r) e) c.in-Granted.is c.in-Ok.ensures.held in
-    let held = subst (λ ps. Holds d m.lane.0 (Grab m zone 1 true) (Granted (as_pages ps)) e) is granted in
+    subst (λ r. HoldsAtDoor d m.lane.0 (Grab m zone 1 true) (grab_reply r) e) c.in-Granted.is c.in-Ok.ensures.held in
+    let held = subst (λ ps. HoldsAtDoor d m.lane.0 (Grab m zone 1 true) (Granted (as_pages ps)) e) is granted in
     given_one m e f p c.release.result (grabbed_one m d e c.requires p held) c.release.ensures.held

@@ -1,7 +1,7 @@
 use Rattle.std.proofs.Common.{map, ap, arith}
-use Rattle.loan_table.specs.Counted.{places}
+use Rattle.loan_table.specs.Counted.{counted_places}
 use Rattle.loan_table.specs.Kinds.{test_of}
-use Rattle.busdma_rules.specs.Lending.Syncing.{marked}
+use Rattle.busdma_rules.specs.Lending.SyncEffects.{marked}
 use Rattle.loan_table.proofs.Pieces.{nothing, span_marked, span_places, whole}
 use Rattle.loan_table.proofs.lent.LentCounts.mark.Goals as goal
 
@@ -49,8 +49,8 @@ loop-at-preserved c =
 pub returns-clause-counts : goal.returns-clause-counts
 returns-clause-counts c way a =
     let none = nothing c.loop-at.at c.end_of-end.result c.args.row.now.positions (omega arith) in
-    let left = ap (places (test_of way) a) none in
-    let after = ap (λ xs. places (test_of way) a (map (marked c.args.ops.0) xs)) none in
+    let left = ap (counted_places (test_of way) a) none in
+    let after = ap (λ xs. counted_places (test_of way) a (map (marked c.args.ops.0) xs)) none in
     omega (arith, left, after, c.loop-at.invariant.counted way a)
 
 pub returns-clause-room : goal.returns-clause-room

@@ -13,7 +13,8 @@ returns-then-len c =
     let buffer = c.self.inside.buffer in
     let range = rw (← c.self.view_is) at c.requires in
     let first : c.args.off ≡ 0 = omega (arith, range, length-placed r w 0 buffer, c.len.ensures, c.if-len.true) in
-    let all : stretch 0 c.args.len buffer ≡ buffer = take_all c.args.len buffer (omega (arith, c.len.ensures, c.if-len.true)) in
+    let all : stretch 0 c.args.len buffer ≡ buffer =
+    take_all c.args.len buffer (omega (arith, c.len.ensures, c.if-len.true)) in
     rw (← c.self.view_is) (c.self.invariant.parted
     ∙ sym (ap extent_count (bytes_between r w c.args.off c.args.len buffer ∙ ap (λ k. stretch k c.args.len buffer) first
     ∙ all)))
@@ -21,7 +22,12 @@ returns-then-len c =
 pub extent_count-requires : goal.extent_count-requires
 extent_count-requires c =
     let range = rw (← c.self.view_is) at c.requires in
-    omega (arith, range, length-placed (member c.self.inside.to_read.edges) (member c.self.inside.to_write.edges) 0 c.self.inside.buffer)
+    omega (
+      arith,
+      range,
+      length-placed (member c.self.inside.to_read.edges) (member c.self.inside.to_write.edges) 0
+          c.self.inside.buffer,
+    )
 
 pub returns : goal.returns
 returns c =

@@ -4,7 +4,7 @@ use Rattle.loan_table.specs.Kept.{position_count}
 use Rattle.busdma_rules.specs.Lending.Loans.{addresses_of}
 use Rattle.loan_table.specs.Table.{AreIn}
 use Rattle.loan_table.specs.Trees.{closed}
-use Rattle.loan_table.proofs.Marking.{take_loan}
+use Rattle.loan_table.proofs.MarkLaws.{take_loan}
 use Rattle.loan_table.proofs.Results.{is_none}
 use Rattle.loan_table.proofs.Rooms.{count_taken, left_by_map, count_room_less}
 use Rattle.loan_table.proofs.Trees.{loans_in-change, opened_stay}
@@ -38,7 +38,8 @@ invariant_of-self c =
       room = left_by_map c.self.inside.bytes c.self.inside.bytes c.self.inside.positions _ c.self.inside.spare
           c.positions_of.result c.self.invariant.room (omega (arith, sum)) (omega arith) refl;
       lent_counted = subst (IsCounted c.self.inside.lent) (sym (opened_stay es c.remove-gone.new.self.entries map
-          (is_none _ (rw (← c.self.view_is) at c.requires)) c.remove-gone.ensures.updates.0)) c.self.invariant.lent_counted;
+          (is_none _ (rw (← c.self.view_is) at c.requires)) c.remove-gone.ensures.updates.0))
+          c.self.invariant.lent_counted;
       idle = λ m. rw (loans_in-change false es c.remove-gone.new.self.entries map None
           c.remove-gone.ensures.updates.0)
           (take_loan LendsNothing (closed c.self.inside.loans) map (λ way a. refl) c.self.invariant.idle m);

@@ -1,5 +1,5 @@
 use Rattle.std.proofs.Common.{◌≡◌, ◌+◌, length, ap, sym, ◌∙◌, subst, true, false, is_some, refl, None, arith, []}
-use Rattle.loan_table.specs.Counted.{IsCounted, IsRecounted, Holds}
+use Rattle.loan_table.specs.Counted.{IsCounted, IsRecounted, HoldsCount}
 use Rattle.loan_table.proofs.Recounting.{counted_without, held_loan}
 use Rattle.std.specs.List.{filter}
 use Rattle.loan_table.specs.Kept.{AreLow, position_count}
@@ -8,7 +8,7 @@ use Rattle.loan_table.specs.Table.{AreIn, set_all}
 use Rattle.loan_table.specs.Trees.{loans_in}
 use Rattle.loan_table.proofs.Addresses.{AreIn-set_all, AreLow-set_all}
 use Rattle.loan_table.proofs.LoansInTree.{loan_found}
-use Rattle.loan_table.proofs.Marking.{take_loan, AreIn-filter}
+use Rattle.loan_table.proofs.MarkLaws.{take_loan, AreIn-filter}
 use Rattle.loan_table.proofs.Rooms.{count_removed, left_by_map, count_room_less}
 use Rattle.loan_table.proofs.Trees.{closed_stay, is_there, loans_in-change, open_there}
 use Rattle.loan_table.proofs.table.LoanTable.forget.Goals as goal
@@ -37,7 +37,7 @@ lose_lent-requires-clause-room c =
 pub uncount-requires-clause-held : goal.uncount-requires-clause-held
 uncount-requires-clause-held c =
     let at = sym c.remove.ensures.value ∙ c.unwrap-slot.ensures in
-    rw c.into_row-row.ensures (subst (λ (l : Loan). Holds c.self.inside.lent l.positions)
+    rw c.into_row-row.ensures (subst (λ (l : Loan). HoldsCount c.self.inside.lent l.positions)
     (loan_found c.self.inside.loans.entries c.args.map.made_at _ at
     (open_there _ _ _ at (rw (← c.self.view_is) at c.requires)))
     (held_loan c.self.inside.lent (loans_in true c.self.inside.loans.entries) c.args.map.made_at
@@ -50,7 +50,13 @@ uncount-requires-clause-room c way =
     ap (λ es. position_count es + length c.unwrap-slot.result.row.positions) c.remove.ensures.entries
     ∙ count_removed c.self.inside.loans.entries _ c.unwrap-slot.result (sym c.remove.ensures.value
     ∙ c.unwrap-slot.ensures) ∙ c.self.invariant.counted in
-    omega (arith, sum, ap (λ (l : Loan). length l.positions) c.into_row-row.ensures, c.self.invariant.count_room.forgets way)
+    omega (
+      arith,
+      sum,
+      ap (λ (l : Loan). length l.positions) c.into_row-row.ensures,
+      c.self.invariant.count_room.forgets
+          way,
+    )
 
 pub overflow_sub-self : goal.overflow_sub-self
 overflow_sub-self c =

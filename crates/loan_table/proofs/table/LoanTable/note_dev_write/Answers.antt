@@ -4,7 +4,7 @@ use Rattle.busdma_machine.specs.Machine.Wire.{stretch}
 use Rattle.busdma_rules.specs.Lending.Loans.{loan_of, addresses_of}
 use Rattle.loan_table.specs.Trees.{opened}
 use Rattle.loan_table.proofs.Addresses.{AreIn-set_all, AreLow-set_all}
-use Rattle.loan_table.proofs.Marking.{AreIn-range}
+use Rattle.loan_table.proofs.MarkLaws.{AreIn-range}
 use Rattle.loan_table.proofs.Rooms.{count_bound, needs_spare, used_bytes, room_kept}
 use Rattle.loan_table.proofs.table.LoanTable.note_dev_write.Goals as goal
 

@@ -5,7 +5,7 @@ use Rattle.loan_table.proofs.Trees.{not_open}
 use Rattle.busdma_rules.specs.Lending.Loans.{loan_of, addresses_of}
 use Rattle.loan_table.specs.Table.{AreIn}
 use Rattle.loan_table.specs.Trees.{closed, opened}
-use Rattle.loan_table.proofs.Marking.{put_loan, take_loan}
+use Rattle.loan_table.proofs.MarkLaws.{put_loan, take_loan}
 use Rattle.loan_table.proofs.table.LoanTable.open_map.Goals as goal
 
 pub invariant_of-self : goal.invariant_of-self

@@ -12,7 +12,7 @@ use Rattle.busdma_rules.specs.Lending.Loans.{Loan, addresses_of, no_loan}
 use Rattle.loan_table.specs.Table.{AreIn}
 use Rattle.loan_table.specs.Trees.{closed, opened, with_value, loan_if, loans_in}
 use Rattle.loan_table.proofs.Addresses.{AllEnd}
-use Rattle.loan_table.proofs.Marking.{with_loan, addresses_of-unlent}
+use Rattle.loan_table.proofs.MarkLaws.{with_loan, addresses_of-unlent}
 use Rattle.loan_table.proofs.Rooms.{count_put, room_made, count_room_made}
 use Rattle.loan_table.specs.Counted.{IsCounted, LendsNothing}
 use Rattle.loan_table.proofs.Recounting.{counted_with, none_lent}
@@ -99,7 +99,13 @@ invariant_of-self-2 c =
           (with_loan (λ ps. AreIn bytes (addresses_of ps)) _ map (loan_if false slot)
           (inside_closed bytes c.args.is_open c.in_ok-row.row there) c.self.invariant.prepared m);
       low = subst AreLow (sym c.reserve.ensures.bytes) c.self.invariant.low;
-      counted = omega (arith, sum, c.in_ok-positions.ensures, (rw c.as_row.ensures at c.len.ensures), c.self.invariant.counted);
+      counted = omega (
+        arith,
+        sum,
+        c.in_ok-positions.ensures,
+        (rw c.as_row.ensures at c.len.ensures),
+        c.self.invariant.counted,
+      );
       room =
           room_made c.reserve.new.self (c.in_ok-positions.positions - c.positions_of.result) c.self.inside.spare
           (omega (arith, c.in_ok-edges_for.ensures, c.in_ok-reserve.ensures.ok))

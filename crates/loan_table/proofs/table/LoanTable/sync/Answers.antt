@@ -1,11 +1,11 @@
 use Rattle.std.proofs.Common.{◌+◌, ◌≤◌, length, false, sym, subst, ◌∙◌, arith}
 use Rattle.loan_table.specs.Kept.{AreLow}
-use Rattle.busdma_rules.specs.Lending.Syncing.{lost}
+use Rattle.busdma_rules.specs.Lending.SyncEffects.{lost}
 use Rattle.busdma_rules.specs.Lending.Loans.{loan_of}
 use Rattle.loan_table.specs.Trees.{opened}
 use Rattle.loan_table.proofs.Addresses.{AreIn-set_all, AreLow-set_all}
 use Rattle.busdma_rules.proofs.Lending.Marking.{addresses_of-synced}
-use Rattle.loan_table.proofs.Marking.{AreIn-lost}
+use Rattle.loan_table.proofs.MarkLaws.{AreIn-lost}
 use Rattle.loan_table.proofs.Rooms.{count_bound, needs_spare, used_bytes, count_room_used}
 use Rattle.loan_table.proofs.table.LoanTable.sync.Goals as goal
 

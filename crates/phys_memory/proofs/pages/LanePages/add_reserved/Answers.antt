@@ -1,6 +1,7 @@
 use Rattle.std.proofs.Common.{◌/◌, arith, ◌≡◌, Bool, true, false, ap, sym, ◌∙◌, subst, if◌then◌else◌, ◌<◌, ◌^◌}
 use Rattle.std.specs.Prelude.{Some, None}
-use Rattle.phys_memory.specs.Memory.{Roomy, IsMemory, has_frame, has_page, with_page}
+use Rattle.phys_memory.specs.Memory.{RoomyFrames as Roomy, IsMemory}
+use Rattle.phys_memory.specs.Memory.{memory_has_frame, memory_has_page, with_page}
 use Rattle.phys_memory.specs.Kept.{memory_of}
 use Rattle.phys_memory.proofs.Kept.{has_page-kept, memory_with_page}
 use Rattle.phys_memory.proofs.Changes.{memory_put, place_put}
@@ -11,8 +12,8 @@ use Rattle.phys_memory.proofs.pages.LanePages.add_reserved.Goals as goal
 pub returns-then-contains_key-clause-answer : goal.returns-then-contains_key-clause-answer
 returns-then-contains_key-clause-answer c =
     let m = c.self.inside in
-    let taken : has_page c.args.self.now.memory c.args.va.0 ≡ true =
-    ap (λ (r : Roomy). has_page r.memory c.args.va.0) (sym c.self.view_is)
+    let taken : memory_has_page c.args.self.now.memory c.args.va.0 ≡ true =
+    ap (λ (r : Roomy). memory_has_page r.memory c.args.va.0) (sym c.self.view_is)
     ∙ has_page-kept m.table.entries m.frames.entries c.args.va.0
     ∙ sym c.contains_key.ensures ∙ c.if-contains_key.true in
     ap (λ (b : Bool). if b then Some c.args.page else None) (sym taken)
@@ -20,8 +21,8 @@ returns-then-contains_key-clause-answer c =
 pub returns-then-contains_key-clause-memory : goal.returns-then-contains_key-clause-memory
 returns-then-contains_key-clause-memory c =
     let m = c.self.inside in
-    let taken : has_page c.args.self.now.memory c.args.va.0 ≡ true =
-    ap (λ (r : Roomy). has_page r.memory c.args.va.0) (sym c.self.view_is)
+    let taken : memory_has_page c.args.self.now.memory c.args.va.0 ≡ true =
+    ap (λ (r : Roomy). memory_has_page r.memory c.args.va.0) (sym c.self.view_is)
     ∙ has_page-kept m.table.entries m.frames.entries c.args.va.0
     ∙ sym c.contains_key.ensures ∙ c.if-contains_key.true in
     ap (λ (b : Bool). if b then c.args.self.now.memory
@@ -33,11 +34,11 @@ invariant_of-self c =
     let old = memory_of m.table.entries m.frames.entries in
     let rows = rw c.unwrap.ensures at c.insert-row.ensures.updates in
     let pages = rw c.unwrap-2.ensures at c.insert-kept.ensures.updates in
-    let free : has_page old c.args.va.0 ≡ false =
+    let free : memory_has_page old c.args.va.0 ≡ false =
     has_page-kept m.table.entries m.frames.entries c.args.va.0
     ∙ sym c.contains_key.ensures ∙ c.if-contains_key.false in
-    let fresh : has_frame old c.args.page.frame ≡ false =
-    ap (λ (r : Roomy). has_frame r.memory c.args.page.frame) c.self.view_is ∙ c.requires.fresh in
+    let fresh : memory_has_frame old c.args.page.frame ≡ false =
+    ap (λ (r : Roomy). memory_has_frame r.memory c.args.page.frame) c.self.view_is ∙ c.requires.fresh in
     let whole = c.whole_frame-frame.ensures in
     record {
       memory =
@@ -56,8 +57,8 @@ invariant_of-self c =
 pub returns-clause-answer : goal.returns-clause-answer
 returns-clause-answer c =
     let m = c.self.inside in
-    let free : has_page c.args.self.now.memory c.args.va.0 ≡ false =
-    ap (λ (r : Roomy). has_page r.memory c.args.va.0) (sym c.self.view_is)
+    let free : memory_has_page c.args.self.now.memory c.args.va.0 ≡ false =
+    ap (λ (r : Roomy). memory_has_page r.memory c.args.va.0) (sym c.self.view_is)
     ∙ has_page-kept m.table.entries m.frames.entries c.args.va.0
     ∙ sym c.contains_key.ensures ∙ c.if-contains_key.false in
     ap (λ (b : Bool). if b then Some c.args.page else None) (sym free)
@@ -67,8 +68,8 @@ returns-clause-memory c =
     let m = c.self.inside in
     let rows = rw c.unwrap.ensures at c.insert-row.ensures.updates in
     let pages = rw c.unwrap-2.ensures at c.insert-kept.ensures.updates in
-    let free : has_page c.args.self.now.memory c.args.va.0 ≡ false =
-    ap (λ (r : Roomy). has_page r.memory c.args.va.0) (sym c.self.view_is)
+    let free : memory_has_page c.args.self.now.memory c.args.va.0 ≡ false =
+    ap (λ (r : Roomy). memory_has_page r.memory c.args.va.0) (sym c.self.view_is)
     ∙ has_page-kept m.table.entries m.frames.entries c.args.va.0
     ∙ sym c.contains_key.ensures ∙ c.if-contains_key.false in
     memory_put _ _ _ _ c.args.va.0 _ c.args.page c.args.reach c.whole_frame-frame.ensures.number rows.0 pages.0

@@ -1,7 +1,7 @@
 use Rattle.std.proofs.Common.{◌≡◌, ◌+◌, ◌-◌, ◌/◌, ◌%◌, ap, sym, ◌∙◌, arith}
 use Rattle.std.specs.Prelude.{Some}
 use Rattle.std.specs.Option.{option_copied}
-use Rattle.phys_memory.specs.Memory.{Roomy, has_frame}
+use Rattle.phys_memory.specs.Memory.{RoomyFrames as Roomy, memory_has_frame}
 use Rattle.std.specs.FinMap.{get}
 use Rattle.phys_memory.proofs.Kept.{has_frame-kept}
 use Rattle.phys_memory.proofs.Changes.{IsSome-found, frame_found}
@@ -13,7 +13,7 @@ unwrap-page-requires c =
     let m = c.self.inside in
     IsSome-found c.get.result _ c.get.ensures.value
     (sym (has_frame-kept m.table.entries m.frames.entries (c.args.pa.0 / 4096))
-    ∙ ap (λ (r : Roomy). has_frame r.memory (c.args.pa.0 / 4096)) c.self.view_is ∙ c.requires.there)
+    ∙ ap (λ (r : Roomy). memory_has_frame r.memory (c.args.pa.0 / 4096)) c.self.view_is ∙ c.requires.there)
 
 pub returns : goal.returns
 returns c =

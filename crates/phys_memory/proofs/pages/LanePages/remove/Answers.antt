@@ -1,6 +1,6 @@
 use Rattle.std.proofs.Common.{◌/◌, arith, ap, sym, ◌∙◌, subst}
 use Rattle.std.specs.Prelude.{Some, None}
-use Rattle.phys_memory.specs.Memory.{Roomy, IsMemory, page_at, page_of, without_page, without_row}
+use Rattle.phys_memory.specs.Memory.{RoomyFrames as Roomy, IsMemory, page_at, page_of, without_page, without_row}
 use Rattle.phys_memory.specs.Kept.{memory_of}
 use Rattle.phys_memory.proofs.Kept.{memory_without_row}
 use Rattle.phys_memory.proofs.Changes.{memory_taken, place_removed, row_found, page_found}

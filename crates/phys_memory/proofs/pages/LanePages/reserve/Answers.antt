@@ -2,7 +2,7 @@ use Rattle.std.proofs.Common.{sym, ap, ◌∙◌, subst}
 use Rattle.std.specs.Ordering.{nat_cmp}
 use Rattle.std.specs.FinMap.{FinMap}
 use Rattle.phys_memory.specs.declared.reach.Reach.{Reach}
-use Rattle.phys_memory.specs.Memory.{Roomy, IsMemory}
+use Rattle.phys_memory.specs.Memory.{RoomyFrames as Roomy, IsMemory}
 use Rattle.phys_memory.specs.Stretches.{AreStretches}
 use Rattle.phys_memory.proofs.Changes.{same_memory, same_places}
 use Rattle.phys_memory.proofs.Tables.{made_same}

@@ -2,7 +2,7 @@ use Rattle.std.proofs.Common.{◌≡◌, ◌/◌, ◌^◌, Bool, true, ap, sym, 
 use Rattle.std.specs.Prelude.{None, IfSome, if◌then◌else◌, nat_lt}
 use Rattle.std.specs.FinMap.{get}
 use Rattle.std.proofs.lemmas.Bool.{lt-ltb}
-use Rattle.phys_memory.specs.Memory.{Roomy, IsReachOf}
+use Rattle.phys_memory.specs.Memory.{RoomyFrames as Roomy, IsReachOf}
 use Rattle.phys_memory.proofs.Kept.{row_is}
 use Rattle.phys_memory.proofs.Changes.{row_found}
 use Rattle.phys_memory.proofs.pages.LanePages.row_at.Goals as goal

@@ -1,6 +1,6 @@
 use Rattle.std.proofs.Common.{◌/◌, sym, ◌∙◌, subst, arith}
 use Rattle.std.specs.Prelude.{Some}
-use Rattle.phys_memory.specs.Memory.{Roomy, IsMemory}
+use Rattle.phys_memory.specs.Memory.{RoomyFrames as Roomy, IsMemory}
 use Rattle.phys_memory.specs.Stretches.{whole}
 use Rattle.phys_memory.proofs.Kept.{row_is}
 use Rattle.phys_memory.proofs.Stretches.{got_in, row_in}

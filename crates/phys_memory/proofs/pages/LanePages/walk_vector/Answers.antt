@@ -2,10 +2,10 @@ use Rattle.std.proofs.Common.{Vec, Global, ◌+◌, true, drop, refl, ap, sym, �
 use Rattle.busdma_machine.specs.declared.machine.address.Span.{Span}
 use Rattle.busdma_machine.specs.declared.machine.chunk.Entry.{Entry}
 use Rattle.phys_memory.specs.declared.walk.Walked.TheVariants.{Parts}
-use Rattle.phys_memory.specs.Memory.{Roomy, IsMemory, physical}
+use Rattle.phys_memory.specs.Memory.{RoomyFrames as Roomy, IsMemory, memory_physical}
 use Rattle.phys_memory.proofs.Reached.{IsHeld, memory_paged}
-use Rattle.phys_memory.proofs.Vectors.{bytes_here, missed_inside, past_entry, past_none, stopped, this, walk_bytes}
-use Rattle.phys_memory.proofs.Vectors.{walk_end, walk_entries, walk_from, walk_have, walk_here, walk_touches}
+use Rattle.phys_memory.proofs.VectorLaws.{bytes_here, missed_inside, past_entry, past_none, stopped, this, walk_bytes}
+use Rattle.phys_memory.proofs.VectorLaws.{walk_end, walk_entries, walk_from, walk_have, walk_here, walk_touches}
 use Rattle.phys_memory.proofs.pages.LanePages.walk_vector.Goals.{then-not-is_empty+in_ok-push, else-not-is_empty}
 use Rattle.phys_memory.proofs.pages.LanePages.walk_vector.Goals as goal
 
@@ -17,24 +17,24 @@ pub overflow_add-result : goal.overflow_add-result
 overflow_add-result c =
     let l = c.loop-span in
     let s =
-    this (physical c.args.self.now.memory) l.entries.items l.offset c.args.spans.now
+    this (memory_physical c.args.self.now.memory) l.entries.items l.offset c.args.spans.now
     l.span-index no_span c.loop-span-test.true in
     let bytes =
-    bytes_here (physical c.args.self.now.memory) l.entries.items l.offset c.args.spans.now
+    bytes_here (memory_physical c.args.self.now.memory) l.entries.items l.offset c.args.spans.now
     l.span-index no_span c.loop-span-test.true in
     omega (
       arith,
       bytes,
       l.invariant.total,
       c.requires,
-      missed_inside (physical c.args.self.now.memory) s.va.0 s.len c.in-Unmapped.at
+      missed_inside (memory_physical c.args.self.now.memory) s.va.0 s.len c.in-Unmapped.at
           (sym c.in-Unmapped.is ∙ c.in_ok-at.ensures.walk),
     )
 
 pub returns-in-Unmapped-clause-walk : goal.returns-in-Unmapped-clause-walk
 returns-in-Unmapped-clause-walk c =
     let m = c.args.self.now.memory in
-    let t = physical m in
+    let t = memory_physical m in
     let spans = c.args.spans.now in
     let l = c.loop-span in
     let s = this t l.entries.items l.offset spans l.span-index no_span c.loop-span-test.true in
@@ -45,7 +45,7 @@ returns-in-Unmapped-clause-walk c =
 pub loop-span-preserved : goal.loop-span-preserved
 loop-span-preserved c =
     let m = c.args.self.now.memory in
-    let t = physical m in
+    let t = memory_physical m in
     let spans = c.args.spans.now in
     let l = c.loop-span in
     let s = this t l.entries.items l.offset spans l.span-index no_span c.loop-span-test.true in
@@ -72,7 +72,7 @@ loop-span-preserved c =
 pub returns-clause-addresses : goal.returns-clause-addresses
 returns-clause-addresses c =
     let m = c.args.self.now.memory in
-    let t = physical m in
+    let t = memory_physical m in
     let l = c.loop-span in
     let sound = subst (λ (r : Roomy). IsMemory r.memory) c.self.view_is c.self.invariant.memory in
     walk_bytes (IsHeld m) true t c.args.spans.now c.new.result (memory_paged m sound)
@@ -82,7 +82,7 @@ returns-clause-addresses c =
 pub returns-clause-entries : goal.returns-clause-entries
 returns-clause-entries c =
     let m = c.args.self.now.memory in
-    let t = physical m in
+    let t = memory_physical m in
     let l = c.loop-span in
     let sound = subst (λ (r : Roomy). IsMemory r.memory) c.self.view_is c.self.invariant.memory in
     walk_entries (IsHeld m) true t c.args.spans.now c.new.result (memory_paged m sound)
@@ -92,7 +92,7 @@ returns-clause-entries c =
 pub returns-clause-some : goal.returns-clause-some
 returns-clause-some c =
     let m = c.args.self.now.memory in
-    let t = physical m in
+    let t = memory_physical m in
     let l = c.loop-span in
     let sound = subst (λ (r : Roomy). IsMemory r.memory) c.self.view_is c.self.invariant.memory in
     walk_touches (IsHeld m) true t c.args.spans.now c.new.result (memory_paged m sound)
@@ -102,7 +102,7 @@ returns-clause-some c =
 pub returns-clause-frames : goal.returns-clause-frames
 returns-clause-frames c =
     let m = c.args.self.now.memory in
-    let t = physical m in
+    let t = memory_physical m in
     let l = c.loop-span in
     let sound = subst (λ (r : Roomy). IsMemory r.memory) c.self.view_is c.self.invariant.memory in
     walk_have (IsHeld m) true t c.args.spans.now c.new.result (memory_paged m sound)

@@ -3,7 +3,8 @@ use Rattle.std.specs.Prelude.{Some, is_some}
 use Rattle.std.specs.Option.{option_copied_mut}
 use Rattle.std.specs.HashMap.{spare}
 use Rattle.busdma_machine.specs.Machine.Page.{FrameBytes}
-use Rattle.phys_memory.specs.Memory.{Roomy, has_frame, rewritten, wire, written}
+use Rattle.phys_memory.specs.Memory.{RoomyFrames as Roomy, memory_has_frame}
+use Rattle.phys_memory.specs.Memory.{rewritten, wire, memory_written}
 use Rattle.phys_memory.proofs.Kept.{has_frame-kept}
 use Rattle.phys_memory.proofs.Changes.{Puts, IsSome-found_mut, kept_rewritten, memory_rewritten, places_rewritten}
 use Rattle.phys_memory.proofs.Changes.{wire_after}
@@ -14,7 +15,7 @@ unwrap-page-requires c =
     let m = c.self.inside in
     IsSome-found_mut c.get_mut.result _ c.get_mut.ensures.value
     (sym (has_frame-kept m.table.entries m.frames.entries (c.args.pa.0 / 4096))
-    ∙ ap (λ (r : Roomy). has_frame r.memory (c.args.pa.0 / 4096)) c.self.view_is ∙ c.requires.there)
+    ∙ ap (λ (r : Roomy). memory_has_frame r.memory (c.args.pa.0 / 4096)) c.self.view_is ∙ c.requires.there)
 
 pub invariant_of-self : goal.invariant_of-self
 invariant_of-self c =
@@ -66,6 +67,6 @@ returns-clause-wire c =
     let new =
     memory_rewritten m.table.entries m.frames.entries _ c.args.pa.0
     c.unwrap-page.result.now c.args.bytes.now found put in
-    let there = ap (λ (r : Roomy). has_frame r.memory (c.args.pa.0 / 4096)) c.self.view_is ∙ c.requires.there in
+    let there = ap (λ (r : Roomy). memory_has_frame r.memory (c.args.pa.0 / 4096)) c.self.view_is ∙ c.requires.there in
     ap wire new ∙ wire_after _ c.args.pa.0 c.args.bytes.now c.self.invariant.memory there c.requires.inside
-    ∙ ap (λ (r : Roomy). written c.args.pa.0 c.args.bytes.now (wire r.memory)) c.self.view_is
+    ∙ ap (λ (r : Roomy). memory_written c.args.pa.0 c.args.bytes.now (wire r.memory)) c.self.view_is

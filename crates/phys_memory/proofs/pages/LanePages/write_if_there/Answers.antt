@@ -3,7 +3,8 @@ use Rattle.std.specs.Prelude.{Some, is_some}
 use Rattle.std.specs.Option.{option_copied_mut}
 use Rattle.std.specs.HashMap.{spare}
 use Rattle.busdma_machine.specs.Machine.Page.{FrameBytes}
-use Rattle.phys_memory.specs.Memory.{Roomy, has_frame, rewritten, wire, written}
+use Rattle.phys_memory.specs.Memory.{RoomyFrames as Roomy, memory_has_frame}
+use Rattle.phys_memory.specs.Memory.{rewritten, wire, memory_written}
 use Rattle.phys_memory.proofs.Kept.{has_frame-kept}
 use Rattle.phys_memory.proofs.Changes.{Puts, kept_rewritten, memory_rewritten, places_rewritten, wire_after}
 use Rattle.phys_memory.proofs.pages.LanePages.write_if_there.Goals as goal
@@ -12,14 +13,14 @@ pub returns-in_default-clause-there : goal.returns-in_default-clause-there
 returns-in_default-clause-there c =
     let m = c.self.inside in
     let found = sym c.get_mut.ensures.value ∙ ap option_copied_mut c.in_default.is in
-    sym (sym (ap (λ (r : Roomy). has_frame r.memory (c.args.pa.0 / 4096)) c.self.view_is)
+    sym (sym (ap (λ (r : Roomy). memory_has_frame r.memory (c.args.pa.0 / 4096)) c.self.view_is)
     ∙ has_frame-kept m.table.entries m.frames.entries (c.args.pa.0 / 4096) ∙ ap is_some found)
 
 pub returns-clause-there : goal.returns-clause-there
 returns-clause-there c =
     let m = c.self.inside in
     let found = sym c.get_mut.ensures.value ∙ ap option_copied_mut c.in-Some.is in
-    sym (sym (ap (λ (r : Roomy). has_frame r.memory (c.args.pa.0 / 4096)) c.self.view_is)
+    sym (sym (ap (λ (r : Roomy). memory_has_frame r.memory (c.args.pa.0 / 4096)) c.self.view_is)
     ∙ has_frame-kept m.table.entries m.frames.entries (c.args.pa.0 / 4096) ∙ ap is_some found)
 
 pub invariant_of-self-2 : goal.invariant_of-self-2
@@ -72,6 +73,7 @@ returns-clause-wire c is =
     let new =
     memory_rewritten m.table.entries m.frames.entries _ c.args.pa.0
     c.in-Some.page.now c.args.bytes.now found put in
-    let here = ap (λ (r : Roomy). has_frame r.memory (c.args.pa.0 / 4096)) c.self.view_is ∙ sym (returns-clause-there c) in
+    let here = ap (λ (r : Roomy). memory_has_frame r.memory (c.args.pa.0 / 4096)) c.self.view_is
+    ∙ sym (returns-clause-there c) in
     ap wire new ∙ wire_after _ c.args.pa.0 c.args.bytes.now c.self.invariant.memory here c.requires.inside
-    ∙ ap (λ (r : Roomy). written c.args.pa.0 c.args.bytes.now (wire r.memory)) c.self.view_is
+    ∙ ap (λ (r : Roomy). memory_written c.args.pa.0 c.args.bytes.now (wire r.memory)) c.self.view_is

@@ -5,9 +5,9 @@ use Rattle.std.proofs.lemmas.List.{length-map}
 use Rattle.busdma_machine.specs.Machine.Entry.{IsEntry, entries_addresses, entries_bytes}
 use Rattle.busdma_machine.specs.Runs.{run_of}
 use Rattle.phys_memory.specs.declared.entries.Entries.{Entries}
-use Rattle.phys_memory.specs.Memory.{physical}
+use Rattle.phys_memory.specs.Memory.{memory_physical}
 use Rattle.busdma_rules.specs.Memory.Translation.{physical_or_0}
-use Rattle.phys_memory.specs.Vector.{IfAll}
+use Rattle.phys_memory.specs.VectorStreams.{IfAll}
 use Rattle.phys_memory.proofs.Extents.{length-run_of}
 use Rattle.busdma_rules.specs.Segments.Building.{IsPlaceable}
 use Rattle.busdma_rules.specs.Segments.Chunks.{chunks_of}
@@ -18,7 +18,7 @@ use Rattle.rules_tests.proofs.tests.lists.of_walk.Goals as goal
 
 pub chunks-requires-clause-bytes : goal.chunks-requires-clause-bytes
 chunks-requires-clause-bytes c =
-    let t = physical c.args.memory.now.memory in
+    let t = memory_physical c.args.memory.now.memory in
     let pas = map (physical_or_0 t) (run_of 0x1000 c.args.len) in
     let walked =
     subst (λ (w : Entries). IfAll w (λ es. entries_addresses es ≡ pas)) c.in-All.is c.in_ok-entries.ensures.addresses in
@@ -50,7 +50,7 @@ of_chunks-requires-clause-few c =
     subst (λ (w : Entries). IfAll w (AllByRecursion IsEntry)) c.in-All.is c.in_ok-entries.ensures.entries in
     let is = c.deref_mut.ensures.value ∙ (c.into_vec-chunks.ensures
     ∙ (c.in_ok-chunks.ensures ∙ ap (chunks_of t 0x1010) c.as_slice.ensures)) in
-    let pas = map (physical_or_0 (physical c.args.memory.now.memory)) (run_of 0x1000 c.args.len) in
+    let pas = map (physical_or_0 (memory_physical c.args.memory.now.memory)) (run_of 0x1000 c.args.len) in
     let walked =
     subst (λ (w : Entries). IfAll w (λ es. entries_addresses es ≡ pas)) c.in-All.is c.in_ok-entries.ensures.addresses in
     omega (
@@ -61,6 +61,6 @@ of_chunks-requires-clause-few c =
       c.requires.few,
       entries_length es,
       ap length walked,
-      length-map (run_of 0x1000 c.args.len) (physical_or_0 (physical c.args.memory.now.memory)),
+      length-map (run_of 0x1000 c.args.len) (physical_or_0 (memory_physical c.args.memory.now.memory)),
       length-run_of 0x1000 c.args.len,
     )

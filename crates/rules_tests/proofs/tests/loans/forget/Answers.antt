@@ -1,5 +1,5 @@
 use Rattle.std.proofs.Common.{false}
-use Rattle.busdma_rules.specs.Lending.Syncing.{lost_by_forgetting}
+use Rattle.busdma_rules.specs.Lending.SyncEffects.{lost_by_forgetting}
 use Rattle.rules_tests.proofs.AllMemory.{all-marked}
 use Rattle.rules_tests.proofs.tests.loans.forget.Goals as goal
 

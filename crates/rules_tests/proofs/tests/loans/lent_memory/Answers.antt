@@ -27,7 +27,8 @@ add_map-requires-clause-there c =
 pub returns-clause-map : goal.returns-clause-map
 returns-clause-map c =
     subst (λ m. IsSome (get c.add_map.new.self.loans m)) c.lent.ensures
-    (subst (λ (loans : Loans). IsSome (get loans c.lent.result.made_at)) (sym c.in_ok-add_map.ensures.loans) (put_there _ _ _))
+    (subst (λ (loans : Loans). IsSome (get loans c.lent.result.made_at)) (sym c.in_ok-add_map.ensures.loans)
+    (put_there _ _ _))
 
 pub returns-clause-all : goal.returns-clause-all
 returns-clause-all c a k below =

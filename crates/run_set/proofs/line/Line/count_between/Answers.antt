@@ -7,7 +7,8 @@ pub loop-low-preserved-then-number_or-n : goal.loop-low-preserved-then-number_or
 loop-low-preserved-then-number_or-n c = record {
   order = omega arith;
   small = c.loop-low.invariant.small;
-  below = λ k d p. low_until c.args.self.now.items c.requires.climbs (c.loop-low.low + (c.loop-low.high - c.loop-low.low) / 2)
+  below = λ k d p. low_until c.args.self.now.items c.requires.climbs
+      (c.loop-low.low + (c.loop-low.high - c.loop-low.low) / 2)
       c.args.n c.args.n (omega arith) (omega arith) k d (omega arith);
   above = c.loop-low.invariant.above;
 }
@@ -17,7 +18,8 @@ loop-low-preserved c = record {
   order = omega arith;
   small = omega arith;
   below = c.loop-low.invariant.below;
-  above = λ k d p q. high_from c.args.self.now.items c.requires.climbs (c.loop-low.low + (c.loop-low.high - c.loop-low.low) / 2)
+  above = λ k d p q. high_from c.args.self.now.items c.requires.climbs
+      (c.loop-low.low + (c.loop-low.high - c.loop-low.low) / 2)
       c.args.n c.args.n (omega arith) k d p q;
 }
 

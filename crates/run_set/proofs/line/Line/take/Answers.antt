@@ -39,6 +39,7 @@ returns-then-lies_between-clause-absent c e =
     let b = c.self.inside.behind.items in
     let one : c.deref.result.now ≡ a = c.deref.ensures.value ∙ c.pop_if-2.ensures.left c.if-pop_if-2.false in
     let two : c.deref-2.result.now ≡ b = c.deref-2.ensures.value ∙ c.pop_if.ensures.left c.if-pop_if.false in
-    let counted : count_le (stacked a b) c.args.n ≡ length a = rw (one, two) at c.lies_between.ensures c.if-lies_between.true in
+    let counted : count_le (stacked a b) c.args.n ≡ length a = rw (one, two) at c.lies_between.ensures
+    c.if-lies_between.true in
     rw (← c.self.view_is) (is_absent (stacked a b) c.args.n (length a) (rw (← c.self.view_is) at c.requires) counted
     (λ p q. c.pop_if-2.ensures.other c.if-pop_if-2.false p (number_before a b (length a - 1) 0 (omega arith) ∙ q)))

@@ -1,5 +1,6 @@
 use Rattle.std.proofs.Common.{◌≡◌, ◌-◌, get_or, sym, ◌∙◌, arith}
-use Rattle.run_set.proofs.line.Line.take_there.Goals.{then-stood-eq0-via-then-stood-eq0, then-stood-eq0-via-else-stood-eq0+then-number_or-n}
+use Rattle.run_set.proofs.line.Line.take_there.Goals.{then-stood-eq0-via-then-stood-eq0}
+use Rattle.run_set.proofs.line.Line.take_there.Goals.{then-stood-eq0-via-else-stood-eq0+then-number_or-n}
 use Rattle.run_set.proofs.Lines.{climbs_out, count_out, is_absent}
 use Rattle.run_set.proofs.line.Line.take_there.Goals as goal
 
@@ -18,6 +19,7 @@ pub returns-then-stood-eq0-clause-absent : goal.returns-then-stood-eq0-clause-ab
 returns-then-stood-eq0-clause-absent c e = elim c.then-stood-eq0.branch [
   | then-stood-eq0-via-then-stood-eq0 w ↦ is_absent c.args.self.now.items c.args.n c.count_to-stood.result c.requires
       (sym c.count_to-stood.ensures.is) (λ p q. absurd (omega (arith, w.if-stood-eq0)))
-  | then-stood-eq0-via-else-stood-eq0+then-number_or-n w ↦ is_absent c.args.self.now.items c.args.n c.count_to-stood.result
+  | then-stood-eq0-via-else-stood-eq0+then-number_or-n w ↦ is_absent c.args.self.now.items c.args.n
+      c.count_to-stood.result
       c.requires (sym c.count_to-stood.ensures.is) (λ p q. w.if-number_or-n.true (w.number_or.ensures ∙ q))
 ]

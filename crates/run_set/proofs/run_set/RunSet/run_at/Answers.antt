@@ -8,7 +8,8 @@ count_and_turn-count-requires-clause-climbs c = rises_climbs 0 (2 ^ 64) _ c.self
 
 pub returns-clause-is_in : goal.returns-clause-is_in
 returns-clause-is_in c =
-    rw (← c.self.view_is) (c.is_odd.ensures ∙ ap odd c.count_and_turn-count.ensures.count ∙ sym (member-count_le _ c.args.start))
+    rw (← c.self.view_is) (c.is_odd.ensures ∙ ap odd c.count_and_turn-count.ensures.count
+    ∙ sym (member-count_le _ c.args.start))
 
 pub returns-clause-same : goal.returns-clause-same
 returns-clause-same c =

@@ -1,5 +1,5 @@
 use Rattle.std.proofs.Common.{◌^◌, ◌-◌, ◌≡◌, ◌<◌, ℕ, if◌then◌else◌, arith}
-use Rattle.run_set.specs.Edges.{IsKept, Rises, member, in_run}
+use Rattle.run_set.specs.Edges.{IsKept, Rises, member, is_inside_run}
 use Rattle.run_set.proofs.Sets.{finite_edges_set, in_parts, members_edges_set, Parts, rises_edges_set}
 use Rattle.run_set.proofs.run_set.RunSet.set_between.Goals as goal
 
@@ -32,7 +32,7 @@ within c top p r =
 -- the new edges rise, and their members are those that are wanted
 done : (c : goal.After-replace) → IsKept c.replace.new.self.items
     × ((n : ℕ) → member c.replace.new.self.items n
-    ≡ (if in_run c.args.start c.args.end n then c.args.is_in else member c.self.inside.edges.items n))
+    ≡ (if is_inside_run c.args.start c.args.end n then c.args.is_in else member c.self.inside.edges.items n))
 done c =
     let three = parts c (2 ^ 64) (omega arith) c.self.invariant.rise in
     let members = members_edges_set c.args.start c.args.end (2 ^ 64) c.args.below

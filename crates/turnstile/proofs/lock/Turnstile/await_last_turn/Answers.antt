@@ -1,7 +1,7 @@
 use Rattle.std.proofs.Common.{rules, ◌≡◌, ◌∙◌, ap, sym, subst, false, List, ℕ}
 use mathlib.Core.List.{IsPrefix}
 use Rattle.turnstile.specs.View.{served_view}
-use Rattle.turnstile.specs.Steps.{Held}
+use Rattle.turnstile.specs.Steps.{HeldStep as Held}
 use Rattle.turnstile.proofs.TurnSteps.{closes_keep}
 use Rattle.turnstile.proofs.lock.Turnstile.await_last_turn.Goals as goal
 

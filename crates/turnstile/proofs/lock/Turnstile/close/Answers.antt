@@ -1,6 +1,6 @@
 use Rattle.std.proofs.Common.{◌≡◌, ◌∙◌, ap, subst, false}
 use mathlib.Core.List.{IsPrefix}
-use Rattle.turnstile.specs.Steps.{Held}
+use Rattle.turnstile.specs.Steps.{HeldStep as Held}
 use Rattle.turnstile.specs.View.{served_view, ticket_view}
 use Rattle.turnstile.specs.Pass.{PassView, Closes}
 use Rattle.turnstile.specs.Key.{start_for}

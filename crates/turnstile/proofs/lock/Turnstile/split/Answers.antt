@@ -1,14 +1,15 @@
 use Rattle.std.proofs.Common.{rules, ◌≢◌, ◌∙◌, ap, sym, arith, subst, ◌<◌, ◌+◌, ◌-◌, All}
 use Rattle.turnstile.specs.Pass.{PassView, SplitsOff}
 use Rattle.turnstile.specs.View.{pass_view, named_view}
-use Rattle.turnstile.specs.Steps.{Held}
+use Rattle.turnstile.specs.Steps.{HeldStep as Held}
 use Rattle.turnstile.proofs.PassSteps.{splits_keep, names_keep, backs_keep}
 use Rattle.turnstile.proofs.Turn.{some_of}
 use Rattle.turnstile.proofs.Passes.{named_pass_knows, cut_pass_knows, returned_pass_knows, sound_pass, splits_off}
 use Rattle.turnstile.proofs.lock.Turnstile.split.Goals as goal
 
 pub split_seat-seat-requires : goal.split_seat-seat-requires
-split_seat-seat-requires g c = (search rules, omega (arith, c.self.invariant.0), splits_keep _ _ _ _ _ _ _ c.pass.invariant.0.2)
+split_seat-seat-requires g c =
+    (search rules, omega (arith, c.self.invariant.0), splits_keep _ _ _ _ _ _ _ c.pass.invariant.0.2)
 
 pub swap-found-requires : goal.swap-found-requires
 swap-found-requires g c = let is = c.split_seat-seat.ensures.4 in let inv =

@@ -1,5 +1,5 @@
 use Rattle.std.proofs.Common.{sym, ◌∙◌}
-use Rattle.lane_turns.specs.Turning.{answered}
+use Rattle.lane_turns.specs.TakenTurns.{answered}
 use Rattle.world_core.specs.Ideal.{ideal_run, ideal_world}
 use Rattle.world_core.proofs.Resting.{idle-none, passed-over}
 use Rattle.world_core.proofs.Taking.{skips, no_entry}

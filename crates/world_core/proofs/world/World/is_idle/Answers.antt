@@ -41,5 +41,6 @@ returns-in-Callback c =
     omega (arith, c.if-number-len.false, c.len.ensures, w.lanes.ok.0, length-map w.lanes.items ideal) in
     let at = found (ideal_world w).lanes i lt in
     c.is_no_callback_of.ensures
-    ∙ callback-idle (ideal_world w) c.args.actor at.0 at.1 (number-of at.0 i w.kept (λ k. (k.well.each i at.0 at.1).number))
+    ∙ callback-idle (ideal_world w) c.args.actor at.0 at.1
+    (number-of at.0 i w.kept (λ k. (k.well.each i at.0 at.1).number))
     c.in-Callback.is

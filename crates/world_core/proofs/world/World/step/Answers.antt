@@ -1,11 +1,11 @@
 use Rattle.std.proofs.Common.{◌<◌, length, arith, slice_set}
 use Rattle.std.proofs.lemmas.Result.{IfOk-weaker}
 use Rattle.lane_core.specs.LaneIdeal.{ideal}
-use Rattle.lane_turns.specs.Turning.{answered}
+use Rattle.lane_turns.specs.TakenTurns.{answered}
 use Rattle.world_core.proofs.Taking.{at_either, lane_found, no-holds, ok_both, on_both, serves, stay-kept, took}
 use Rattle.world_core.proofs.Taking.{took-history, took-holds, took-none, took-opening, turn-kept}
 use Rattle.world_core.proofs.Turning.{undone-history, undone-opening}
-use Rattle.world_core.proofs.Wiring.{no-wires, wires-follow, wires-stay}
+use Rattle.world_core.proofs.WireLaws.{no-wires, wires-follow, wires-stay}
 use Rattle.world_core.proofs.world.World.step.Goals as goal
 
 pub turn-requires : goal.turn-requires

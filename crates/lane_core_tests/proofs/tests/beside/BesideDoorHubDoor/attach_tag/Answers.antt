@@ -17,7 +17,8 @@ invariant_of-self c = record {
   served =
       still-made (ideal c.act.new.self.lane) c.act.new.hub c.attach_tag.new.self c.act.ensures.served
       c.args.lane.0 (AttachTag c.args.tag.now) GrownBy c.attach_tag.result
-      (not-other c.args.self.now c.self.inside.lane.0 (ideal c.self.inside.other.lane).id c.self.inside.hub c.act.new.hub
+      (not-other c.args.self.now c.self.inside.lane.0 (ideal c.self.inside.other.lane).id c.self.inside.hub
+      c.act.new.hub
       c.self.view_is c.self.invariant.apart c.act.ensures.comes (ideal c.act.new.self.lane) c.act.ensures.served
       c.args.lane.0 (AttachTag c.args.tag.now) c.act.ensures.number c.requires)
       c.attach_tag.ensures.held c.attach_tag.ensures.no_memory;

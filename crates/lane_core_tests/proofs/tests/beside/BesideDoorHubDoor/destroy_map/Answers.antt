@@ -17,7 +17,8 @@ invariant_of-self c = record {
   served =
       still-held (ideal c.act.new.self.lane) c.act.new.hub c.destroy_map.new.self c.act.ensures.served
       c.args.map.lane.0 (DestroyMap c.args.map c.args.zone) Nothing
-      (not-other c.args.self.now c.self.inside.lane.0 (ideal c.self.inside.other.lane).id c.self.inside.hub c.act.new.hub
+      (not-other c.args.self.now c.self.inside.lane.0 (ideal c.self.inside.other.lane).id c.self.inside.hub
+      c.act.new.hub
       c.self.view_is c.self.invariant.apart c.act.ensures.comes (ideal c.act.new.self.lane) c.act.ensures.served
       c.args.map.lane.0 (DestroyMap c.args.map c.args.zone) c.act.ensures.number c.requires)
       c.destroy_map.ensures.held;

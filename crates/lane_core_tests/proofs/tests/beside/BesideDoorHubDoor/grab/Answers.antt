@@ -17,7 +17,8 @@ invariant_of-self c = record {
   served =
       still-made (ideal c.act.new.self.lane) c.act.new.hub c.grab.new.self c.act.ensures.served
       c.args.map.lane.0 (Grab c.args.map c.args.zone c.args.need c.args.nowait) grab_reply c.grab.result
-      (not-other c.args.self.now c.self.inside.lane.0 (ideal c.self.inside.other.lane).id c.self.inside.hub c.act.new.hub
+      (not-other c.args.self.now c.self.inside.lane.0 (ideal c.self.inside.other.lane).id c.self.inside.hub
+      c.act.new.hub
       c.self.view_is c.self.invariant.apart c.act.ensures.comes (ideal c.act.new.self.lane) c.act.ensures.served
       c.args.map.lane.0 (Grab c.args.map c.args.zone c.args.need c.args.nowait) c.act.ensures.number c.requires)
       c.grab.ensures.held c.grab.ensures.no_memory;
@@ -27,7 +28,8 @@ pub returns-clause-held : goal.returns-clause-held
 returns-clause-held c =
     made-at c.args.self.now c.self.inside.lane.0 (ideal c.self.inside.other.lane).id c.self.inside.hub c.act.new.hub
     c.self.view_is c.self.invariant.apart c.act.ensures.comes (ideal c.act.new.self.lane) c.act.ensures.served
-    c.grab.new.self c.args.map.lane.0 (Grab c.args.map c.args.zone c.args.need c.args.nowait) grab_reply c.grab.result c.grab.ensures.held
+    c.grab.new.self c.args.map.lane.0 (Grab c.args.map c.args.zone c.args.need c.args.nowait) grab_reply c.grab.result
+    c.grab.ensures.held
 
 pub returns-clause-no_memory : goal.returns-clause-no_memory
 returns-clause-no_memory c =

@@ -17,7 +17,8 @@ invariant_of-self c = record {
   served =
       still-made (ideal c.act.new.self.lane) c.act.new.hub c.mem_alloc.new.self c.act.ensures.served
       c.args.mem.lane.0 (MemAlloc c.args.mem c.args.tag.now) memory_reply c.mem_alloc.result
-      (not-other c.args.self.now c.self.inside.lane.0 (ideal c.self.inside.other.lane).id c.self.inside.hub c.act.new.hub
+      (not-other c.args.self.now c.self.inside.lane.0 (ideal c.self.inside.other.lane).id c.self.inside.hub
+      c.act.new.hub
       c.self.view_is c.self.invariant.apart c.act.ensures.comes (ideal c.act.new.self.lane) c.act.ensures.served
       c.args.mem.lane.0 (MemAlloc c.args.mem c.args.tag.now) c.act.ensures.number c.requires)
       c.mem_alloc.ensures.held c.mem_alloc.ensures.no_memory;
@@ -27,7 +28,8 @@ pub returns-clause-held : goal.returns-clause-held
 returns-clause-held c =
     made-at c.args.self.now c.self.inside.lane.0 (ideal c.self.inside.other.lane).id c.self.inside.hub c.act.new.hub
     c.self.view_is c.self.invariant.apart c.act.ensures.comes (ideal c.act.new.self.lane) c.act.ensures.served
-    c.mem_alloc.new.self c.args.mem.lane.0 (MemAlloc c.args.mem c.args.tag.now) memory_reply c.mem_alloc.result c.mem_alloc.ensures.held
+    c.mem_alloc.new.self c.args.mem.lane.0 (MemAlloc c.args.mem c.args.tag.now) memory_reply c.mem_alloc.result
+    c.mem_alloc.ensures.held
 
 pub returns-clause-no_memory : goal.returns-clause-no_memory
 returns-clause-no_memory c =

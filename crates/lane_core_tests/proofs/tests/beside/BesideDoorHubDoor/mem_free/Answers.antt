@@ -24,7 +24,8 @@ invariant_of-self c = record {
   served =
       still-held (ideal c.act.new.self.lane) c.act.new.hub c.mem_free.new.self c.act.ensures.served
       c.args.mem.lane.0 (MemFree c.args.mem) Nothing
-      (not-other c.args.self.now c.self.inside.lane.0 (ideal c.self.inside.other.lane).id c.self.inside.hub c.act.new.hub
+      (not-other c.args.self.now c.self.inside.lane.0 (ideal c.self.inside.other.lane).id c.self.inside.hub
+      c.act.new.hub
       c.self.view_is c.self.invariant.apart c.act.ensures.comes (ideal c.act.new.self.lane) c.act.ensures.served
       c.args.mem.lane.0 (MemFree c.args.mem) c.act.ensures.number c.requires.allowed)
       c.mem_free.ensures.held;

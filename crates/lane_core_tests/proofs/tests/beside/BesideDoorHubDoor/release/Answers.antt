@@ -17,10 +17,13 @@ invariant_of-self c = record {
   apart = λ same. c.self.invariant.apart (sym c.act.ensures.number ∙ same);
   served =
       still-held (ideal c.act.new.self.lane) c.act.new.hub c.release.new.self c.act.ensures.served
-      c.args.map.lane.0 (Release c.args.map c.args.zone (record { 0 = page_address c.args.page })) (Served c.release.result)
-      (not-other c.args.self.now c.self.inside.lane.0 (ideal c.self.inside.other.lane).id c.self.inside.hub c.act.new.hub
+      c.args.map.lane.0 (Release c.args.map c.args.zone (record { 0 = page_address c.args.page }))
+      (Served c.release.result)
+      (not-other c.args.self.now c.self.inside.lane.0 (ideal c.self.inside.other.lane).id c.self.inside.hub
+      c.act.new.hub
       c.self.view_is c.self.invariant.apart c.act.ensures.comes (ideal c.act.new.self.lane) c.act.ensures.served
-      c.args.map.lane.0 (Release c.args.map c.args.zone (record { 0 = page_address c.args.page })) c.act.ensures.number c.requires)
+      c.args.map.lane.0 (Release c.args.map c.args.zone (record { 0 = page_address c.args.page })) c.act.ensures.number
+      c.requires)
       c.release.ensures.held;
 }
 
@@ -28,4 +31,5 @@ pub returns-clause-held : goal.returns-clause-held
 returns-clause-held c =
     holds-at c.args.self.now c.self.inside.lane.0 (ideal c.self.inside.other.lane).id c.self.inside.hub c.act.new.hub
     c.self.view_is c.self.invariant.apart c.act.ensures.comes (ideal c.act.new.self.lane) c.act.ensures.served
-    c.release.new.self c.args.map.lane.0 (Release c.args.map c.args.zone (record { 0 = page_address c.args.page })) (Served c.release.result) c.release.ensures.held
+    c.release.new.self c.args.map.lane.0 (Release c.args.map c.args.zone (record { 0 = page_address c.args.page }))
+    (Served c.release.result) c.release.ensures.held

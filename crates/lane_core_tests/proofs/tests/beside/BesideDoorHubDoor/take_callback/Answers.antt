@@ -19,7 +19,8 @@ invariant_of-self c = record {
   served =
       still-taken (ideal c.act.new.self.lane) c.act.new.hub c.take_callback.new.self c.act.ensures.served
       c.args.lane.0 (λ c. CalledFor c.map (as_pages (page_addresses c.pages.items))) c.take_callback.result
-      (not-other c.args.self.now c.self.inside.lane.0 (ideal c.self.inside.other.lane).id c.self.inside.hub c.act.new.hub
+      (not-other c.args.self.now c.self.inside.lane.0 (ideal c.self.inside.other.lane).id c.self.inside.hub
+      c.act.new.hub
       c.self.view_is c.self.invariant.apart c.act.ensures.comes (ideal c.act.new.self.lane) c.act.ensures.served
       c.args.lane.0 TakeCallback c.act.ensures.number c.requires)
       c.take_callback.ensures.held;
@@ -29,4 +30,5 @@ pub returns-clause-held : goal.returns-clause-held
 returns-clause-held c =
     taken-at c.args.self.now c.self.inside.lane.0 (ideal c.self.inside.other.lane).id c.self.inside.hub c.act.new.hub
     c.self.view_is c.self.invariant.apart c.act.ensures.comes (ideal c.act.new.self.lane) c.act.ensures.served
-    c.take_callback.new.self c.args.lane.0 (λ c. CalledFor c.map (as_pages (page_addresses c.pages.items))) c.take_callback.result c.take_callback.ensures.held
+    c.take_callback.new.self c.args.lane.0 (λ c. CalledFor c.map (as_pages (page_addresses c.pages.items)))
+    c.take_callback.result c.take_callback.ensures.held

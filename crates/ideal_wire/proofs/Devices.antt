@@ -1,0 +1,3 @@
+pub mod KeptMapped
+pub mod KeptSpaces
+pub mod MappedTurns

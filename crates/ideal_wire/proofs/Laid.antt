@@ -1,0 +1,9 @@
+pub mod Alike
+pub mod HavingChunks
+pub mod LaidTurns
+pub mod LoadLaid
+pub mod Loading
+pub mod MemoriesLaid
+pub mod Positions
+pub mod SameBytes
+pub mod StillLaid

@@ -1,0 +1,9 @@
+pub mod Asked
+pub mod Begun
+pub mod Bios
+pub mod Buffers
+pub mod Clusters
+pub mod DueFine
+pub mod MemoryLoads
+pub mod Reaching
+pub mod Waited
