@@ -99,7 +99,7 @@ impl RunCounts {
         counts::count_of(&self.starts, &self.ends, n)
     }
 
-    /// Counts the run from `start` to `end - 1` once more or, if `up` is false, once less.
+    /// Counts one more run, from `start` to `end - 1`, or one fewer if `up` is false.
     pub fn change(&mut self, start: u64, end: u64, up: bool)
         requires held { up ≡ false → (n : ℕ) → start ≤ n → n < end → 0 < count self.old n }
         requires room { 1 ≤ self.old.room }

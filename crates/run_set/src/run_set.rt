@@ -105,8 +105,8 @@ impl RunSet {
         turn(&self.edges, start, end)
     }
 
-    /// Returns whether `start` is in the set, and a number up to which the same holds of all numbers from `start` on. It
-    /// is `end` if no edge comes before `end`.
+    /// Returns whether `start` is in the set, and a number up to which the same holds of all numbers from `start`
+    /// on. It is `end` if no edge comes before `end`.
     pub fn run_at(&self, start: u64, end: u64) -> (bool, u64)
         requires { start < end }
         ensures is_in { result.0 ≡ member self.now.edges start }

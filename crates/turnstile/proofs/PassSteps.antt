@@ -186,7 +186,7 @@ module _ {O E F : Type 0} (history : O → List E) (fixed : O → F) (legal : F 
       views_more record { words = s.words; homes = s.homes; views = set s.views id (cut_view v) }
       (counts_keep s r id v at turn) id (cut_view v) (set_at s.views id v (cut_view v) at)
 
-  -- a look that changes nothing may tell what the view knows
+  -- after a look that changes nothing, what the view says is known to be true
   pub tells_keep : (slots id : ℕ) (me : Me O V) →
       Allows Rule slots id me 0 (λ n. n) (LearnsTruth legal fits (step slots 0 0 0 none) me)
   tells_keep slots id me s r _ at _ = let f =

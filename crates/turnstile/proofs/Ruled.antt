@@ -47,7 +47,7 @@ module _ {O E F : Type 0} (history : O → List E) (fixed : O → F) (legal : F 
         ended = λ k z l. (f.ended k z l).1;
       }
 
-  -- the object stays where it is, if neither view has it
+  -- the object stays in its place if neither view has it
   pub object_stays : (s : St) (r : Rule s) (id : ℕ) (v w : V) → get_elem? s.views id ≡ some v → v.turn ≡ false →
       w.turn ≡ false → IsHome history fixed b r.log s.homes (set s.views id w) ⊎ IsAway s.homes (set s.views id w)
   object_stays s r id v w at turn turn' =

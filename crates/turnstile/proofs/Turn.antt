@@ -1,4 +1,4 @@
--- A whole turn, from its steps.
+-- A turn, from its steps.
 use Rattle.std.proofs.Common.{◌≡◌, ◌≢◌, ℕ, ◌<◌, true, List, [], ◌∷◌, ◌++◌, length, get_or, All, Option, Some, None}
 use Rattle.std.proofs.Common.{refl, sym, ap, ◌∙◌, subst, inl, inr, ⊎_elim, arith, append_assoc, append-nil, true≢false}
 use mathlib.Core.List.{IsPrefix}

@@ -44,7 +44,7 @@ module _ {O E F : Type 0} (history : O → List E) (fixed : O → F) (legal : F 
   abbrev Rule : St → Type 0
   Rule = IsRuled history fixed legal fits b
 
-  -- where a view has the ticket that is served and is not on turn, the object is home
+  -- if a view has the ticket that is served and is not on turn, the object is home
   home_of : (s : St) (r : Rule s) (id : ℕ) (v : V) → get_elem? s.views id ≡ some v → v.waits ≡ true → v.turn ≡ false →
       v.ticket ≡ r.serving → IsHome history fixed b r.log s.homes s.views
   home_of s r id v at waits turn mine = ⊎_elim (λ (h : IsHome history fixed b r.log s.homes s.views). h)

@@ -1,4 +1,4 @@
--- The views of a table, where one of them changes.
+-- The views of a table when one of them changes.
 use Rattle.std.proofs.Common.{◌≡◌, ◌≢◌, ℕ, zero, suc, ◌<◌, ◌≤◌, true, false, List, [], ◌∷◌, length, get_or, set, All}
 use Rattle.std.proofs.Common.{refl, sym, ap, ◌∙◌, subst, ⊎_elim, arith, true≢false, if◌then◌else◌}
 use mathlib.Core.Option.{some, some-ne-none}
@@ -168,7 +168,7 @@ module _ {E F : Type 0} where
       below = f.below;
     }
 
-    -- the same where no turn came
+    -- a view goes on to fit if no turn came
     pub refit_same : (log : List (ℕ × E)) (t s t' s' : ℕ) (m m' : List ℕ) (d : View E F) → Fits b log t s m d →
         (d.waits ≡ true → (s' ≤ d.ticket) × (d.ticket < t')) → (d.whole ≡ true → d.ticket ≡ s')
         → ((n : ℕ) → get_or m n 0 ≢ 0 → get_or m' n 0 ≢ 0) → length m ≤ length m' → Fits b log t' s' m' d

@@ -40,11 +40,11 @@ module _ {E F : Type 0} where
     pub calls : calls_of name old.front ≡ []
     pub free : All (λ other. other ≢ name) (known_names old)
 
-  -- one pass was split off from this one, which is else as it was
+  -- one pass was split off from this one, which is otherwise as it was
   abbrev pub splits_once : PassView E F → PassView E F
   splits_once old = record old { splits = old.splits + 1 }
 
-  -- a pass found this name taken, and is else as it was
+  -- a pass found this name taken, and is otherwise as it was
   abbrev pub finds_taken : ℕ → PassView E F → PassView E F
   finds_taken name old = record old { taken = name ∷ old.taken }
 

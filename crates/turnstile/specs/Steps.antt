@@ -1,4 +1,4 @@
--- What each atomic step of a turnstile tells the seat that makes it.
+-- What a seat knows after each atomic step that it makes.
 use Rattle.std.specs.Prelude.{◌≡◌, ◌≢◌, ◌-◌, ℕ, ◌<◌, true, false, List, [], ◌∷◌, ◌++◌, length, drop, All, Option, Some}
 use Rattle.std.specs.Prelude.{None, is_some}
 use mathlib.Core.List.{IsPrefix}
@@ -25,11 +25,11 @@ IsIdleStep name m =
     (m.0.named ≡ true) × (m.0.name ≡ name) × (m.0.turn ≡ false) × (length m.1 ≡ 0) × (is_some m.0.start ≡ true)
 
 module _ {O E F : Type 0} where
-  -- the ticket is the seat's where the word was as expected
+  -- the ticket is the seat's if the word was as expected
   abbrev pub DrawsTicket : Step O → HeldStep O E F → ℕ → HeldStep O E F → Type 0
   DrawsTicket st m r m' = (r ≡ st.first → m' ≡ (ticket_view st.first m.0, m.1)) × (r ≢ st.first → m' ≡ m)
 
-  -- where the seat's ticket is served, it learns the whole turn history, and the object stays in the slot
+  -- if the seat's ticket is served, the seat learns the complete turn history, and the object stays in the slot
   abbrev pub SeesLastTurn : Step O → HeldStep O E F → ℕ → HeldStep O E F → Type 0
   SeesLastTurn st m r m' =
       (r ≡ m.0.ticket → (log : List (ℕ × E)) × (m' ≡ (served_view false log m.0, m.1)) × IsPrefix m.0.front log)
@@ -44,15 +44,14 @@ module _ {E F : Type 0} (legal : F → List E → Type 0) (fits : ℕ → E → 
     pub ended : All (λ x. calls_of x.0 v.front ≡ x.1) v.ended
 
   module _ {O : Type 0} where
-    -- the name is the seat's where its word was 0: the seat had none, and the name is none of those that it knew to be
-    -- taken
+    -- the name is the seat's if its word was 0: the seat had no name, and did not know this one to be taken
     abbrev pub TakesName : Step O → HeldStep O E F → ℕ → HeldStep O E F → Type 0
     TakesName st m r m' =
         (r ≡ 0 → (m' ≡ (named_view (st.word - 2) m.0, m.1)) × (m.0.named ≡ false) × All (λ n. n ≢ st.word - 2) m.0.taken
         × ((start : Start E F) → m.0.start ≡ Some start → Knows start m'.0))
         × (r ≢ 0 → m' ≡ (refused_view (st.word - 2) m.0, m.1))
 
-    -- a look at the next ticket, which changes nothing, and tells that what the view says is true
+    -- a look at the next ticket, which changes nothing; what the view says is then known to be true
     abbrev pub LearnsTruth : Step O → HeldStep O E F → ℕ → HeldStep O E F → Type 0
     LearnsTruth st m r m' = (m' ≡ m) × ((start : Start E F) → m.0.start ≡ Some start → Knows start m.0)
         × All (λ xs. IsPrefix xs m.0.front) m.0.below × (st.word ≡ 0)
@@ -63,7 +62,7 @@ module _ {O E F : Type 0} (history : O → List E) where
   added_since None front x = []
   added_since (Some start) front x = drop (length (history_after start front)) (history x)
 
-  -- the view after its turn, as the object that is out tells it
+  -- the view after its turn, by the object that is out
   abbrev pub finished_view : View E F → List (ℕ × O) → View E F
   finished_view v [] = view_after [] v
   finished_view v (c ∷ cs) = view_after (added_since v.start v.front c.1) v
@@ -74,15 +73,15 @@ module _ {O E F : Type 0} (history : O → List E) where
       × ((start : Start E F) → m.0.start ≡ Some start → Knows legal fits start m'.0) × (st.word ≡ 1)
 
   module _ (fixed : O → F) (legal : F → List E → Type 0) (fits : ℕ → E → Type 0) where
-    -- the seat's ticket is served: it knows the whole turn history, in which only others came next, and has the object
-    -- as that left it
+    -- the seat's ticket is served: the seat knows the complete turn history, in which only others came next, and
+    -- has the object as that history left it
     abbrev pub Sees : (O → List (ℕ × O)) → HeldStep O E F → HeldStep O E F → Type 0
     Sees out m m' = (start : Start E F) × (log : List (ℕ × E)) × (between : List (ℕ × E)) × (x : O)
         × (m' ≡ (served_view true log m.0, out x)) × (m.0.front ++ between ≡ log)
         × (m.0.named ≡ true → IsOfOthers m.0.name between) × IsAtStep history fixed start log x
         × Knows legal fits start m'.0
 
-    -- where the seat's ticket is served, the object comes out to it
+    -- if the seat's ticket is served, the object comes out to the seat
     abbrev pub SeesTurn : Step O → HeldStep O E F → ℕ → HeldStep O E F → Type 0
     SeesTurn st m r m' = (r ≡ m.0.ticket → Sees (λ x. (0, x) ∷ m.1) m m') × (r ≢ m.0.ticket → m' ≡ m)
 

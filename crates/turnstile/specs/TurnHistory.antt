@@ -3,11 +3,11 @@
 use Rattle.std.specs.Prelude.{◌≢◌, All, ◌==◌, if◌then◌else◌, ℕ, List, [], ◌∷◌, map, length, nat_lt}
 
 module _ {E : Type 0} where
-  -- the entries alone
+  -- the entries, without the names
   abbrev pub entries : List (ℕ × E) → List E
   entries turns = map (λ turn. turn.1) turns
 
-  -- the entries that stand under this name
+  -- the entries under this name
   abbrev pub calls_of : ℕ → List (ℕ × E) → List E
   calls_of name [] = []
   calls_of name (turn ∷ turns) = if turn.0 == name then turn.1 ∷ calls_of name turns else calls_of name turns

@@ -1,4 +1,4 @@
--- What an object owes that stands in a turnstile.
+-- What an object in a turnstile owes.
 use Rattle.std.specs.Prelude.{◌≡◌, ◌≢◌, ◌⊎◌, ℕ, List, [], ◌∷◌, ◌++◌}
 
 -- a call left the history as it was, or added one entry that fits
@@ -17,8 +17,8 @@ OutlastsOthers {C} {E} {F} legal fits may =
     → may fixed history name call → other ≢ name → fits other entry → legal fixed (history ++ entry ∷ []) →
     may fixed (history ++ entry ∷ []) name call
 
--- the object was `before`, and is `after` since this call under this name: its fixed part is the same, its history is
--- legal, grew by one entry or none, and the reply answers the call
+-- this call under this name made the object `before` the object `after`: its fixed part is the same, its history is
+-- legal and grew by one entry or none, and the reply answers the call
 pub record IsActed {O C R E F : Type 0} (history : O → List E) (fixed : O → F) (legal : F → List E →
     Type 0) (fits : ℕ → E → Type 0) (answers : F → List E → ℕ → C → R → List E → Type 0) (name : ℕ) (call : C)
     (reply : R) (before after : O) : Type 0 where

@@ -7,5 +7,6 @@ pub record TurnstileView : Type 0 where
   pub id : TableId
   pub names : ℕ
 
+-- a turnstile with this table and so many names
 abbrev pub turnstile_view : TableId → ℕ → TurnstileView
 turnstile_view id names = record { id = id; names = names }

@@ -7,7 +7,7 @@ use Rattle.turnstile.specs.Pass.{PassView}
 use Rattle.turnstile.specs.declared.view.Start.{Start}
 use Rattle.turnstile.specs.declared.view.View.{View}
 
--- the first of the names, where there is one
+-- the first of the names, if there is one
 abbrev pub first_seen : List ℕ → List ℕ
 first_seen [] = []
 first_seen (n ∷ ns) = n ∷ []
@@ -125,7 +125,7 @@ module _ {E F : Type 0} where
   abbrev pub splits_back : View E F → View E F → ℕ
   splits_back v w = if w.named then v.splits + w.splits else v.splits + w.splits - 1
 
-  -- the view, where the second went back to it after it found a name taken
+  -- the first view after the second found a name taken and went back to it
   abbrev pub returned_view : View E F → View E F → View E F
   returned_view v w = resting_view v.start v.named v.name v.front v.own v.ended (first_seen w.taken ++ v.taken)
       (splits_back v w)

@@ -1,4 +1,5 @@
-//! Where callers sleep while they wait. The bell tells nothing of the lock, and who is woken looks at the lock again.
+//! Where callers sleep while they wait. The bell says nothing of the lock, so a caller that wakes looks at the lock
+//! again.
 ghost use Rattle.std.specs.Prelude.{◌≡◌};
 
 use atomic_table::{Play, Table, TableRule};
@@ -36,19 +37,19 @@ impl Bell {
         Ok(Bell { table })
     }
 
-    /// Marks the bell: a caller may sleep on it, or be about to. Who marks it looks at the lock before it sleeps.
+    /// Marks the bell: a caller may sleep on it, or be about to. The caller then looks at the lock before it sleeps.
     pub(crate) fn lie_down(&self) {
         self.table.shared.swap_new_seat::<Anything>(0, ASLEEP);
     }
 
-    /// Sleeps until the bell wakes the caller, or not at all where it rang since the caller lay down and nobody lay
-    /// down after that. It may also return for no reason.
+    /// Sleeps until the bell wakes the caller. It does not sleep if the bell rang since the caller lay down and nobody
+    /// lay down after that. It may also return for no reason.
     pub(crate) fn sleep<R: Wait>(&self, rt: &R) {
         self.table.shared.park(rt, 0, ASLEEP as u32);
     }
 
-    /// Wakes one of those who sleep, if any does and somebody lay down since it last rang. For the others' sake who
-    /// comes back from `sleep` lies down again before it looks at the lock.
+    /// Wakes one of the sleepers, if there is any and somebody lay down since the bell last rang. Because others may
+    /// still sleep, a caller that returns from `sleep` lies down again before it looks at the lock.
     pub(crate) fn ring(&self) {
         if self.table.shared.peek(0) == QUIET {
             return;

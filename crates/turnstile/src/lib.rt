@@ -1,6 +1,7 @@
-//! A lock round an object whose calls make one history. Their turns come one after another. A ticket is drawn
-//! where the lock is free, so who waits has none, and in what order those who wait come to their turns is not said.
-//! Each caller has a pass, and a pass knows how that history begins.
+//! A lock around an object whose calls make one history.
+//!
+//! The calls have turns, one after another. A caller draws a ticket only when the lock is free, so callers that wait
+//! have none, and nothing is said about their order. Each caller has a pass, and a pass knows how the history begins.
 #![tactic(auto)]
 
 mod bell;

@@ -18,9 +18,11 @@ use std::marker::Model;
 use std::snapshot::Snapshot;
 use std::sync::Wait;
 
-/// A lock round an object. Who holds a pass of it may call the object, and waits until its turn comes. Tickets are
-/// drawn and served in one order, but each is drawn where the lock is free, and nothing says who of those that wait
-/// draws it. There is a fixed number of names, the numbers below it, and each is taken at most once.
+/// A lock around an object.
+///
+/// The holder of a pass may call the object, and waits until its turn comes. Tickets are drawn and served in one order,
+/// but each is drawn when the lock is free, and nothing says which of the waiting callers draws it. The names are the
+/// numbers below a fixed number, and each is taken at most once.
 #[derive(Drop)]
 pub struct Turnstile<H: TurnObject> {
     table: Table<H, View<H::Entry, H::Fixed>, Key<H>, TurnRule<H>, Global>,
@@ -41,8 +43,11 @@ impl<H: TurnObject> Model for Turnstile<H> {
 }
 
 impl<H: TurnObject> Turnstile<H> {
-    /// A turnstile round the object, with this many names, and its first pass, which has the name 0. Where there is no
-    /// memory the object is dropped.
+    /// Returns a turnstile around the object, with `names` names, and its first pass, which has the name 0.
+    ///
+    /// # Errors
+    ///
+    /// Returns `AllocError` if memory runs out. The object is then dropped.
     pub fn new(alloc: Global, object: H, names: u32) -> Result<(Turnstile<H>, Pass<H>), AllocError>
         requires names { 1 ≤ names }
         requires legal { H.legal (H.fixed object) (H.history object) }
@@ -65,8 +70,10 @@ impl<H: TurnObject> Turnstile<H> {
         }
     }
 
-    /// Waits for the pass's turn, and makes the call. Calls of other passes may come before it; the reply is that of
-    /// the object as they left it. Once all 2^64 - 1 tickets were drawn it waits for ever.
+    /// Waits for the pass's turn, makes the call and returns the reply.
+    ///
+    /// Calls of other passes may come before it, and the object replies as they left it. Once all 2^64 - 1 tickets are
+    /// drawn, it waits for ever.
     pub fn hold<R: Wait>(&self, rt: &R, pass: &mut Pass<H>, call: H::Call) -> H::Reply
         requires turnstile { pass.old.turnstile ≡ self.now.id }
         requires may { MayPass H.may pass.old call }
@@ -77,8 +84,10 @@ impl<H: TurnObject> Turnstile<H> {
         self.take_turn(rt, &mut pass.seat, name, call)
     }
 
-    /// Cuts off a further pass, which knows the turns that this one knows, under a name that is free. `None` where the
-    /// name was taken already, also if its pass is dropped or joined: a name is free once. It takes no memory.
+    /// Splits off a further pass under a name that is free. The new pass knows the turns that this one knows.
+    ///
+    /// Returns `None` if the name was taken already, even if its pass was dropped or joined: a name is free once. It
+    /// takes no memory.
     pub fn split(&self, pass: &mut Pass<H>, name: u32) -> Option<Pass<H>>
         requires turnstile { pass.old.turnstile ≡ self.now.id }
         requires name { name < self.now.names }
@@ -98,7 +107,7 @@ impl<H: TurnObject> Turnstile<H> {
         None
     }
 
-    /// Ends a pass and its name: the other pass knows from now on what both knew. It takes no memory.
+    /// Ends a pass and its name. The other pass knows from now on what both knew. It takes no memory.
     pub fn join(&self, into: &mut Pass<H>, pass: Pass<H>)
         requires into { into.old.turnstile ≡ self.now.id }
         requires pass { pass.turnstile ≡ self.now.id }
@@ -111,8 +120,7 @@ impl<H: TurnObject> Turnstile<H> {
         shared.load::<Learn<H>>(&mut into.seat, 0);
     }
 
-    /// Waits for a last turn, takes the object out and frees the turnstile. Passes that are still there are of no use
-    /// from then on.
+    /// Waits for a last turn, takes the object out and frees the turnstile. Other passes are of no use from then on.
     pub fn close<R: Wait>(self, rt: &R, pass: Pass<H>) -> H
         requires turnstile { pass.turnstile ≡ self.id }
         ensures { Closes H.history H.fixed H.legal H.fits pass result }

@@ -6,10 +6,11 @@ use crate::view::View;
 use atomic_table::Seat;
 use std::marker::Model;
 
-/// What one caller knows of the turns of one turnstile, under a name that no other pass of it has. Contracts see which
-/// turnstile it is of, how that started, the name, the front (the turns so far, as the pass knows them), the names that
-/// ended in it, and the further names that it knows to be taken. A pass that is dropped keeps its name taken, and
-/// stops nobody.
+/// What one caller knows of the turns of one turnstile, under a name that no other pass of it has.
+///
+/// Contracts see the turnstile, how it started, the name, the front (the turns that the pass knows), the names that
+/// ended in the pass, the further names that it knows to be taken, and how many passes were split off from it and from
+/// those that ended in it. A pass that is dropped keeps its name taken, and stops nobody.
 #[derive(Drop)]
 pub struct Pass<H: TurnObject> {
     pub(crate) seat: Seat<H, View<H::Entry, H::Fixed>>,
@@ -29,7 +30,7 @@ impl<H: TurnObject> Model for Pass<H> {
 }
 
 impl<H: TurnObject> Pass<H> {
-    /// The name under which its calls are made.
+    /// Returns the name under which the pass's calls are made.
     pub fn name(&self) -> u32
         ensures { result ≡ self.now.name }
     {

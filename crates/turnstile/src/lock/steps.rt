@@ -21,7 +21,7 @@ const LOOKS: u32 = 100;
 const YIELDS: u32 = 16;
 
 impl<H: TurnObject> Turnstile<H> {
-    // A whole turn of a pass's seat.
+    // Makes a turn of a pass's seat, from its ticket to its end.
     pub(super) fn take_turn<R: Wait>(
         &self,
         rt: &R,
@@ -45,13 +45,13 @@ impl<H: TurnObject> Turnstile<H> {
         reply
     }
 
-    // Whether `next`, which was seen as the next ticket, is served. If so the lock was free at a moment since; if not, a
-    // turn ended since or is still to end.
+    // Returns whether `next`, which was seen as the next ticket, is served. If so, the lock was free at a moment since.
+    // If not, a turn ended since or is still to end.
     fn is_free(&self, next: u64) -> bool {
         next == self.table.shared.peek(1)
     }
 
-    // Looks up to `LOOKS` times. True where it found the lock free.
+    // Looks up to `LOOKS` times, and returns whether it found the lock free.
     fn finds_it_free(&self) -> bool {
         for _ in 0..LOOKS {
             if self.is_free(self.table.shared.peek(0)) {
@@ -62,8 +62,7 @@ impl<H: TurnObject> Turnstile<H> {
         false
     }
 
-    // True where it found the lock free, false where it left its processor to others `YIELDS` times and had not found it
-    // so.
+    // Returns whether it found the lock free before it had left its processor to others `YIELDS` times.
     fn lets_others_go(&self) -> bool {
         for _ in 0..YIELDS {
             if self.finds_it_free() {
@@ -74,8 +73,8 @@ impl<H: TurnObject> Turnstile<H> {
         false
     }
 
-    // Waits for the lock to be free, and sleeps at most once; after a sleep it may be taken still. Who comes back from
-    // `sleep` lies down again, since others may sleep.
+    // Waits for the lock to be free, and sleeps at most once. After a sleep the lock may still be taken. A caller that
+    // returns from `sleep` lies down again, because others may sleep.
     fn wait_for_others<R: Wait>(&self, rt: &R) {
         if self.lets_others_go() {
             return;
@@ -87,8 +86,8 @@ impl<H: TurnObject> Turnstile<H> {
         }
     }
 
-    // Who draws a ticket finds it served, since none is drawn before the lock is free. At the last ticket it waits for
-    // ever.
+    // Draws a ticket, which is then served at once, because no ticket is drawn before the lock is free. At the last
+    // ticket it waits for ever.
     pub(super) fn draw_ticket<R: Wait>(
         &self,
         rt: &R,
@@ -115,7 +114,7 @@ impl<H: TurnObject> Turnstile<H> {
         unreachable!()
     }
 
-    // The object comes out to the seat.
+    // Waits until the ticket is served. The object then comes out to the seat.
     fn await_turn<R: Wait>(&self, rt: &R, seat: &mut Seat<H, View<H::Entry, H::Fixed>>, ticket: u64)
         requires table { seat.old.table_id ≡ self.now.id }
         requires start { is_some seat.old.me.0.start ≡ true }
@@ -134,6 +133,7 @@ impl<H: TurnObject> Turnstile<H> {
         unreachable!()
     }
 
+    // Makes the call on the object that is out.
     fn act(
         &self,
         seat: &mut Seat<H, View<H::Entry, H::Fixed>>,
@@ -153,7 +153,7 @@ impl<H: TurnObject> Turnstile<H> {
         object.act(name, call)
     }
 
-    // The object goes home.
+    // Ends the turn: the object goes home.
     fn end_turn(&self, seat: &mut Seat<H, View<H::Entry, H::Fixed>>, ticket: u64)
         requires table { seat.old.table_id ≡ self.now.id }
         requires below { ticket + 1 < 2 ^ 64 }
@@ -171,7 +171,7 @@ impl<H: TurnObject> Turnstile<H> {
         self.bell.ring();
     }
 
-    // As `await_turn`, where the turnstile is closed: the object stays in the slot.
+    // Waits until the ticket is served when the turnstile is closed. The object stays in the slot.
     pub(super) fn await_last_turn<R: Wait>(
         &self,
         rt: &R,

@@ -1,4 +1,4 @@
-use Rattle.std.proofs.Common.{ℕ, List, ◌≡◌, ◌-◌, ◌<◌, length, get_or, sym, ◌∙◌, arith}
+use Rattle.std.proofs.Common.{◌≡◌, ◌-◌, length, ◌∙◌, arith}
 use Rattle.run_set.specs.Numbers.{count_le, stacked}
 use Rattle.run_set.proofs.Lines.{climbs_popped, count_popped, is_absent, number_before, poured}
 use Rattle.run_set.proofs.line.Line.take.Goals as goal

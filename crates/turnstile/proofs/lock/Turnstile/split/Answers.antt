@@ -1,4 +1,4 @@
-use Rattle.std.proofs.Common.{rules, ◌≢◌, ◌∙◌, ap, sym, arith, subst, ◌<◌, ◌+◌, ◌-◌, All}
+use Rattle.std.proofs.Common.{rules, ◌≢◌, ◌∙◌, ap, arith, subst, ◌<◌, ◌+◌, ◌-◌, All}
 use Rattle.turnstile.specs.Pass.{PassView, SplitsOff}
 use Rattle.turnstile.specs.View.{pass_view, named_view}
 use Rattle.turnstile.specs.Steps.{HeldStep as Held}
