@@ -18,10 +18,10 @@ use Rattle.turnstile.specs.TurnHistory.{entries, calls_of, IsOfOthers}
 use Rattle.turnstile.specs.Start.{history_after, IsLawful}
 use Rattle.turnstile.specs.Pass.{own_calls, TakesIn, Closes}
 use Rattle.turnstile.proofs.Logs.{prefix_then, between, silent}
-use Rattle.lane_threads.specs.Closing.{LanePass, IsJoined, Joins, HasOwnCalls, OthersCame, ClosesAfter, hub_seen}
+use Rattle.lane_threads.specs.Closing.{LanePass, IsJoined, Joins, HasOwnCalls, OthersCame, ClosesAfter}
 use Rattle.lane_threads.specs.Closing.{with_splits}
 use Rattle.lane_threads.specs.Object.{IsLegalHistory, IsOfName}
-use Rattle.lane_threads.specs.PassDoor.{seen_from, seen}
+use Rattle.lane_threads.specs.PassDoor.{seen_from}
 use Rattle.lane_threads.proofs.Turning.{at, passes as passes_to}
 
 -- a pass that was joined to the old one stays joined after one more pass

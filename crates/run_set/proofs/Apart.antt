@@ -4,7 +4,7 @@ use Rattle.std.proofs.Common.{refl, sym, ap, ◌∙◌, subst, inl, inr, ⊎_eli
 use Rattle.std.proofs.lemmas.Bool.{le-leb, lt-leb, leb-true, leb-false}
 use mathlib.Core.Logic.{dite}
 use native.Mathlib.Decide.{ℕ_discrete}
-use Rattle.run_set.specs.Counts.{held_to, AreApart, IsBalanced}
+use Rattle.run_set.specs.Counts.{held_to, NoneInCommon, IsBalanced}
 use Rattle.run_set.specs.Numbers.{count_le, one_if, IsAbsent}
 use Rattle.run_set.proofs.Counting.{count_monotone}
 
@@ -69,21 +69,21 @@ absent_more old new at put (suc m) other h =
     let o : one_if (leb at (suc m)) ≡ one_if (leb at m) = one_same at m (λ e. other (sym e)) in
     absent new m (omega (arith, put m, put (suc m), flat old m h))
 
-pub apart_swapped : (xs ys : List ℕ) → AreApart xs ys → AreApart ys xs
+pub apart_swapped : (xs ys : List ℕ) → NoneInCommon xs ys → NoneInCommon ys xs
 apart_swapped xs ys apart n =
     ⊎_elim (λ (h : IsAbsent xs n). inr h) (λ (h : IsAbsent ys n). inl h) (apart n)
 
 -- a number is taken out of the second list
 pub apart_taken : (more less new : List ℕ) (at : ℕ) →
-    ((m : ℕ) → count_le new m + one_if (leb at m) ≡ count_le less m) → AreApart more less → AreApart more new
+    ((m : ℕ) → count_le new m + one_if (leb at m) ≡ count_le less m) → NoneInCommon more less → NoneInCommon more new
 apart_taken more less new at taken apart n =
     ⊎_elim (λ (h : IsAbsent more n). inl h) (λ (h : IsAbsent less n). inr (absent_fewer less new at taken n h))
     (apart n)
 
 -- a number that is absent from the second list comes to the first
 pub apart_put : (more less new : List ℕ) (at : ℕ) →
-    ((m : ℕ) → count_le new m ≡ count_le more m + one_if (leb at m)) → IsAbsent less at → AreApart more less →
-    AreApart new less
+    ((m : ℕ) → count_le new m ≡ count_le more m + one_if (leb at m)) → IsAbsent less at → NoneInCommon more less →
+    NoneInCommon new less
 apart_put more less new at put free apart n =
     dite (ℕ_discrete n at) (λ same. inr (subst (IsAbsent less) (sym same) free))
     (λ other. ⊎_elim (λ (h : IsAbsent more n). inl (absent_more more new at put n other h))

@@ -36,12 +36,12 @@ changed true true n = n + 1
 changed false true n = n - 1
 
 -- no number is in both lists
-abbrev pub AreApart : List ℕ → List ℕ → Type 0
-AreApart first second = (n : ℕ) → IsAbsent first n ⊎ IsAbsent second n
+abbrev pub NoneInCommon : List ℕ → List ℕ → Type 0
+NoneInCommon first second = (n : ℕ) → IsAbsent first n ⊎ IsAbsent second n
 
 -- what is true of all starts and ends
 pub record IsBalanced (starts ends : List ℕ) : Type 0 where
   pub starts_climb : Climbs 0 starts
   pub ends_climb : Climbs 0 ends
   pub enough : (n : ℕ) → count_le ends n ≤ count_le starts n
-  pub apart : AreApart starts ends
+  pub apart : NoneInCommon starts ends

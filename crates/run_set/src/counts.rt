@@ -1,7 +1,7 @@
 //! The starts and ends of runs.
 
 ghost use Rattle.std.specs.Prelude.{◌≡◌, ℕ, ◌+◌, ◌≤◌, ◌<◌, nat_le, nat_lt, true};
-ghost use Rattle.run_set.specs.Counts.{count_of, AreApart, IsBalanced};
+ghost use Rattle.run_set.specs.Counts.{count_of, NoneInCommon, IsBalanced};
 ghost use Rattle.run_set.specs.Edges.{IsFirst};
 ghost use Rattle.run_set.specs.Numbers.{count_le, one_if, Climbs};
 
@@ -26,7 +26,7 @@ pub fn add_one(more: &mut Line, less: &mut Line, at: u64)
     ensures less { Climbs 0 less.new.items }
     ensures counts { (n : ℕ) → count_le more.new.items n + count_le less.old.items n
         ≡ count_le more.old.items n + count_le less.new.items n + one_if (nat_le at n) }
-    ensures apart { AreApart more.old.items less.old.items → AreApart more.new.items less.new.items }
+    ensures apart { NoneInCommon more.old.items less.old.items → NoneInCommon more.new.items less.new.items }
     ensures more_room { more.old.room ≤ more.new.room + 1 }
     ensures less_room { less.old.room ≤ less.new.room }
 {
