@@ -14,7 +14,7 @@ pub enum Errno {
 /// The mistake of a driver or a device, by name.
 #[derive(Clone, Copy, Debug, PartialEq, Eq)]
 pub enum ReportName {
-    /// The tag, map or memory does not exist now.
+    /// The tag, map, memory or ring does not exist now.
     Absent,
     /// The driver cannot reach the byte, or the byte lies past the last frame of an unmapped bio.
     Unmapped,
@@ -22,7 +22,7 @@ pub enum ReportName {
     MapBusy,
     /// The map is not loaded.
     NotLoaded,
-    /// The access of the device, or the range of a sync, reaches past the end of the load.
+    /// The access of the device, or the range of a sync or a post, reaches past the end of the load.
     PastEnd,
     /// The device reads a byte that its map does not lend to read.
     DeviceReadUnlent,
@@ -45,7 +45,8 @@ pub enum ReportName {
     /// The byte is a memory's, but the map is not a memory's own. Or the map is a memory's own, but the byte is not
     /// that memory's byte at this place of the load.
     ForeignMemory,
-    /// No load of the IOMMU tag is in the device page that the device addresses.
+    /// No live device page has the address that the device uses; or no load that a ring can use has, in one
+    /// segment, all bytes that the ring's descriptor names.
     Untranslated,
 }
 

@@ -125,8 +125,8 @@ limits_of l o = unwrap_or (option_map (λ (t : LaneTag). t.limits) (get l.tags o
 abbrev pub one_entry : List Entry → List Entry
 one_entry es = with_entry true (entries_addresses es) []
 
--- the chunks of a load of a map. A map of a tag that could not bounce, and the map of a memory, has no zone: in its
--- loads no byte is excluded and none is misaligned.
+-- The chunks of a load of a map. The bytes of a memory are cut as one entry, without alignment or excluded addresses,
+-- so none bounces.
 abbrev pub chunks_for : LaneState → LaneMap → Bool → List Entry → List Chunk
 chunks_for l o memory es =
     if memory then chunks_of (record (limits_of l o) { alignment = 1 }) 0 (one_entry es)

@@ -190,7 +190,8 @@ release r rest l =
     stepped side.Script (did.Release (named l r.map) page)
     (record { lane = unloads.given_back r rest l; answer = answer.Served (maps_completed got) }))
 
--- the turn of the script: pages go back first, then a resend that is due is made, then the next operation
+-- The turn of the script. It does one thing: it returns the first page of the return queue, or else makes the resend
+-- that is due, or else does the next operation.
 abbrev pub script_turn : List Return → LaneState → Asking Turned
 script_turn [] l = due_turn (sends.due_send l) l
 script_turn (r ∷ rest) l = release r rest l

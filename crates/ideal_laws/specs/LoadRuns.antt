@@ -15,8 +15,8 @@ pub record IsFrameOf (l : LaneState) (m f : ℕ) : Type 0 where
   pub at : slice_get (addresses_of (loan_of l.loans m).positions) place ≡ Some byte
   pub frame : byte / 4096 ≡ f
 
--- a run of a tag belongs to the load of a map of the tag: it begins at the page of the load's first segment, and its
--- frames are the frames of the load's bytes
+-- a run of a tag belongs to the load of a map of the tag: it begins at the page of the load's first segment, and each
+-- of its frames has a byte of the load
 pub record IsLoadRun (l : LaneState) (t : ℕ) (run : DeviceRun) : Type 0 where
   pub map : ℕ
   pub own : LaneMap

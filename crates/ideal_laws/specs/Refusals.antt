@@ -68,7 +68,7 @@ ready_after (did.Release map page) ready = ready
 ready_after (did.Callback map) ready = drop 1 ready
 ready_after (did.Item load_at place) ready = ready
 
--- EFBIG: the map got the first pages of its zone's list, as many as it needs, and they are in the return queue
+-- EFBIG: a number of pages from the front of the zone's list, perhaps 0, went to the map and are in the return queue
 pub record IsTooBig (l : LaneState) (a : Account) (d : Did) (after : LaneState) (b : Account) : Type 0 where
   pub map : ℕ
   pub loaded : map_loaded l d ≡ Some map
@@ -94,7 +94,8 @@ pub record IsDeferred (l : LaneState) (a : Account) (have need : ℕ) (after : L
   pub lane : after ≡ gone_on Script (staged map own (Waiting load) l)
   pub account : b ≡ waiting_at_tail a (named l map) (zone_of_map own) need
 
--- a tag or a map was not made: its zone grew by the pages that came, and was made first if no zone served the tag
+-- A tag or a map was not made. For some limits, a zone that serves them was looked up or made, and then the zone that
+-- the answer names grew by the pages that came.
 pub record IsUnmade (l : LaneState) (a : Account) (g : Grown) (after : LaneState) (b : Account) : Type 0 where
   pub limits : TagLimits
   pub lane : after ≡ gone_on Script l

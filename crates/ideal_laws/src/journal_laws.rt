@@ -26,9 +26,10 @@ pub fn deferred_loads_are_called_once()
 {}
 
 /// Each byte that a read answers is the one that was last written there: by the driver, its devices, a ring or a
-/// resend, or the zero of the opening or of a memory that was asked for with zeros. This holds of each entry of a legal
-/// journal, and of each entry that follows entries which lead on from the opening of a valid scenario. What was last
-/// written is defined without the drivers' ideal memories.
+/// resend, or the zero of the opening or of a memory that was asked for with zeros. What a ring's step reads was last
+/// written at one of the candidates for its descriptor. This holds of each entry of a legal journal, and of each entry
+/// that follows entries which lead on from the opening of a valid scenario. What was last written is defined without
+/// the drivers' ideal memories.
 pub fn reads_answer_the_last_write()
     ensures reads { (s : Scenario) (before : List JournalEntry) (w : WorldState) (e : JournalEntry) (l : LaneState) → IsValid s →
         Leads (opening_world s) before w → step_entry w e.actor ≡ Some e → slice_get w.lanes e.actor.lane.0 ≡ Some l →

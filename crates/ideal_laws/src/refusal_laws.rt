@@ -15,10 +15,10 @@ ghost use Rattle.ideal_laws.specs.Refusals.{IsDeferred, IsTooBig, IsUnmade, Leav
 
 /// A refusal by bus_dma(9) leaves the world unchanged, with these exceptions. After each, the actor's script is at its
 /// next place, or its item has left the queue; after `EBUSY` that is all. After `EINVAL` or `ENOMEM` of a load, its map
-/// shows that a load was tried, and the clusters of a resend have the bytes of the chain. After `EFBIG` the pages of
-/// the load are in the return queue, and the script stays at a send that has clusters. After `EINPROGRESS`, which is
-/// always an answer of its own, the map waits. If a tag or a map could not be made, its zone has grown by the pages
-/// that came.
+/// shows that a load was tried, and the clusters of a resend have the bytes of the chain. After `EFBIG` the pages that
+/// the load got are in the return queue, and the script stays at a send that has clusters. After `EINPROGRESS`, which
+/// is always an answer of its own, the map waits. If a tag or a map could not be made, the zone that the answer names
+/// has grown by the pages that came.
 pub fn refusals_leave_the_rest()
     ensures busy { (w : WorldState) (actor : Actor) (l : LaneState) (e : JournalEntry) →
         slice_get w.lanes actor.lane.0 ≡ Some l → step_entry w actor ≡ Some e → e.answer ≡ Refused EBUSY →

@@ -14,9 +14,10 @@ ghost use Rattle.ideal_world.specs.Wires.{EachDriver};
 ghost use Rattle.ideal_world.specs.World.{WorldState, opening_world, step};
 ghost use Rattle.ideal_laws.specs.LoadRuns.{AreLoadRuns};
 
-/// Device pages do not leak. Each live run of an IOMMU tag's address space belongs to a loaded map of the tag, and has
-/// the frames of the load's bytes. This holds when a scenario opens, each turn of any actor in a well-formed world
-/// keeps it, and so it holds of each world to which the entries of a journal lead from the opening of a valid scenario.
+/// Device pages do not leak. Each live run of an IOMMU tag's address space belongs to a loaded map of the tag, and each
+/// of its frames has a byte of the load. This holds when a scenario opens, each turn of any actor in a well-formed
+/// world keeps it, and so it holds of each world to which the entries of a journal lead from the opening of a valid
+/// scenario.
 pub fn device_runs_are_loads()
     ensures opens { (s : Scenario) → EachDriver (λ i l. AreLoadRuns l) (opening_world s) }
     ensures stays { (s : Scenario) (w : WorldState) (actor : Actor) → IsWellFormed s w →

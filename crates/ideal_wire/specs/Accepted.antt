@@ -20,8 +20,8 @@ pub record ArePagesFor (t : TagLimits) (chunks : List Chunk) (pages : List ℕ) 
   pub count : length pages ≡ need_of chunks
   pub reachable : AllByRecursion (IsReachable t) (as_pages pages)
 
--- the load of a map is of these bytes, in order; what the device finds at the bytes of its segments are the bus
--- addresses of these bytes, in order; and the segments obey the tag for these chunks in these pages
+-- the load of a map is of these bytes, in order; the device finds, at the bytes of its segments, the addresses at which
+-- it reaches these bytes, in order; and the segments obey the tag for these chunks in these pages
 pub record IsAcceptedLoad (l : LaneState) (m : ℕ) (find : ℕ → Option ℕ) (t : TagLimits) (bytes : List ℕ)
     (chunks : List Chunk) (pages : List ℕ) (segments : List Segment) : Type 0 where
   pub buffer : buffers (traces_of l m) ≡ bytes

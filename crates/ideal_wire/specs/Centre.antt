@@ -11,13 +11,13 @@ use Rattle.ideal_wire.specs.Traces.{traces_of}
 abbrev pub IsAt : Loans → ℕ → ℕ → Position → Type 0
 IsAt loans m i p = slice_get (loan_of loans m).positions i ≡ Some p
 
--- a byte with its bus address is at a place of the trace of a map's load
+-- this position is at a place of the trace of a map's load
 abbrev pub IsPlacedAt : Traces → ℕ → ℕ → Placed → Type 0
 IsPlacedAt traces m i t = slice_get (traces m) i ≡ Some t
 
--- A Known byte that is lent to write is at the bus address of the position that lends it. A Known byte that is lent
--- only to read is at the bus address of each position that lends it. A Known byte that is not lent to write is in the
--- buffer.
+-- A Known byte that is lent to write is where the device reaches it by the position that lends it. A Known byte that is
+-- lent only to read is where the device reaches it by each position that lends it. A Known byte that is not lent to
+-- write is in the buffer.
 pub record HasTrueByte (memory : IdealMemory) (loans : Loans) (traces : Traces) (w : Wire) : Type 0 where
   pub written : (m i : ℕ) (p : Position) (t : Placed) (v : ℕ) → IsAt loans m i p → IsPlacedAt traces m i t →
       p.to_write ≡ true → memory p.pa ≡ Some (Known v) → w t.bus ≡ v

@@ -25,8 +25,9 @@ stage_at l m = stage_in (get l.maps m)
 abbrev pub has_place : ℕ → Chunk → Bool
 has_place at c = nat_le c.at at && nat_lt at (c.at + chunk_len c)
 
--- the bus address of the byte at a place of a load, given its physical address: if one of these bounced chunks has the
--- byte, it is in the chunk's page, as far from the chunk's first byte as in the load; else it is the physical address
+-- The physical address at which the device reaches the byte at a place of a load, given the byte's own. If one of these
+-- bounced chunks has the byte, it is in the chunk's page, as far from the chunk's first byte as in the load; otherwise
+-- it is the byte's own.
 abbrev pub bus_at : List Chunk → ℕ → ℕ → ℕ
 bus_at [] at pa = pa
 bus_at (c ∷ cs) at pa = if has_place at c then (bus_extent c).pa.0 + (at - c.at) else bus_at cs at pa
@@ -36,7 +37,8 @@ abbrev pub placed_from : List Chunk → ℕ → List ℕ → List Placed
 placed_from cs at [] = []
 placed_from cs at (pa ∷ pas) = record { pa = pa; bus = bus_at cs at pa } ∷ placed_from cs (at + 1) pas
 
--- the trace of a map's load: each byte's physical address with the bus address at which the device reaches it
+-- the trace of a map's load: of each byte, its physical address and the one at which the device reaches it, which is in
+-- a bounce page or the byte's own
 abbrev pub traces_of : LaneState → Traces
 traces_of l m = placed_from (bounced_in (stage_at l m)) 0 (addresses_of (loan_of l.loans m).positions)
 

@@ -53,7 +53,7 @@ abbrev pub if_done : Asking Outcome → Wire → Wire → Wire
 if_done (Gives o) after w = if_answered o.answer after w
 if_done (Asks c k) after w = w
 
--- the wire after a sync of these positions: PREWRITE copies the bounced bytes to their bus addresses, and POSTREAD
+-- the wire after a sync of these positions: PREWRITE copies the bounced bytes into their bounce pages, and POSTREAD
 -- copies them back; PREREAD and POSTWRITE copy nothing
 abbrev pub copied_by : ℕ → List Placed → Wire → Wire
 copied_by ops ps w = if prewrite ops then copied_in ps w else if postread ops then copied_out ps w else w
@@ -79,7 +79,7 @@ place_bytes l place len = bytes_at l (run_of (unwrap_or (virtual_at l place) 0) 
 abbrev pub wire_cpu_write : Place → List ℕ → LaneState → Wire → Wire
 wire_cpu_write place vs l w = if_done (accesses.cpu_write place vs l) (put (place_bytes l place (length vs)) vs w) w
 
--- the bus addresses of a range of a map's load, in order
+-- the physical addresses at which the device reaches the bytes of a range of a map's load, in order
 abbrev pub load_buses : LaneState → ℕ → ℕ → ℕ → List ℕ
 load_buses l m off len = buses (stretch off len (traces_of l m))
 
@@ -189,7 +189,7 @@ abbrev pub wire_due_turn : Option Send → LaneState → Wire → Wire
 wire_due_turn None l w = wire_next_operation (slice_get l.script l.place) l w
 wire_due_turn (Some s) l w = wire_resend s l w
 
--- the wire after the script's turn, in which pages go back first
+-- the wire after the script's turn; the return of a page changes no byte
 abbrev pub wire_script_turn : List Return → LaneState → Wire → Wire
 wire_script_turn [] l w = wire_due_turn (due_send l) l w
 wire_script_turn (r ∷ rest) l w = w
@@ -207,12 +207,13 @@ wire_lane_step l side.Callback w = w
 
 -- What comes and goes
 
--- a byte that is the driver's own before and after a step is unchanged
+-- beyond the step's own writes, which `w` has already, no byte changes that is the driver's before and after the step
 abbrev pub KeepsOwn : IdealMemory → IdealMemory → Wire → Wire → Type 0
 KeepsOwn before after w w' =
     (a : ℕ) → is_some (before a) ≡ true → is_some (after a) ≡ true → w' a ≡ w a
 
--- a byte of a page that a map holds before and after a step is unchanged
+-- beyond the step's own writes, which `w` has already, no byte changes of a page that a map holds before and after the
+-- step
 abbrev pub KeepsPages : FinMap nat_cmp LaneMap → FinMap nat_cmp LaneMap → Wire → Wire → Type 0
 KeepsPages before after w w' =
     (m a : ℕ) → is_in_pages (pages_of (stage_in (get before m))) a ≡ true →
@@ -222,8 +223,8 @@ KeepsPages before after w w' =
 abbrev pub BringsKnown : IdealMemory → IdealMemory → Wire → Type 0
 BringsKnown before after w' = (a v : ℕ) → before a ≡ None → after a ≡ Some (Known v) → w' a ≡ v
 
--- what the driver had before a step and has after it keeps its bytes; pages came with any bytes, and frames of memories
--- with what is Known of them
+-- The wire `w'` after a step, if `w` has the step's own writes already: beyond these, no byte changes that is the
+-- driver's before and after the step. Pages came with any bytes, and frames of memories with what is Known of them.
 pub record Follows (before after : LaneState) (w w' : Wire) : Type 0 where
   pub own : KeepsOwn before.memory after.memory w w'
   pub pages : KeepsPages before.maps after.maps w w'

@@ -224,9 +224,10 @@ pub fn wires_stay_faithful()
 {}
 
 /// In a well-formed world whose wires are faithful, what is really read is what the ideal memory has. The
-/// driver reads at the bytes that it names, and its device at the bus addresses of its load. The device of an
-/// IOMMU tag reads at the bytes to which its device addresses are translated. The device of a ring reads at
-/// the ring's head, and at the bytes that the descriptor there names.
+/// driver reads at the bytes that it names. Its device reads where it reaches the bytes of a load: in a
+/// bounce page, or at the byte's own address. The device of an IOMMU tag reads at the bytes to which its
+/// device addresses are translated. The device of a ring reads at the ring's head, and at the bytes that
+/// the descriptor there names.
 pub fn drivers_read_faithfully()
     ensures cpu { (s : Scenario) (w : WorldState) (wires : Wires) (i : ℕ) (l : LaneState) (place : Place) (len : ℕ) →
         IsWellFormed s w → AllFaithful wires w → slice_get w.lanes i ≡ Some l →

@@ -28,10 +28,11 @@ queued_items load_at items = queued_from load_at 0 items
 abbrev pub is_map_at : ℕ → UsedName → Bool
 is_map_at made_at used = accepts used.used_as Map && (used.made_at == made_at)
 
--- an item uses the map that was made at a place of the script
+-- An item names the map that was made at a place of the script. A step of a ring names only its ring, and an access at
+-- a device address only its tag.
 abbrev pub item_names : ℕ → Item → Bool
 item_names made_at i = is_map_at made_at (about_item i).uses
 
--- an item of the queue uses the map that was made at a place of the script
+-- an item of the queue names the map that was made at a place of the script
 abbrev pub queue_names : ℕ → List QueuedItem → Bool
 queue_names made_at queue = list_any (λ q. item_names made_at q.item) queue

@@ -26,10 +26,9 @@ pub struct Driver {
     pub script: ListOf<Op>,
 }
 
-/// A machine, its drivers, and an order of their steps.
+/// A machine, its drivers, and an order of turns.
 ///
-/// Once a bounce zone has a map and `max_bpages` pages, making further maps adds no page to it. The
-/// first allocation of a tag can pass that number.
+/// A bounce zone with `max_bpages` pages or more grows only by first allocations of tags.
 #[derive(Debug, Drop)]
 pub struct Scenario {
     pub frames: ListOf<FrameRun>,

@@ -96,7 +96,7 @@ pub enum Op {
         place: Place,
         bytes: Bytes,
     },
-    /// Waits for the callback and the items of a map.
+    /// Waits for the callback of a map, and for the queued items that name the map.
     Await {
         map: u32,
     },

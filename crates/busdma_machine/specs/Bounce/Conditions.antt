@@ -42,7 +42,9 @@ pub record IsIdle (m : MapId) (z : ℕ) (a : Account) : Type 0 where
   pub holds_nothing : pages_held m a ≡ 0
   pub in_no_list : times_listed m a ≡ 0
 
--- the condition of a lane's call: its map or memory is the lane's, and what it begins or ends can begin or end
+-- The condition of a lane's call. Its map or memory is the lane's. What it makes is new, and what it ends exists. A map
+-- that asks for pages, or is ended, is idle. A request is for at least one page. A page that goes back is held once, by
+-- the map. The tag of a call that can grow a zone could bounce; a tag of `AttachTag` also has ALLOCNOW.
 abbrev pub MayCall : ℕ → HubCall → Account → Type 0
 MayCall lane (AttachTag t) a = IsTrue (could_bounce t a.maxmem) × IsTrue (allocnow t.flags)
 MayCall lane (CreateMap m t first_done) a =

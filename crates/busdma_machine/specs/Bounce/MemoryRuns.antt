@@ -38,7 +38,7 @@ abbrev pub frames_from : ℕ → ℕ → List ℕ
 frames_from zero first = []
 frames_from (suc n) first = first ∷ frames_from n (first + 4096)
 
--- a frame is one of the n frames from `first` on
+-- an address lies in the n frames from the address `first` on
 abbrev pub in_run : ℕ → ℕ → ℕ → Bool
 in_run first n f = nat_le first f && nat_lt f (first + 4096 * n)
 

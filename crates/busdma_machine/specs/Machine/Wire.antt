@@ -16,7 +16,8 @@ abbrev pub with_bytes_of : List FrameBytes → Wire → Wire
 with_bytes_of [] w a = w a
 with_bytes_of (p ∷ ps) w a = if a / 4096 == p.frame then page_byte p a else with_bytes_of ps w a
 
--- a position of a load: the physical address of its byte, and the bus address at which the device reaches it
+-- A position of a load. `pa` is the physical address of its byte. `bus` is the physical address at which the device's
+-- access arrives: in a bounce page, or the byte's own. In a load of an IOMMU tag's map it is not the device address.
 pub record Placed : Type 0 where
   pub pa : ℕ
   pub bus : ℕ
@@ -25,7 +26,7 @@ pub record Placed : Type 0 where
 abbrev pub Traces : Type 0
 Traces = ℕ → List Placed
 
--- the byte is bounced: its bus address is not its physical address
+-- the byte is bounced: the device does not reach it at its own address
 abbrev pub is_bounced : Placed → Bool
 is_bounced p = not (p.bus == p.pa)
 
@@ -33,7 +34,7 @@ is_bounced p = not (p.bus == p.pa)
 abbrev pub buffers : List Placed → List ℕ
 buffers ps = map (λ p. p.pa) ps
 
--- the bus addresses of positions, in order
+-- the physical addresses at which the device reaches the bytes of these positions, in order
 abbrev pub buses : List Placed → List ℕ
 buses ps = map (λ p. p.bus) ps
 
@@ -47,10 +48,10 @@ put [] vs w = w
 put (a ∷ rest) [] w = w
 put (a ∷ rest) (v ∷ vs) w = put rest vs (λ b. if b == a then v else w b)
 
--- the wire after each bounced byte of these positions is copied from its physical address to its bus address
+-- the wire after each bounced byte of these positions is copied into its bounce page
 abbrev pub copied_in : List Placed → Wire → Wire
 copied_in ps w = put (buses (filter is_bounced ps)) (map w (buffers (filter is_bounced ps))) w
 
--- the wire after each bounced byte of these positions is copied from its bus address back to its physical address
+-- the wire after each bounced byte of these positions is copied back from its bounce page
 abbrev pub copied_out : List Placed → Wire → Wire
 copied_out ps w = put (buffers (filter is_bounced ps)) (map w (buses (filter is_bounced ps))) w

@@ -101,10 +101,11 @@ pub fn callbacks_keep_their_order()
         maps_of a.ready ++ maps_joined a es ≡ called es ++ maps_of (account_of a es).ready }
 {}
 
-/// In each zone, maps are served first come, first served. The maps that waited, followed by those that
-/// came to wait, are those that were completed, followed by those that still wait. The line of a zone is
-/// its maps in the callback list, followed by its maps that wait. The maps in the line, followed by those
-/// that came to wait, are those whose callbacks were called, followed by those that are still in the line.
+/// Among the maps that wait for a zone, first come is first served. A load that finds enough free pages
+/// does not wait, even if others do. The maps that waited, followed by those that came to wait, are those
+/// that were completed, followed by those that still wait. The line of a zone is its maps in the callback
+/// list, followed by its maps that wait. The maps in the line, followed by those that came to wait, are
+/// those whose callbacks were called, followed by those that are still in the line.
 pub fn first_come_is_first_served()
     ensures completed { (a : Account) (es : List HoldEntry) (z : ℕ) → IsSound a es →
         waiting_in z a ++ queued_in z es ≡ completed_in z a es ++ waiting_in z (account_of a es) }

@@ -8,7 +8,8 @@ pub struct Pa(pub u64);
 #[derive(Clone, Copy, Debug, PartialEq, Eq, PartialOrd, Ord)]
 pub struct Va(pub u64);
 
-/// `len` bytes from the physical address `pa` on, all in one frame of 4096 bytes.
+/// `len` bytes from the address `pa` on. They are in one frame of 4096 bytes, except in a chunk of device
+/// addresses.
 #[derive(Clone, Copy, Debug, PartialEq, Eq)]
 pub struct Extent {
     pub pa: Pa,

@@ -18,14 +18,13 @@ cpu_read_refusal known loans a =
 abbrev pub cpu_write_refusal : Loans → ℕ → Option ReportName
 cpu_write_refusal loans a = if lent in_any_way a loans then Some CpuWriteLent else None
 
--- why a device must not read the byte at a position of its map: the map does not lend it to read, unless the map is
--- coherent, or the byte is unknown
+-- why a device must not read the byte at a position of its map: the map is not coherent and does not lend it to read;
+-- or the byte is unknown
 abbrev pub dev_read_refusal : (ℕ → Bool) → Bool → Position → Option ReportName
 dev_read_refusal known coherent p =
     if coherent || p.to_read then if known p.pa then None else Some StaleByte else Some DeviceReadUnlent
 
--- why a device must not write the byte at a position of its map: the map does not lend it to write, unless the map is
--- coherent
+-- why a device must not write the byte at a position of its map: the map is not coherent and does not lend it to write
 abbrev pub dev_write_refusal : Bool → Position → Option ReportName
 dev_write_refusal coherent p = if coherent || p.to_write then None else Some DeviceWriteUnlent
 

@@ -33,8 +33,8 @@ preread_refusal loans m p =
 abbrev pub postread_refusal : Position → Option ReportName
 postread_refusal p = if p.to_write then None else Some SyncOrder
 
--- what is wrong with a sync call at a position. SyncOrder comes before Overlap for every set of operations: POSTREAD
--- gives no Overlap, PREREAD gives no SyncOrder, and PREWRITE gives SyncOrder exactly if POSTREAD does not
+-- What is wrong with a sync call at a position: the refusal of POSTREAD, else of PREWRITE, else of PREREAD, of those
+-- that the call has. If one of these is SyncOrder, that is the result.
 abbrev pub sync_refusal : Loans → ℕ → ℕ → Position → Option ReportName
 sync_refusal loans m ops p =
     option_or (if postread ops then postread_refusal p else None)

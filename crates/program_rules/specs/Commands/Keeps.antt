@@ -119,8 +119,8 @@ GaveTooMany e =
     (input : List ℕ) × (rest : List ℕ) × (e.left ≡ Some input) × (e.left_after ≡ Some rest)
     × (length rest + input_limit < length input)
 
--- What a call of the program with these words keeps. The words are judged before anything is read, reading is done
--- before judging, judging before the work, and all memory is taken before the first write.
+-- What a call of the program with these words keeps: which statuses it can have, what each says of reading and writing,
+-- when the call ends with a journal or a refusal, and which outcome its input has.
 pub record Keeps (words : List (List ℕ)) (e : StreamEdges) (o : ProgramEnd) : Type 0 where
   pub known : IsStatus o.status
   pub no_command : o.status ≡ 64 → command words ≡ None

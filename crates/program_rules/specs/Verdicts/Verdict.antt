@@ -46,8 +46,8 @@ pub record IsWhole (s : Scenario) (text : List ℕ) (j : Journal) : Type 0 where
   pub journal : j ≡ journal_at right.world right.entries
   pub closing : right.rest ≡ closing_lines j
 
--- a text goes wrong within the run: an actor can step, and the line with this number, counted from 1, is the line of no
--- step
+-- a text goes wrong within the run: an actor can step; the line with this number, counted from 1, is the line of no
+-- step, or is missing
 pub record StopsWithin (s : Scenario) (text : List ℕ) (number : ℕ) : Type 0 where
   pub right : FollowsText s text
   pub goes_on : CanGoOn right.world
