@@ -9,14 +9,14 @@ ghost use Rattle.busdma_machine.specs.Bounce.Account.{Account, free, reserved, a
 ghost use Rattle.busdma_machine.specs.Bounce.Conditions.{MayCall};
 ghost use Rattle.busdma_machine.specs.Bounce.FirstCome.{called_in_zone, completed_in, zone_line, queued_in, waiting_in};
 ghost use Rattle.busdma_machine.specs.Bounce.History.{IsRising, IsOpening, IsSound, account_of};
-ghost use Rattle.busdma_machine.specs.Bounce.WellFormed.{IsAccountWellFormed as IsWellFormed};
+ghost use Rattle.busdma_machine.specs.Bounce.WellFormed.{IsAccountWellFormed};
 ghost use Rattle.busdma_machine.specs.Bounce.SameFor.{SameFor};
 ghost use Rattle.busdma_machine.specs.Bounce.MemoryRuns.{frames_of};
 ghost use Rattle.busdma_machine.specs.Bounce.Places.{places, times_lent, frame_total};
 ghost use Rattle.busdma_machine.specs.Bounce.AccountStep.{attached, created, released};
 ghost use Rattle.busdma_machine.specs.Bounce.Serving.{returned};
 ghost use Rattle.busdma_machine.specs.Bounce.ServingOrder.{ServesNobody, ServesInOrder};
-ghost use Rattle.busdma_machine.specs.Bounce.ServingOrder.{maps_of, maps_joined, maps_called as called};
+ghost use Rattle.busdma_machine.specs.Bounce.ServingOrder.{maps_of, maps_joined, maps_called};
 ghost use Rattle.busdma_machine.specs.Bounce.WorkedExample.{small_machine, example_calls};
 ghost use Rattle.busdma_machine.specs.Bounce.WorkedExample.{replies, counts_after, answers};
 ghost use Rattle.busdma_machine.specs.Bounce.WorkedExample.{after_calls};
@@ -49,7 +49,7 @@ pub fn counts_add_up()
 /// A sound history leads to an account whose lists fit together.
 pub fn account_is_well_formed()
     ensures { (a : Account) (es : List HoldEntry) → IsOpening a → IsSound a es →
-        IsWellFormed (account_of a es) }
+        IsAccountWellFormed (account_of a es) }
 {}
 
 /// The free frames are in rising order after every sound history, so the first of them is the lowest.
@@ -98,7 +98,7 @@ pub fn release_serves_in_order()
 /// that are still in it.
 pub fn callbacks_keep_their_order()
     ensures { (a : Account) (es : List HoldEntry) → IsSound a es →
-        maps_of a.ready ++ maps_joined a es ≡ called es ++ maps_of (account_of a es).ready }
+        maps_of a.ready ++ maps_joined a es ≡ maps_called es ++ maps_of (account_of a es).ready }
 {}
 
 /// Among the maps that wait for a zone, first come is first served. A load that finds enough free pages
@@ -109,6 +109,6 @@ pub fn callbacks_keep_their_order()
 pub fn first_come_is_first_served()
     ensures completed { (a : Account) (es : List HoldEntry) (z : ℕ) → IsSound a es →
         waiting_in z a ++ queued_in z es ≡ completed_in z a es ++ waiting_in z (account_of a es) }
-    ensures called { (a : Account) (es : List HoldEntry) (z : ℕ) → IsWellFormed a → IsSound a es →
+    ensures called { (a : Account) (es : List HoldEntry) (z : ℕ) → IsAccountWellFormed a → IsSound a es →
         zone_line z a ++ queued_in z es ≡ called_in_zone z a es ++ zone_line z (account_of a es) }
 {}
