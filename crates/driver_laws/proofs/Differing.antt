@@ -41,7 +41,7 @@ then-keeps l k n p q = record {
   memory = q.memory ∙ p.memory;
 }
 
--- what is at a place depends only on the driver's pages and memories
+-- what is at a place depends on the driver's pages and memories only
 module _ (l k : LaneState) (mems : k.mems ≡ l.mems) (pages : k.pages ≡ l.pages) where
   pub same-virtual : (p : Place) → virtual_at k p ≡ virtual_at l p
   same-virtual (At va) = refl

@@ -1,4 +1,5 @@
 pub mod Accessing
+pub mod Allowed
 pub mod Differing
 pub mod Loading
 pub mod Naming
@@ -6,3 +7,4 @@ pub mod Once
 pub mod Stepping
 pub mod Syncing
 pub mod Transfers
+pub mod Unlent

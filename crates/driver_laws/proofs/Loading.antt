@@ -1,6 +1,7 @@
 -- What a load leaves that answers segments.
 use Rattle.std.proofs.Common.{◌≡◌, ℕ, ◌==◌, Bool, true, false, List, [], ◌∷◌, length, map, Option, Some, None}
 use Rattle.std.proofs.Common.{if◌then◌else◌, cond, unwrap_or, nat_lt, refl, ap, sym, ◌∙◌, subst, eq-eqb, append-nil}
+use Rattle.std.proofs.Common.{zero, suc, slice_get}
 use Rattle.std.specs.Cmp.{unsigned_tied}
 use Rattle.std.specs.FinMap.{contains_key, get, insert}
 use Rattle.std.specs.Option.{option_map}
@@ -17,7 +18,7 @@ use Rattle.busdma_machine.specs.declared.report.Errno.TheVariants.{EINVAL}
 use Rattle.busdma_machine.specs.declared.report.Judged.TheVariants.{Fine}
 use Rattle.busdma_machine.specs.declared.report.Report.{Report}
 use Rattle.busdma_machine.specs.Machine.Entry.{entries_addresses}
-use Rattle.busdma_machine.specs.Machine.Spans.{bio_spans}
+use Rattle.busdma_machine.specs.Machine.Spans.{bio_spans, span_addresses}
 use Rattle.busdma_machine.specs.Runs.{run_of}
 use Rattle.busdma_base.specs.declared.journals.answer.Answer.{Answer}
 use Rattle.busdma_base.specs.declared.journals.answer.Answer.TheVariants as answer
@@ -28,8 +29,9 @@ use Rattle.busdma_base.specs.declared.scenarios.script.Place.{Place}
 use Rattle.busdma_rules.specs.Iommu.Device.{device_chunks, load_frames}
 use Rattle.busdma_rules.specs.Iommu.Space.{first_free}
 use Rattle.busdma_rules.specs.Lending.Loans.{Loan, Loans, addresses_of, loan_of, new_loan, unlent_positions}
+use Rattle.busdma_rules.specs.declared.position.Position.{Position}
 use Rattle.busdma_rules.specs.Memory.Bios.{is_rounded}
-use Rattle.busdma_rules.specs.Memory.Translation.{physical_or_0}
+use Rattle.busdma_rules.specs.Memory.Translation.{missing, physical_or_0, unreached}
 use Rattle.busdma_rules.specs.Segments.Chunks.{need_of}
 use Rattle.busdma_rules.proofs.Lending.Marking.{loan_of-insert}
 use Rattle.busdma_rules.proofs.Memory.Paged.{IsPaged}
@@ -40,7 +42,7 @@ use Rattle.ideal_lane.specs.Loads.{is_device}
 use Rattle.ideal_lane.specs.Loads.{limits_of, load, load_addresses, load_chunks, load_entries, load_judged}
 use Rattle.ideal_lane.specs.Loads.{load_translation, taken, zone_of_map}
 use Rattle.ideal_lane.specs.Outcomes.{Outcome, gives, unless_refused}
-use Rattle.ideal_lane.specs.Places.{physical, virtual_at}
+use Rattle.ideal_lane.specs.Places.{first_unreached, physical, virtual_at}
 use Rattle.ideal_lane.specs.State.{LaneMap, LaneState, Loaded, Waiting, WaitingLoad, named}
 use Rattle.ideal_lane.specs.Turns.{bio_at, called, called_at, called_in, flat_bio, load_buffer, never_waits}
 use Rattle.ideal_lane.proofs.Endings.{bounced_in, fits, fitting, segments_of, too_big}
@@ -50,9 +52,9 @@ use Rattle.ideal_wire.specs.Machine.{IsInMachine}
 use Rattle.ideal_wire.specs.Traces.{stage_in}
 use Rattle.ideal_wire.specs.WireStep.{place_bytes}
 use Rattle.ideal_wire.proofs.Laid.Positions.{found_one}
-use Rattle.ideal_wire.proofs.Loads.Asked.{all-of, of-pages}
+use Rattle.ideal_wire.proofs.Loads.Asked.{all-fine, all-of, of-pages}
 use Rattle.ideal_wire.proofs.Loads.Bios.{IsOfPages, bio-paged, bio_places, with-pages}
-use Rattle.ideal_wire.proofs.Loads.Reaching.{all-reached, entries-bytes}
+use Rattle.ideal_wire.proofs.Loads.Reaching.{AllReached, all-reached, entries-bytes}
 use Rattle.ideal_wire.proofs.Laid.SameBytes.{entries-same, judged-same}
 use Rattle.ideal_wire.proofs.Tags.KeptTags.{put-there}
 use Rattle.driver_laws.specs.Steps.{DiffersInWork, IsStep, KeepsContents, called_step, mapped_bytes}
@@ -80,9 +82,23 @@ unlent-addresses : (bytes : List ℕ) → addresses_of (unlent_positions bytes) 
 unlent-addresses [] = refl
 unlent-addresses (b ∷ bytes) = ap (λ bs. b ∷ bs) (unlent-addresses bytes)
 
-put-loan : (loans : Loans) (m : ℕ) (x : Loan) → loan_of (insert loans m x) m ≡ x
+pub put-loan : (loans : Loans) (m : ℕ) (x : Loan) → loan_of (insert loans m x) m ≡ x
 put-loan loans m x =
     loan_of-insert loans m x m ∙ ap (λ b. cond b x (loan_of loans m)) (unsigned_tied m m ∙ eq-eqb m m refl)
+
+-- the bytes of a map with a new loan
+new-bytes : (n : LaneState) (m : ℕ) (coherent : Bool) (bytes : List ℕ) → loan_of n.loans m ≡ new_loan coherent bytes →
+    mapped_bytes n m ≡ bytes
+new-bytes n m coherent bytes e = ap (λ (y : Loan). addresses_of y.positions) e ∙ unlent-addresses bytes
+
+-- none of which is lent to write
+new-unlent : (bytes : List ℕ) (i : ℕ) (p : Position) → slice_get (unlent_positions bytes) i ≡ Some p →
+    p.to_write ≡ false
+new-unlent [] i p e = absurd (cc)
+new-unlent (b ∷ bytes) zero p e =
+    sym (ap (λ (q : Position). q.to_write) (found_one (Some (record { pa = b; to_read = false; to_write = false }))
+    (record { pa = b; to_read = false; to_write = false }) p refl e))
+new-unlent (b ∷ bytes) (suc i) p e = new-unlent bytes i p e
 
 -- ---- the load
 
@@ -95,7 +111,7 @@ pub record HasLoad (n : LaneState) (m : ℕ) (ss : List Segment) : Type 0 where
   pub stage : own.stage ≡ Loaded bounced ss given
 
 -- so it is whatever the driver's work is
-still-loaded : (k n : LaneState) (m : ℕ) (ss : List Segment) → DiffersInWork k n → HasLoad k m ss → HasLoad n m ss
+pub still-loaded : (k n : LaneState) (m : ℕ) (ss : List Segment) → DiffersInWork k n → HasLoad k m ss → HasLoad n m ss
 still-loaded k n m ss e h = record {
   own = h.own;
   there = ap (λ (y : LaneState). get y.maps m) e ∙ h.there;
@@ -108,7 +124,7 @@ module _ (k : LaneState) (m : ℕ) (x : Asked) (ss : List Segment) where
   -- the driver after a load with segments
   record IsAfter (n : LaneState) : Type 0 where
     pub contents : KeepsContents k n
-    pub bytes : mapped_bytes n m ≡ entries_addresses x.entries
+    pub loan : loan_of n.loans m ≡ new_loan (is_coherent (get k.mems m)) (entries_addresses x.entries)
     pub load : HasLoad n m ss
 
   abbrev Loads : Asking Outcome → Type 0
@@ -138,9 +154,7 @@ module _ (k : LaneState) (m : ℕ) (x : Asked) (ss : List Segment) where
         by : (fit : Bool) → Becomes (if fit then fitting k m o at x chunks pages else too_big k m o at x chunks pages)
         by true e = record {
           contents = record { pages = refl; mems = refl; memory = refl };
-          bytes = ap (λ (y : Loan). addresses_of y.positions)
-              (put-loan k.loans m (new_loan (is_coherent (get k.mems m)) (entries_addresses x.entries)))
-              ∙ unlent-addresses (entries_addresses x.entries);
+          loan = put-loan k.loans m (new_loan (is_coherent (get k.mems m)) (entries_addresses x.entries));
           load = record {
             own = placed;
             there = put-there k.maps m placed;
@@ -158,7 +172,7 @@ module _ (k : LaneState) (m : ℕ) (x : Asked) (ss : List Segment) where
         let h = finishes k.place (device_chunks first 0 x.entries) [] e in
         record {
           contents = record { pages = h.contents.pages; mems = h.contents.mems; memory = h.contents.memory };
-          bytes = h.bytes;
+          loan = h.loan;
           load = record {
             own = h.load.own;
             there = h.load.there;
@@ -225,7 +239,7 @@ record IsLoaded (k : LaneState) (m : ℕ) (x : Buffer) (ss : List Segment) (n : 
   pub at : bio_at k x ≡ Some bio
   pub contents : KeepsContents k n
   pub fine : load_judged k m bio ≡ Fine
-  pub bytes : mapped_bytes n m ≡ entries_addresses (load_entries k bio)
+  pub loan : loan_of n.loans m ≡ new_loan (is_coherent (get k.mems m)) (entries_addresses (load_entries k bio))
   pub load : HasLoad n m ss
 
 module _ (k : LaneState) (m flags : ℕ) (x : Buffer) (items : List Item) (ss : List Segment) where
@@ -242,7 +256,7 @@ module _ (k : LaneState) (m flags : ℕ) (x : Buffer) (items : List Item) (ss : 
         at = there;
         contents = h.0.contents;
         fine = h.1;
-        bytes = h.0.bytes;
+        loan = h.0.loan;
         load = h.0.load;
       })
 
@@ -269,6 +283,18 @@ module _ (l n : LaneState) (m flags : ℕ) (x : Buffer) (items : List Item) (ss 
   pub load-contents : KeepsContents l n
   load-contents = then-keeps l s.begun n same (then-keeps s.begun end n done.contents (same-contents end n s.left))
 
+  -- the new loan is coherent if the map is a coherent memory's, and lends nothing
+  pub load-coherent : (loan_of n.loans m).coherent ≡ is_coherent (get l.mems m)
+  load-coherent =
+      ap (λ (y : LaneState). (loan_of y.loans m).coherent) s.left ∙ ap (λ (y : Loan). y.coherent) done.loan
+      ∙ ap (λ (y : LaneState). is_coherent (get y.mems m)) s.same
+
+  pub load-unlent : (i : ℕ) (p : Position) → slice_get (loan_of n.loans m).positions i ≡ Some p → p.to_write ≡ false
+  load-unlent i p at =
+      new-unlent (entries_addresses (load_entries s.begun done.bio)) i p
+      (sym (ap (λ (y : LaneState). slice_get (loan_of y.loans m).positions i) s.left
+      ∙ ap (λ (y : Loan). slice_get y.positions i) done.loan) ∙ at)
+
   pub has-load : HasLoad n m ss
   has-load = still-loaded end n m ss s.left done.load
 
@@ -280,9 +306,13 @@ module _ (l n : LaneState) (m flags : ℕ) (x : Buffer) (items : List Item) (ss 
     judged-fine =
         sym (judged-same l s.begun same.mems same.pages m b) ∙ ap (load_judged s.begun m) (sym is) ∙ done.fine
 
+    pub load-reached : AllReached (load_translation l b) (span_addresses (bio_spans b))
+    load-reached = all-reached l m b judged-fine
+
     pub load-mapped : IsPaged (λ p. Unit {0}) (load_translation l b) → mapped_bytes n m ≡ load_addresses l b
     load-mapped paged =
-        ap (λ (y : LaneState). mapped_bytes y m) s.left ∙ done.bytes
+        ap (λ (y : LaneState). mapped_bytes y m) s.left
+        ∙ new-bytes end m (is_coherent (get s.begun.mems m)) (entries_addresses (load_entries s.begun done.bio)) done.loan
         ∙ ap (λ y. entries_addresses (load_entries s.begun y)) is
         ∙ ap entries_addresses (entries-same l s.begun same.mems same.pages b)
         ∙ entries-bytes (load_translation l b) paged (is_rounded b) (bio_spans b) (all-reached l m b judged-fine)
@@ -304,6 +334,26 @@ module _ (l n : LaneState) (m len flags : ℕ) (place : Place) (items : List Ite
       load-mapped l n m flags (Flat place len) items ss s b there
       (subst (λ y. IsPaged (λ p. Unit {0}) (load_translation l y)) (sym is) paged)
       ∙ ap (load_addresses l) is ∙ ap (map (physical_or_0 (physical l))) (append-nil (run_of va len))
+
+  -- the place is there, and the driver reaches each of its bytes
+  pub flat-there : virtual_at l place ≡ Some (unwrap_or (virtual_at l place) 0)
+  flat-there = by (virtual_at l place) (loaded-bio l n m flags (Flat place len) items ss s).1
+    where
+      by : (o : Option ℕ) → option_map (flat_bio len) o ≡ Some (loaded-bio l n m flags (Flat place len) items ss s).0 →
+          o ≡ Some (unwrap_or o 0)
+      by None e = absurd (cc)
+      by (Some va) e = refl
+
+  pub flat-reached : first_unreached l (unwrap_or (virtual_at l place) 0) len ≡ Fine
+  flat-reached =
+      let va : ℕ = unwrap_or (virtual_at l place) 0 in
+      let there : bio_at l (Flat place len) ≡ Some (flat_bio len va) = ap (option_map (flat_bio len)) flat-there in
+      let all : AllReached (physical l) (run_of va len) =
+      subst (AllReached (physical l)) (append-nil (run_of va len))
+      (load-reached l n m flags (Flat place len) items ss s (flat_bio len va) there) in
+      all-fine (unreached (physical l)) 0 (run_of va len)
+      (all-of (λ v. (p : ℕ) × (physical l v ≡ Some p)) (λ v. unreached (physical l) v ≡ None)
+      (λ v r. ap missing r.1) (run_of va len) all)
 
 -- ---- the callback of a load that waited
 
@@ -351,7 +401,9 @@ module _ (l n : LaneState) (m : MapId) (pages : List Pa) (o : LaneMap) (w : Wait
   pub called-mapped : AreLaid l → IsInMachine l → mapped_bytes n place ≡ load_addresses l w.bio
   called-mapped laid machine =
       let awaited : IsAwaited l place w = subst (LiesIn l place) (ap stage_in there ∙ stage) (laid.each place) in
-      ap (λ (y : LaneState). mapped_bytes y place) left ∙ after.bytes
+      ap (λ (y : LaneState). mapped_bytes y place) left
+      ∙ new-bytes (called_at place o w given now).lane place (is_coherent (get now.mems place))
+      (entries_addresses (load_entries now w.bio)) after.loan
       ∙ ap entries_addresses (entries-same l now contents.mems contents.pages w.bio)
       ∙ entries-bytes (load_translation l w.bio) (bio-paged l laid machine w.bio awaited.named) (is_rounded w.bio)
       (bio_spans w.bio)

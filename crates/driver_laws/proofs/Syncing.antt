@@ -1,15 +1,23 @@
 -- What syncs keep.
 use Rattle.std.proofs.Common.{◌≡◌, ℕ, Bool, true, false, not, ◌&&◌, ◌||◌, List, [], ◌∷◌, if◌then◌else◌, cond, refl, ap}
 use Rattle.std.proofs.Common.{◌∙◌}
+use Rattle.std.proofs.Common.{sym}
+use Rattle.std.proofs.Common.{◌≢◌}
+use Rattle.std.proofs.lemmas.Bool.{ne_eqb}
+use Rattle.std.specs.Cmp.{unsigned_tied}
+use Rattle.std.specs.FinMap.{FinMap, get, insert}
 use Rattle.std.specs.List.{filter}
+use Rattle.std.specs.Ordering.{nat_cmp}
+use Rattle.busdma_machine.specs.declared.machine.address.Segment.{Segment}
 use Rattle.busdma_machine.specs.Machine.Wire.{stretch}
+use Rattle.busdma_machine.specs.declared.report.Judged.TheVariants.{Fine}
 use Rattle.busdma_machine.specs.declared.report.ReportName.TheVariants.{MixedSync}
 use Rattle.busdma_base.specs.declared.journals.answer.Answer.TheVariants as answer
 use Rattle.busdma_rules.specs.declared.position.Position.{Position}
-use Rattle.busdma_rules.specs.Lending.Loans.{Loans, addresses_of, loan_of}
-use Rattle.busdma_rules.specs.Lending.SyncEffects.{loses, lost, sync_answer, synced}
+use Rattle.busdma_rules.specs.Lending.Loans.{Loan, Loans, addresses_of, loan_of}
+use Rattle.busdma_rules.specs.Lending.SyncEffects.{loses, lost, marked_range, sync_answer, synced}
 use Rattle.busdma_rules.specs.Tags.SyncOps.{is_mixed, postread, postwrite, preread, prewrite}
-use Rattle.busdma_rules.proofs.Lending.Marking.{addresses_of-synced}
+use Rattle.busdma_rules.proofs.Lending.Marking.{addresses_of-synced, loan_of-insert}
 use Rattle.ideal_lane.specs.Asking.{Asking, by_reply}
 use Rattle.ideal_lane.specs.IdealMemory.{forgotten}
 use Rattle.ideal_lane.specs.Outcomes.{Outcome, gives, load_length, refused, unless_past, unless_refused}
@@ -18,6 +26,7 @@ use Rattle.ideal_lane.specs.Syncs.{copies, counted, sync, sync_part, sync_range}
 use Rattle.ideal_lane.proofs.Refusing.{either, judged, past, unloaded}
 use Rattle.driver_laws.specs.Steps.{DiffersInWork, IsStep, KeepsContents, makes_unknown, mapped_bytes}
 use Rattle.driver_laws.proofs.Accessing.{Ends, not-done}
+use Rattle.driver_laws.proofs.Loading.{HasLoad, put-loan}
 use Rattle.driver_laws.proofs.Differing.{same-contents, then-keeps}
 
 -- ---- what is lost
@@ -58,6 +67,29 @@ postread-keeps ops e alone = by (preread ops) (prewrite ops) (postread ops) (pos
     by true r false w f g = absurd (cc)
     by true r true w f g = absurd (cc)
 
+-- ---- what is lent
+
+module _ (loans : Loans) (m off len ops : ℕ) where
+  synced-others : (j : ℕ) → j ≢ m → loan_of (synced loans m off len ops) j ≡ loan_of loans j
+  synced-others j ne = by (loan_of loans m).coherent
+    where
+      x : Loan
+      x = record { coherent = false; positions = marked_range ops off len (loan_of loans m).positions }
+
+      by : (b : Bool) → loan_of (if b then loans else insert loans m x) j ≡ loan_of loans j
+      by true = refl
+      by false =
+          loan_of-insert loans m x j
+          ∙ ap (λ b. cond b x (loan_of loans j)) (unsigned_tied j m ∙ ne_eqb j m ne)
+
+  synced-coherent : (loan_of loans m).coherent ≡ false → (loan_of (synced loans m off len ops) m).coherent ≡ false
+  synced-coherent e =
+      ap (λ b. (loan_of (if b then loans else insert loans m x) m).coherent) e
+      ∙ ap (λ (y : Loan). y.coherent) (put-loan loans m x)
+    where
+      x : Loan
+      x = record { coherent = false; positions = marked_range ops off len (loan_of loans m).positions }
+
 -- ---- the step
 
 module _ (k : LaneState) (m off len ops : ℕ) where
@@ -66,7 +98,9 @@ module _ (k : LaneState) (m off len ops : ℕ) where
     pub memory : n.memory ≡ forgotten (lost k.loans m off len ops) k.memory
     pub pages : n.pages ≡ k.pages
     pub mems : n.mems ≡ k.mems
+    pub maps : n.maps ≡ k.maps
     pub alone : is_mixed ops ≡ false
+    pub fine : sync_answer k.loans m off len ops ≡ Fine
 
   abbrev Syncs : Asking Outcome → Type 0
   Syncs = Ends answer.Done IsSynced
@@ -84,7 +118,15 @@ module _ (k : LaneState) (m off len ops : ℕ) where
       (unless_refused (sync_answer k.loans m off len ops) k (done_step o))
       (λ mixed r e. absurd (not-done _ e)) (λ alone.
       judged k Syncs (λ x r e. absurd (not-done x e)) (sync_answer k.loans m off len ops) (done_step o)
-      (λ fine r e. record { loans = refl; memory = refl; pages = refl; mems = refl; alone = alone }))
+      (λ fine r e. record {
+        loans = refl;
+        memory = refl;
+        pages = refl;
+        mems = refl;
+        maps = refl;
+        alone = alone;
+        fine = fine;
+      }))
 
   range-syncs : Syncs (sync_range m off len ops k)
   range-syncs =
@@ -141,6 +183,35 @@ module _ (l n : LaneState) (m ops : ℕ) (s : IsStep (sync m ops) l n answer.Don
 
   pub sync-mems : n.mems ≡ l.mems
   sync-mems = ap (λ (y : LaneState). y.mems) s.left ∙ synced-so.mems ∙ ap (λ (y : LaneState). y.mems) s.same
+
+  pub sync-load : (ss : List Segment) → HasLoad l m ss → HasLoad n m ss
+  sync-load ss h = record {
+    own = h.own;
+    there = ap (λ (y : LaneState). get y.maps m) s.left ∙ ap (λ (ms : FinMap nat_cmp LaneMap). get ms m) synced-so.maps
+        ∙ ap (λ (y : LaneState). get y.maps m) s.same ∙ h.there;
+    bounced = h.bounced;
+    given = h.given;
+    stage = h.stage;
+  }
+
+  -- what is lent after it
+  pub sync-loans : n.loans ≡ synced l.loans m 0 (load_length l m) ops
+  sync-loans =
+      ap (λ (y : LaneState). y.loans) s.left ∙ synced-so.loans
+      ∙ ap (λ (y : LaneState). synced y.loans m 0 (load_length y m) ops) s.same
+
+  -- what other maps lend
+  pub sync-others : (j : ℕ) → j ≢ m → loan_of n.loans j ≡ loan_of l.loans j
+  sync-others j ne =
+      ap (λ loans. loan_of loans j) sync-loans ∙ synced-others l.loans m 0 (load_length l m) ops j ne
+
+  pub sync-coherent : (loan_of l.loans m).coherent ≡ false → (loan_of n.loans m).coherent ≡ false
+  sync-coherent e =
+      ap (λ loans. (loan_of loans m).coherent) sync-loans ∙ synced-coherent l.loans m 0 (load_length l m) ops e
+
+  pub sync-fine : sync_answer l.loans m 0 (load_length l m) ops ≡ Fine
+  sync-fine =
+      sym (ap (λ (y : LaneState). sync_answer y.loans m 0 (load_length y m) ops) s.same) ∙ synced-so.fine
 
   -- the bytes that it makes Unknown
   pub sync-forgets : (keys : List ℕ) × (n.memory ≡ forgotten keys l.memory)
