@@ -1,9 +1,9 @@
 -- What reads and writes leave and answer.
 use Rattle.std.proofs.Common.{◌≡◌, ℕ, List, [], length, Option, Some, None, unwrap_or, refl, ap, sym, ◌∙◌}
+use Rattle.busdma_machine.specs.Runs.{run_of}
 use Rattle.busdma_machine.specs.declared.bounce.hold.HubReply.{HubReply}
 use Rattle.busdma_machine.specs.declared.report.Judged.TheVariants.{Fine}
 use Rattle.busdma_machine.specs.declared.report.Report.{Report}
-use Rattle.busdma_machine.specs.Runs.{run_of}
 use Rattle.busdma_base.specs.declared.journals.answer.Answer.{Answer}
 use Rattle.busdma_base.specs.declared.journals.answer.Answer.TheVariants as answer
 use Rattle.busdma_base.specs.declared.scenarios.script.Place.{Place}

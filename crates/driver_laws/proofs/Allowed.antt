@@ -1,46 +1,43 @@
 -- What the device may do after a sync: PREWRITE lets it read the load, and PREREAD lets it write there.
-use Rattle.std.proofs.Common.{◌≡◌, ℕ, zero, suc, ◌+◌, ◌==◌, ◌&&◌, ◌||◌, ◌++◌, ◌-◌, Bool, true, false, not, List}
-use Rattle.std.proofs.Common.{[], ◌∷◌}
-use Rattle.std.proofs.Common.{length, map, Option, Some, None, slice_get, is_some, take, drop, if◌then◌else◌}
-use Rattle.std.proofs.Common.{cond}
+use Rattle.std.proofs.Common.{◌≡◌, ℕ, zero, suc, ◌+◌, ◌==◌, ◌&&◌, ◌||◌, ◌++◌, ◌-◌, Bool, true, false, not, List, []}
+use Rattle.std.proofs.Common.{◌∷◌, length, map, Option, Some, None, slice_get, is_some, take, drop, if◌then◌else◌, cond}
 use Rattle.std.proofs.Common.{refl, ap, sym, ◌∙◌, arith, append-nil, eq-eqb}
 use Rattle.std.proofs.lemmas.Bool.{le-leb}
 use Rattle.std.proofs.lemmas.List.{drop_all, length-map, take_all}
 use Rattle.std.proofs.lemmas.Option.{slice_get-map}
 use Rattle.std.specs.FinMap.{get, insert}
 use Rattle.std.specs.Option.{option_map}
+use Rattle.busdma_machine.specs.Judging.{judged}
+use Rattle.busdma_machine.specs.Runs.{run_of}
 use Rattle.busdma_machine.specs.declared.machine.address.Segment.{Segment}
 use Rattle.busdma_machine.specs.declared.report.Judged.{Judged}
 use Rattle.busdma_machine.specs.declared.report.Judged.TheVariants.{Fine}
 use Rattle.busdma_machine.specs.declared.report.ReportName.{ReportName}
-use Rattle.busdma_machine.specs.declared.report.ReportName.TheVariants.{DeviceReadUnlent, DeviceWriteUnlent, NotLoaded}
-use Rattle.busdma_machine.specs.declared.report.ReportName.TheVariants.{PastEnd, StaleByte}
-use Rattle.busdma_machine.specs.Judging.{judged}
+use Rattle.busdma_machine.specs.declared.report.ReportName.TheVariants.{CpuReadLent, DeviceReadUnlent}
+use Rattle.busdma_machine.specs.declared.report.ReportName.TheVariants.{DeviceWriteUnlent, NotLoaded, PastEnd}
+use Rattle.busdma_machine.specs.declared.report.ReportName.TheVariants.{StaleByte}
 use Rattle.busdma_base.specs.declared.journals.answer.Answer.TheVariants as answer
-use Rattle.busdma_rules.specs.declared.position.Position.{Position}
-use Rattle.busdma_rules.specs.Lending.Access.{cpu_read_answer, cpu_read_refusal}
-use Rattle.busdma_rules.specs.Lending.Access.{dev_read_answer, dev_read_refusal, dev_write_answer, dev_write_refusal}
-use Rattle.busdma_rules.specs.Lending.Loans.{Loan, Loans, load_bytes, loan_of}
+use Rattle.busdma_base.specs.declared.scenarios.script.Place.{Place}
+use Rattle.busdma_rules.specs.Lending.Access.{cpu_read_answer, cpu_read_refusal, dev_read_answer, dev_read_refusal}
+use Rattle.busdma_rules.specs.Lending.Access.{dev_write_answer, dev_write_refusal}
+use Rattle.busdma_rules.specs.Lending.Loans.{Loan, Loans, lent, load_bytes, loan_of, to_write}
 use Rattle.busdma_rules.specs.Lending.SyncEffects.{marked, marked_range, synced}
 use Rattle.busdma_rules.specs.Tags.SyncOps.{is_mixed, postread, postwrite, preread, prewrite}
+use Rattle.busdma_rules.specs.declared.position.Position.{Position}
 use Rattle.ideal_lane.specs.Accesses.{cpu_read, dev_read, dev_write, values}
 use Rattle.ideal_lane.specs.Asking.{Asking}
 use Rattle.ideal_lane.specs.IdealMemory.{Content, IdealMemory, Known, is_known, known, written, written_at}
 use Rattle.ideal_lane.specs.Outcomes.{Outcome, gives, is_loaded, load_length, refused, unless_absent, unless_past}
 use Rattle.ideal_lane.specs.Outcomes.{unless_refused, unless_unloaded}
 use Rattle.ideal_lane.specs.Places.{bytes_at, first_unreached, virtual_at}
-use Rattle.ideal_wire.specs.WireStep.{place_bytes}
-use Rattle.busdma_machine.specs.Runs.{run_of}
-use Rattle.busdma_base.specs.declared.scenarios.script.Place.{Place}
-use Rattle.busdma_machine.specs.declared.report.ReportName.TheVariants.{CpuReadLent}
-use Rattle.busdma_rules.specs.Lending.Loans.{lent, to_write}
-use Rattle.driver_laws.proofs.Accessing.{begin_at}
 use Rattle.ideal_lane.specs.State.{LaneMap, LaneState}
+use Rattle.ideal_wire.specs.WireStep.{place_bytes}
 use Rattle.ideal_wire.proofs.Faithful.Wiring.{own-written}
 use Rattle.ideal_wire.proofs.Laid.Positions.{found_one}
 use Rattle.ideal_wire.proofs.Loads.Asked.{all-fine}
 use Rattle.ideal_wire.proofs.Loads.Reaching.{all-from}
 use Rattle.driver_laws.specs.Steps.{mapped_bytes}
+use Rattle.driver_laws.proofs.Accessing.{begin_at}
 use Rattle.driver_laws.proofs.Loading.{HasLoad, put-loan}
 
 -- ---- what is written is Known
@@ -220,7 +217,8 @@ module _ (l : LaneState) where
     read-fine each =
         ap (judged refusal 0) (whole m len long)
         ∙ all-fine refusal 0 (loan_of l.loans m).positions
-        (all-from (λ p. refusal p ≡ None) (loan_of l.loans m).positions (λ i p at. passes p (each i p at).0 (each i p at).1))
+        (all-from (λ p. refusal p ≡ None) (loan_of l.loans m).positions
+        (λ i p at. passes p (each i p at).0 (each i p at).1))
       where
         refusal : Position → Option ReportName
         refusal = dev_read_refusal (is_known l.memory) (loan_of l.loans m).coherent

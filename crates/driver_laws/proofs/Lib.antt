@@ -1,6 +1,7 @@
 pub mod Accessing
 pub mod Allowed
 pub mod Differing
+pub mod DoneTransfers
 pub mod Loading
 pub mod Naming
 pub mod Once
@@ -8,3 +9,4 @@ pub mod Stepping
 pub mod Syncing
 pub mod Transfers
 pub mod Unlent
+pub mod Unloading

@@ -5,6 +5,9 @@ use Rattle.std.proofs.Common.{zero, suc, slice_get}
 use Rattle.std.specs.Cmp.{unsigned_tied}
 use Rattle.std.specs.FinMap.{contains_key, get, insert}
 use Rattle.std.specs.Option.{option_map}
+use Rattle.busdma_machine.specs.Machine.Entry.{entries_addresses}
+use Rattle.busdma_machine.specs.Machine.Spans.{bio_spans, span_addresses}
+use Rattle.busdma_machine.specs.Runs.{run_of}
 use Rattle.busdma_machine.specs.declared.bounce.hold.HubCall.TheVariants.{Grab}
 use Rattle.busdma_machine.specs.declared.bounce.hold.HubReply.{HubReply}
 use Rattle.busdma_machine.specs.declared.bounce.hold.HubReply.TheVariants as reply
@@ -17,9 +20,6 @@ use Rattle.busdma_machine.specs.declared.report.Errno.{Errno}
 use Rattle.busdma_machine.specs.declared.report.Errno.TheVariants.{EINVAL}
 use Rattle.busdma_machine.specs.declared.report.Judged.TheVariants.{Fine}
 use Rattle.busdma_machine.specs.declared.report.Report.{Report}
-use Rattle.busdma_machine.specs.Machine.Entry.{entries_addresses}
-use Rattle.busdma_machine.specs.Machine.Spans.{bio_spans, span_addresses}
-use Rattle.busdma_machine.specs.Runs.{run_of}
 use Rattle.busdma_base.specs.declared.journals.answer.Answer.{Answer}
 use Rattle.busdma_base.specs.declared.journals.answer.Answer.TheVariants as answer
 use Rattle.busdma_base.specs.declared.scenarios.buffer.Buffer.{Buffer}
@@ -29,17 +29,16 @@ use Rattle.busdma_base.specs.declared.scenarios.script.Place.{Place}
 use Rattle.busdma_rules.specs.Iommu.Device.{device_chunks, load_frames}
 use Rattle.busdma_rules.specs.Iommu.Space.{first_free}
 use Rattle.busdma_rules.specs.Lending.Loans.{Loan, Loans, addresses_of, loan_of, new_loan, unlent_positions}
-use Rattle.busdma_rules.specs.declared.position.Position.{Position}
 use Rattle.busdma_rules.specs.Memory.Bios.{is_rounded}
 use Rattle.busdma_rules.specs.Memory.Translation.{missing, physical_or_0, unreached}
 use Rattle.busdma_rules.specs.Segments.Chunks.{need_of}
+use Rattle.busdma_rules.specs.declared.position.Position.{Position}
 use Rattle.busdma_rules.proofs.Lending.Marking.{loan_of-insert}
 use Rattle.busdma_rules.proofs.Memory.Paged.{IsPaged}
 use Rattle.lane_agreement.specs.After.{addresses_of_pages}
 use Rattle.ideal_lane.specs.Asking.{Asking, Asks, Gives, by_reply}
 use Rattle.ideal_lane.specs.Loads.{Asked, asked, chunks_for, device_load, ended, finished, granted, is_coherent}
-use Rattle.ideal_lane.specs.Loads.{is_device}
-use Rattle.ideal_lane.specs.Loads.{limits_of, load, load_addresses, load_chunks, load_entries, load_judged}
+use Rattle.ideal_lane.specs.Loads.{is_device, limits_of, load, load_addresses, load_chunks, load_entries, load_judged}
 use Rattle.ideal_lane.specs.Loads.{load_translation, taken, zone_of_map}
 use Rattle.ideal_lane.specs.Outcomes.{Outcome, gives, unless_refused}
 use Rattle.ideal_lane.specs.Places.{first_unreached, physical, virtual_at}
@@ -52,10 +51,10 @@ use Rattle.ideal_wire.specs.Machine.{IsInMachine}
 use Rattle.ideal_wire.specs.Traces.{stage_in}
 use Rattle.ideal_wire.specs.WireStep.{place_bytes}
 use Rattle.ideal_wire.proofs.Laid.Positions.{found_one}
+use Rattle.ideal_wire.proofs.Laid.SameBytes.{entries-same, judged-same}
 use Rattle.ideal_wire.proofs.Loads.Asked.{all-fine, all-of, of-pages}
 use Rattle.ideal_wire.proofs.Loads.Bios.{IsOfPages, bio-paged, bio_places, with-pages}
 use Rattle.ideal_wire.proofs.Loads.Reaching.{AllReached, all-reached, entries-bytes}
-use Rattle.ideal_wire.proofs.Laid.SameBytes.{entries-same, judged-same}
 use Rattle.ideal_wire.proofs.Tags.KeptTags.{put-there}
 use Rattle.driver_laws.specs.Steps.{DiffersInWork, IsStep, KeepsContents, called_step, mapped_bytes}
 use Rattle.driver_laws.proofs.Accessing.{Ends, left-over}
@@ -312,7 +311,8 @@ module _ (l n : LaneState) (m flags : ℕ) (x : Buffer) (items : List Item) (ss 
     pub load-mapped : IsPaged (λ p. Unit {0}) (load_translation l b) → mapped_bytes n m ≡ load_addresses l b
     load-mapped paged =
         ap (λ (y : LaneState). mapped_bytes y m) s.left
-        ∙ new-bytes end m (is_coherent (get s.begun.mems m)) (entries_addresses (load_entries s.begun done.bio)) done.loan
+        ∙ new-bytes end m (is_coherent (get s.begun.mems m)) (entries_addresses (load_entries s.begun done.bio))
+        done.loan
         ∙ ap (λ y. entries_addresses (load_entries s.begun y)) is
         ∙ ap entries_addresses (entries-same l s.begun same.mems same.pages b)
         ∙ entries-bytes (load_translation l b) paged (is_rounded b) (bio_spans b) (all-reached l m b judged-fine)

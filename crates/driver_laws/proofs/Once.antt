@@ -1,21 +1,21 @@
 -- The bytes of a place are the driver's own, and each has one place.
-use Rattle.std.proofs.Common.{◌≡◌, ℕ, zero, suc, ◌+◌, true, length, Option, Some, None, slice_get}
-use Rattle.std.proofs.Common.{is_some, unwrap_or, refl, ap, sym, ◌∙◌, arith}
+use Rattle.std.proofs.Common.{◌≡◌, ℕ, zero, suc, ◌+◌, true, length, Option, Some, None, slice_get, is_some, unwrap_or}
+use Rattle.std.proofs.Common.{refl, ap, sym, ◌∙◌, arith}
 use Rattle.std.proofs.lemmas.List.{length-map}
 use Rattle.std.proofs.lemmas.Option.{slice_get-map}
 use Rattle.std.specs.Option.{option_map}
-use Rattle.busdma_machine.specs.declared.report.Judged.TheVariants.{Fine}
 use Rattle.busdma_machine.specs.Runs.{run_of}
+use Rattle.busdma_machine.specs.declared.report.Judged.TheVariants.{Fine}
 use Rattle.busdma_rules.specs.Memory.Translation.{missing, physical_or_0, unreached}
 use Rattle.ideal_lane.specs.Places.{bytes_at, first_unreached, physical}
 use Rattle.ideal_lane.specs.State.{LaneState}
 use Rattle.ideal_wire.specs.Apart.{IsApart}
 use Rattle.ideal_wire.specs.Laid.{AreLaid}
 use Rattle.ideal_wire.specs.Machine.{IsInMachine}
-use Rattle.ideal_wire.proofs.Faithful.PlacedLoads.{reaches}
-use Rattle.ideal_wire.proofs.Laid.Positions.{fine_at, found_one}
 use Rattle.ideal_wire.proofs.Apart.ReachedOnce.{reached-once}
+use Rattle.ideal_wire.proofs.Faithful.PlacedLoads.{reaches}
 use Rattle.ideal_wire.proofs.Faithful.Twins.{HasNoTwins}
+use Rattle.ideal_wire.proofs.Laid.Positions.{fine_at, found_one}
 
 -- ---- runs
 

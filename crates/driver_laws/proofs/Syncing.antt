@@ -1,22 +1,20 @@
 -- What syncs keep.
 use Rattle.std.proofs.Common.{◌≡◌, ℕ, Bool, true, false, not, ◌&&◌, ◌||◌, List, [], ◌∷◌, if◌then◌else◌, cond, refl, ap}
-use Rattle.std.proofs.Common.{◌∙◌}
-use Rattle.std.proofs.Common.{sym}
-use Rattle.std.proofs.Common.{◌≢◌}
+use Rattle.std.proofs.Common.{◌∙◌, sym, ◌≢◌}
 use Rattle.std.proofs.lemmas.Bool.{ne_eqb}
 use Rattle.std.specs.Cmp.{unsigned_tied}
 use Rattle.std.specs.FinMap.{FinMap, get, insert}
 use Rattle.std.specs.List.{filter}
 use Rattle.std.specs.Ordering.{nat_cmp}
-use Rattle.busdma_machine.specs.declared.machine.address.Segment.{Segment}
 use Rattle.busdma_machine.specs.Machine.Wire.{stretch}
+use Rattle.busdma_machine.specs.declared.machine.address.Segment.{Segment}
 use Rattle.busdma_machine.specs.declared.report.Judged.TheVariants.{Fine}
 use Rattle.busdma_machine.specs.declared.report.ReportName.TheVariants.{MixedSync}
 use Rattle.busdma_base.specs.declared.journals.answer.Answer.TheVariants as answer
-use Rattle.busdma_rules.specs.declared.position.Position.{Position}
 use Rattle.busdma_rules.specs.Lending.Loans.{Loan, Loans, addresses_of, loan_of}
 use Rattle.busdma_rules.specs.Lending.SyncEffects.{loses, lost, marked_range, sync_answer, synced}
 use Rattle.busdma_rules.specs.Tags.SyncOps.{is_mixed, postread, postwrite, preread, prewrite}
+use Rattle.busdma_rules.specs.declared.position.Position.{Position}
 use Rattle.busdma_rules.proofs.Lending.Marking.{addresses_of-synced, loan_of-insert}
 use Rattle.ideal_lane.specs.Asking.{Asking, by_reply}
 use Rattle.ideal_lane.specs.IdealMemory.{forgotten}
@@ -26,8 +24,8 @@ use Rattle.ideal_lane.specs.Syncs.{copies, counted, sync, sync_part, sync_range}
 use Rattle.ideal_lane.proofs.Refusing.{either, judged, past, unloaded}
 use Rattle.driver_laws.specs.Steps.{DiffersInWork, IsStep, KeepsContents, makes_unknown, mapped_bytes}
 use Rattle.driver_laws.proofs.Accessing.{Ends, not-done}
-use Rattle.driver_laws.proofs.Loading.{HasLoad, put-loan}
 use Rattle.driver_laws.proofs.Differing.{same-contents, then-keeps}
+use Rattle.driver_laws.proofs.Loading.{HasLoad, put-loan}
 
 -- ---- what is lost
 

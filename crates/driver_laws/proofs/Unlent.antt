@@ -1,6 +1,6 @@
 -- After POSTREAD no map lends the bytes of a load to write, if its map is not coherent.
-use Rattle.std.proofs.Common.{◌≡◌, ◌≢◌, ◌⊎◌, inl, inr, ℕ, ◌&&◌, ◌||◌, Bool, true, false, not, length, Option}
-use Rattle.std.proofs.Common.{Some, None, slice_get, if◌then◌else◌, refl, ap, sym, ◌∙◌, arith}
+use Rattle.std.proofs.Common.{◌≡◌, ◌≢◌, ◌⊎◌, inl, inr, ℕ, ◌&&◌, ◌||◌, Bool, true, false, not, length, Option, Some}
+use Rattle.std.proofs.Common.{None, slice_get, if◌then◌else◌, refl, ap, sym, ◌∙◌, arith}
 use Rattle.std.proofs.lemmas.Bool.{false≢true}
 use Rattle.std.proofs.lemmas.List.{take_all}
 use Rattle.std.proofs.lemmas.Option.{slice_get-map}
@@ -9,11 +9,11 @@ use Rattle.busdma_machine.specs.Judging.{judged}
 use Rattle.busdma_machine.specs.Machine.Wire.{stretch}
 use Rattle.busdma_machine.specs.declared.report.Judged.TheVariants.{Fine}
 use Rattle.busdma_machine.specs.declared.report.ReportName.TheVariants.{Overlap}
-use Rattle.busdma_rules.specs.declared.position.Position.{Position}
-use Rattle.busdma_rules.specs.Lending.Loans.{Loans, addresses_of, in_any_way, lent, lent_elsewhere, loan_of, stands_twice}
-use Rattle.busdma_rules.specs.Lending.Loans.{to_write}
+use Rattle.busdma_rules.specs.Lending.Loans.{Loans, addresses_of, in_any_way, lent, lent_elsewhere, loan_of}
+use Rattle.busdma_rules.specs.Lending.Loans.{stands_twice, to_write}
 use Rattle.busdma_rules.specs.Lending.SyncEffects.{marked, sync_answer, sync_refusal, synced}
 use Rattle.busdma_rules.specs.Tags.SyncOps.{postread, preread}
+use Rattle.busdma_rules.specs.declared.position.Position.{Position}
 use Rattle.ideal_wire.specs.Centre.{IsAt}
 use Rattle.ideal_wire.proofs.Faithful.Lent.{Lender, lender_of, lent_by_another}
 use Rattle.ideal_wire.proofs.Faithful.SyncedPositions.{decided, preread_part, preread_passes}
@@ -35,7 +35,8 @@ module _ (loans : Loans) (m ops : ℕ) (pre : preread ops ≡ true) (direct : (l
   position-alone : (i : ℕ) (p : Position) → slice_get (loan_of loans m).positions i ≡ Some p →
       lent_elsewhere in_any_way m p.pa loans ≡ false
   position-alone i p at =
-      by (preread_passes p.to_write (lent_elsewhere in_any_way m p.pa loans) (stands_twice p.pa (loan_of loans m)) Overlap
+      by (preread_passes p.to_write (lent_elsewhere in_any_way m p.pa loans) (stands_twice p.pa (loan_of loans m))
+      Overlap
       (preread_part loans m ops p
       (fine_at (sync_refusal loans m ops) 0 (loan_of loans m).positions judged-fine i p at) pre))
     where
@@ -68,7 +69,8 @@ postread-ends ops post q = λ i. not (not (post i) && (preread ops || q.to_write
 
 module _ (before after : Loans) (m ops : ℕ) (post : postread ops ≡ true)
     (direct : (loan_of (synced after m 0 (length (loan_of after m).positions) ops) m).coherent ≡ false)
-    (others : (j : ℕ) → j ≢ m → loan_of (synced after m 0 (length (loan_of after m).positions) ops) j ≡ loan_of before j)
+    (others : (j : ℕ) → j ≢ m →
+    loan_of (synced after m 0 (length (loan_of after m).positions) ops) j ≡ loan_of before j)
     (a : ℕ) (alone : lent_elsewhere in_any_way m a before ≡ false) where
   abbrev now : Loans
   now = synced after m 0 (length (loan_of after m).positions) ops
@@ -98,8 +100,9 @@ module _ (before after : Loans) (m ops : ℕ) (post : postread ops ≡ true)
       none l = at (decided l.by_map m)
         where
           at : (l.by_map ≡ m) ⊎ (l.by_map ≢ m) → ⊥
-          at (inl e) = by-itself l.place l.position (sym (ap (λ j. slice_get (loan_of now j).positions l.place) e) ∙ l.at)
-              l.lends
+          at (inl e) =
+              by-itself l.place l.position
+              (sym (ap (λ j. slice_get (loan_of now j).positions l.place) e) ∙ l.at) l.lends
           at (inr ne) = by-another l.by_map l.place l.position ne l.at l.same l.lends
 
       by : (b : Bool) → lent to_write a now ≡ b → lent to_write a now ≡ false

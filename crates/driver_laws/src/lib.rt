@@ -8,7 +8,7 @@ mod transfer_laws;
 
 pub use step_laws::{
     loads_map_the_buffer, reads_answer_memory, segments_name_the_load, syncs_keep_bytes,
-    turns_are_steps, writes_are_kept,
+    turns_are_steps, unloads_keep_bytes, writes_are_kept,
 };
 pub use transfer_laws::{
     devices_read_what_drivers_wrote, devices_write_what_is_loaded, drivers_read_what_devices_wrote,

@@ -1,13 +1,14 @@
 //! Laws of single steps.
 
-ghost use Rattle.std.specs.Prelude.{◌≡◌, ◌∷◌, ℕ, false, length, List, Some};
 ghost use Rattle.std.specs.FinMap.{get};
+ghost use Rattle.std.specs.Prelude.{◌≡◌, ◌∷◌, [], ℕ, false, true, length, List, Some};
 ghost use Rattle.busdma_machine.specs.declared.bounce.hold.HubReply.{HubReply};
 ghost use Rattle.busdma_machine.specs.declared.bounce.hold.HubReply.TheVariants.{Called};
 ghost use Rattle.busdma_machine.specs.declared.machine.address.Pa.{Pa};
 ghost use Rattle.busdma_machine.specs.declared.machine.address.Segment.{Segment};
 ghost use Rattle.busdma_machine.specs.declared.machine.bio.Bio.{Bio};
 ghost use Rattle.busdma_machine.specs.declared.name.MapId.{MapId};
+ghost use Rattle.busdma_base.specs.Scenarios.Buffers.{IsBioOf};
 ghost use Rattle.busdma_base.specs.declared.journals.answer.Answer.{Answer};
 ghost use Rattle.busdma_base.specs.declared.journals.answer.Answer.TheVariants.{Bytes, Done, Segments};
 ghost use Rattle.busdma_base.specs.declared.journals.journal.JournalEntry.{JournalEntry};
@@ -18,8 +19,9 @@ ghost use Rattle.busdma_base.specs.declared.scenarios.queued.QueuedItem.{QueuedI
 ghost use Rattle.busdma_base.specs.declared.scenarios.script.Item.{Item};
 ghost use Rattle.busdma_base.specs.declared.scenarios.script.Op.{Op};
 ghost use Rattle.busdma_base.specs.declared.scenarios.script.Place.{Place};
-ghost use Rattle.busdma_base.specs.Scenarios.Buffers.{IsBioOf};
 ghost use Rattle.busdma_rules.specs.Lending.Loans.{load_bytes};
+ghost use Rattle.busdma_rules.specs.Lending.SyncEffects.{lost_by_forgetting};
+ghost use Rattle.busdma_rules.specs.Tags.SyncOps.{postread};
 ghost use Rattle.ideal_lane.specs.Accesses.{cpu_read, cpu_write, dev_read, dev_write, values};
 ghost use Rattle.ideal_lane.specs.Asking.{Asking, Gives, by_reply, goes_on};
 ghost use Rattle.ideal_lane.specs.IdealMemory.{written};
@@ -30,7 +32,9 @@ ghost use Rattle.ideal_lane.specs.Sends.{is_kept, send_of};
 ghost use Rattle.ideal_lane.specs.State.{LaneMap, LaneState, Waiting, WaitingLoad};
 ghost use Rattle.ideal_lane.specs.Syncs.{sync, sync_range};
 ghost use Rattle.ideal_lane.specs.Turns.{Stepped, bio_at, lane_step, load_buffer, operation, transfer, went_on};
+ghost use Rattle.ideal_lane.specs.Unloads.{unload};
 ghost use Rattle.ideal_wire.specs.Apart.{IsApart};
+ghost use Rattle.ideal_wire.specs.Centre.{IsExclusive};
 ghost use Rattle.ideal_wire.specs.Laid.{AreLaid};
 ghost use Rattle.ideal_wire.specs.Machine.{IsInMachine};
 ghost use Rattle.ideal_wire.specs.Mapped.{AreMapped};
@@ -96,8 +100,8 @@ pub fn loads_map_the_buffer()
 {}
 
 /// The segments that a load answers name the bytes of its map's load, in order, and each byte that its device finds by
-/// them is one that the driver holds. The same holds of the callback of a load that waited. After the load, the driver has
-/// its loads laid, and those of IOMMU tags are in their runs.
+/// them is one that the driver holds. The same holds of the callback of a load that waited. After the load, the driver
+/// has its loads laid, and the loads of IOMMU tags are in their runs.
 pub fn segments_name_the_load()
     ensures load { (l n : LaneState) (m flags : ℕ) (x : Buffer) (items : List Item) (segments : List Segment) →
         AreLaid n → AreMapped n → IsStep (load_buffer m x flags items) l n (Segments segments) →
@@ -118,4 +122,13 @@ pub fn syncs_keep_bytes()
         mapped_bytes n k ≡ mapped_bytes l k }
     ensures range_contents { (l n : LaneState) (m off len ops : ℕ) → makes_unknown ops ≡ false →
         IsStep (sync_range m off len ops) l n Done → KeepsContents l n }
+{}
+
+/// An unload that is done changes no byte of the driver if its map lends no byte to write. The map lends none after a
+/// sync of the complete load with POSTREAD, if the driver's loans are exclusive. They are if its wire is faithful.
+pub fn unloads_keep_bytes()
+    ensures contents { (l n : LaneState) (m : ℕ) → IsStep (unload m) l n Done → lost_by_forgetting l.loans m ≡ [] →
+        KeepsContents l n }
+    ensures postread { (l n p : LaneState) (m ops : ℕ) → IsExclusive n.loans → IsStep (sync m ops) l n Done →
+        postread ops ≡ true → IsStep (unload m) n p Done → KeepsContents n p }
 {}

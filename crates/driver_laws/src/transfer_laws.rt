@@ -1,7 +1,7 @@
 //! Laws of transfers: of a few steps one after the other.
 
-ghost use Rattle.std.specs.Prelude.{◌≡◌, ℕ, false, true, length, List};
 ghost use Rattle.std.specs.FinMap.{get};
+ghost use Rattle.std.specs.Prelude.{◌≡◌, ℕ, false, true, length, List};
 ghost use Rattle.busdma_machine.specs.declared.machine.address.Segment.{Segment};
 ghost use Rattle.busdma_base.specs.declared.journals.answer.Answer.TheVariants.{Bytes, Done, Segments};
 ghost use Rattle.busdma_base.specs.declared.scenarios.buffer.Buffer.TheVariants.{Flat};
@@ -36,8 +36,8 @@ pub fn devices_read_what_drivers_wrote()
         IsStep (dev_read m 0 (length vs)) d e (Bytes bytes) → bytes ≡ vs }
 {}
 
-/// After PREREAD the device may write the complete load. The driver loads bytes at a place and syncs the load with PREREAD.
-/// Then a write of the complete load by its device is done, and the place has the bytes that were written.
+/// After PREREAD the device may write the complete load. The driver loads bytes at a place and syncs the load with
+/// PREREAD. Then a write of the complete load by its device is done, and it writes the bytes at the place.
 pub fn devices_write_what_is_loaded()
     ensures { (a b c d : LaneState) (place : Place) (vs : List ℕ) (m flags ops : ℕ) (items : List Item)
         (segments : List Segment) → AreLaid a → IsInMachine a →
@@ -47,9 +47,9 @@ pub fn devices_write_what_is_loaded()
 {}
 
 /// What the driver reads after POSTREAD is what its device wrote. The driver loads bytes at a place and syncs the load,
-/// with PREREAD if its map is not coherent. Its device writes the complete load. The driver syncs the load with POSTREAD.
-/// Then its read of the place is done, if the map is not that of a coherent memory. A read that is done answers what the
-/// device wrote.
+/// with PREREAD if its map is not coherent. Its device writes the complete load, and the driver syncs the load with
+/// POSTREAD. If a read of the place is done then, it answers what the device wrote. The read is always done if the map
+/// is not that of a coherent memory.
 pub fn drivers_read_what_devices_wrote()
     ensures done { (a b c d e f : LaneState) (place : Place) (vs : List ℕ) (m flags before after : ℕ)
         (items : List Item) (segments : List Segment) → AreLaid a → IsInMachine a → IsApart a →

@@ -1,6 +1,6 @@
+use Rattle.busdma_base.specs.declared.scenarios.buffer.Buffer.TheVariants.{Flat}
 use Rattle.ideal_wire.proofs.Loads.Bios.{bio-paged}
 use Rattle.ideal_wire.proofs.Loads.Reaching.{paged}
-use Rattle.busdma_base.specs.declared.scenarios.buffer.Buffer.TheVariants.{Flat}
 use Rattle.driver_laws.proofs.Loading.{called-contents, called-mapped, flat-mapped, load-contents, load-mapped}
 use Rattle.driver_laws.proofs.step_laws.loads_map_the_buffer.Goals as goal
 

@@ -7,5 +7,6 @@ returns-clause-load c = λ l n m flags x items segments laid mapped s. load-name
     (has-load l n m flags x items segments s)
 
 pub returns-clause-called : goal.returns-clause-called
-returns-clause-called c = λ l n m pages o w segments laid mapped there stage s. load-named n m.made_at segments laid mapped
+returns-clause-called c = λ l n m pages o w segments laid mapped there stage s.
+    load-named n m.made_at segments laid mapped
     (called-load l n m pages o w segments there stage s)

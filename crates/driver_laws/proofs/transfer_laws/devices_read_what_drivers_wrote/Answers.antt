@@ -1,4 +1,5 @@
-use Rattle.driver_laws.proofs.Transfers.{device-done, device-reads}
+use Rattle.driver_laws.proofs.DoneTransfers.{device-done}
+use Rattle.driver_laws.proofs.Transfers.{device-reads}
 use Rattle.driver_laws.proofs.transfer_laws.devices_read_what_drivers_wrote.Goals as goal
 
 pub returns-clause-done : goal.returns-clause-done

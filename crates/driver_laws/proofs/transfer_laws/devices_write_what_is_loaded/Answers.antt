@@ -1,4 +1,4 @@
-use Rattle.driver_laws.proofs.Transfers.{device-written}
+use Rattle.driver_laws.proofs.DoneTransfers.{device-written}
 use Rattle.driver_laws.proofs.transfer_laws.devices_write_what_is_loaded.Goals as goal
 
 pub returns : goal.returns

@@ -1,4 +1,5 @@
-use Rattle.driver_laws.proofs.Transfers.{driver-done, driver-reads}
+use Rattle.driver_laws.proofs.DoneTransfers.{driver-done}
+use Rattle.driver_laws.proofs.Transfers.{driver-reads}
 use Rattle.driver_laws.proofs.transfer_laws.drivers_read_what_devices_wrote.Goals as goal
 
 pub returns-clause-done : goal.returns-clause-done
