@@ -47,8 +47,8 @@ abbrev pub tried_by : Option ℕ → LaneState → LaneState
 tried_by None l = l
 tried_by (Some m) l = tried_at m (get l.maps m) l
 
--- the driver after a load that was refused before it had pages, if what was done is a load: only its map shows that it
--- was tried
+-- the driver after a load that was refused before it had pages, if what was done is a load: its map shows that a load
+-- was tried, and a resend has copied the chain into its clusters
 abbrev pub refused_load : Did → LaneState → LaneState
 refused_load d l = tried_by (map_loaded l d) (begun_by d l)
 

@@ -13,10 +13,11 @@ ghost use Rattle.ideal_world.specs.WellFormed.{IsWellFormed};
 ghost use Rattle.ideal_world.specs.World.{WorldState, step, step_entry};
 ghost use Rattle.ideal_laws.specs.Refusals.{IsDeferred, IsTooBig, IsUnmade, Leaves, refused_load};
 
-/// A refusal by bus_dma(9) leaves the world unchanged, with these exceptions. After each, the actor's script is at its
-/// next place, or its item has left the queue; after `EBUSY` that is all. After `EINVAL` or `ENOMEM` of a load, its map
-/// shows that a load was tried, and the clusters of a resend have the bytes of the chain. After `EFBIG` the pages that
-/// the load got are in the return queue, and the script stays at a send that has clusters. After `EINPROGRESS`, which
+/// A refusal by bus_dma(9) leaves the world unchanged, with these exceptions. After each but `EFBIG`, the actor's
+/// script is at its next place, or its item has left the queue; after `EBUSY` that is all. After `EINVAL` or `ENOMEM`
+/// of a load, its map shows that a load was tried. After `EFBIG` the pages that the load got are in the return queue; a
+/// callback has left the callback list, the script stays at a send that has clusters, and any other script goes on.
+/// After `EINVAL`, `ENOMEM` or `EFBIG` of a resend, its clusters have the bytes of the chain. After `EINPROGRESS`, which
 /// is always an answer of its own, the map waits. If a tag or a map could not be made, the zone that the answer names
 /// has grown by the pages that came.
 pub fn refusals_leave_the_rest()
