@@ -50,7 +50,10 @@ pub enum ReportName {
     Untranslated,
 }
 
-/// A named mistake and its place: an offset in bytes, which each operation counts by its own rule.
+/// A named mistake and its place, an offset in bytes.
+///
+/// An access, and `PastEnd`, count from the first byte of the access or the range. A load, `SyncOrder` and `Overlap`
+/// count from the first byte of the load. It is 0 if no byte is meant.
 #[derive(Clone, Copy, Debug, PartialEq, Eq)]
 pub struct Report {
     pub name: ReportName,

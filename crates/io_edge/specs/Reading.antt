@@ -19,16 +19,16 @@ SaysEnd (Bytes n) room = (n ≡ 0) × (0 < room)
 SaysEnd End room = ⊤
 SaysEnd Failed room = ⊥
 
--- the first `count` bytes of what was left were taken
+-- if the bytes that were left are known, the first `count` of them were taken
 abbrev pub Takes : ℕ → Option (List ℕ) → Option (List ℕ) → Type 0
 Takes count before after =
     IfSome before (λ left. (count ≤ length left) × (after ≡ Some (drop count left)))
 
--- the first bytes of what was left were taken, at most `limit` of them
+-- if the bytes that were left are known, the first of them were taken, at most `limit`
 abbrev pub TakesAtMost : ℕ → Option (List ℕ) → Option (List ℕ) → Type 0
 TakesAtMost limit before after = (count : ℕ) × (count ≤ limit) × Takes count before after
 
--- these bytes were all that was left, and nothing is left now
+-- if the bytes that were left are known, they were these, and none is left now
 abbrev pub TakesAll : List ℕ → Option (List ℕ) → Option (List ℕ) → Type 0
 TakesAll bytes before after = IfSome before (λ left. (left ≡ bytes) × (after ≡ Some []))
 

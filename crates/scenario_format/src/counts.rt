@@ -6,7 +6,7 @@
 pub struct Counts {
     /// The operations and items of this driver's script.
     pub steps: u64,
-    /// The bytes that drivers and devices read, in all scripts.
+    /// The bytes that drivers and devices read, in all scripts, without those of ring steps and resends.
     pub read: u64,
     /// The bytes that loads count, in all scripts.
     pub loaded: u64,

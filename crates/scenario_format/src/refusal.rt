@@ -21,7 +21,7 @@ pub enum LimitName {
     Entries,
     /// The bytes of one access.
     Access,
-    /// The bytes that all drivers and devices read.
+    /// The bytes that all drivers and devices read, without those of ring steps and resends.
     Reads,
     /// The bytes of one load.
     Buffer,

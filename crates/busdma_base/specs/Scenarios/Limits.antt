@@ -33,7 +33,8 @@ entries_limit = 4096
 abbrev pub access_limit : ℕ
 access_limit = 4096
 
--- the greatest number of bytes that all drivers and devices of a scenario read, taken together
+-- the greatest number of bytes that all drivers and devices of a scenario read by `cpu_read`, `dev_read` and
+-- `dev_read_at`, taken together; what steps of rings and resends read is not counted
 abbrev pub reads_limit : ℕ
 reads_limit = 1048576
 

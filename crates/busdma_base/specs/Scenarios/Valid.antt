@@ -29,7 +29,7 @@ pub record IsDriver (frames : List FrameRun) (earlier : List Driver) (driver : D
 abbrev pub loaded_of : List Driver → ℕ
 loaded_of drivers = sum_by (λ d. sum_by loaded_by d.script) drivers
 
--- how many bytes all drivers and their devices read together
+-- how many bytes all drivers and their devices read together, without those of ring steps and resends
 abbrev pub read_of : List Driver → ℕ
 read_of drivers = sum_by (λ d. sum_by read_by d.script) drivers
 

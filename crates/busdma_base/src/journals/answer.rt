@@ -23,9 +23,10 @@ pub enum Answer {
     Served(u32),
     /// These bytes were read.
     Bytes(ListOf<u8>),
-    /// The device found no descriptor of its own in the ring.
+    /// The descriptor at the head of the ring is not the device's.
     Idle,
-    /// The call of bus_dma(9) returns this error, or its callback receives it.
+    /// The call of bus_dma(9) returns this error, or its callback receives it; or a ring, a post or a descriptor is
+    /// refused with EINVAL.
     Refused(Errno),
     /// The step broke a rule, and was not done.
     Report(Report),

@@ -35,7 +35,7 @@ pub enum HubCall {
         zone: ZoneId,
         page: Pa,
     },
-    /// The removal of the first map of the callback list.
+    /// The removal of the first map of the callback list, if that map is the caller's.
     TakeCallback,
     /// The making of a dmamem memory.
     MemAlloc {

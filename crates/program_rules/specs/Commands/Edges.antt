@@ -61,7 +61,7 @@ pub record WroteNothing (e : StreamEdges) : Type 0 where
   pub bytes : e.held_after ≡ e.held
   pub faults : NoWriteFailed e
 
--- these bytes were all that was left, and nothing is left now; they are not too many for an input
+-- if the bytes that were left are known, they were these, and none is left now; these are not too many for an input
 pub record ReadAll (bytes : List ℕ) (e : StreamEdges) : Type 0 where
   pub all : TakesAll bytes e.left e.left_after
   pub short : length bytes ≤ input_limit
