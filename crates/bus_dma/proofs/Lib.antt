@@ -1,0 +1,4 @@
+mod AnswerLaws
+mod CallLaws
+mod ReturnLaws
+mod TurnLaws

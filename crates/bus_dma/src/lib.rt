@@ -1,0 +1,23 @@
+//! The calls of bus_dma(9), for a driver that is written in Rattle. Each call is an operation of the ideal driver, and
+//! its contract is that operation's definition.
+#![tactic(auto)]
+
+mod accesses;
+mod calling;
+mod device;
+mod driver;
+mod failure;
+mod handles;
+mod loads;
+mod maps;
+mod memories;
+mod returning;
+mod syncs;
+mod tags;
+mod turns;
+
+pub use driver::DmaDriver;
+pub use failure::DmaError;
+pub use handles::{Map, Memory, Tag};
+pub use loads::Load;
+pub use turns::Callback;

@@ -1,0 +1,6 @@
+//! Drivers in code, over machines that are read from a text without a script. The answers were worked out by hand.
+
+mod calls;
+mod opened;
+mod refusals;
+mod wanted;
