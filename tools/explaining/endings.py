@@ -78,7 +78,7 @@ def why_stuck(history: History, driver: Driver, waiter: Waiter) -> list[str]:
     ahead = [each for each in zone.waiting[: zone.waiting.index(waiter)]]
     if ahead:
         facts.append(f"{listed([f'map {each.map} of driver {each.driver} (has {each.have} of {each.need})' for each in ahead])} "
-                     "waits before it and is served first")
+                     "began to wait earlier and must be served first")
     return facts + [fact for other in history.world.drivers for fact in how_held(history, other, driver, zone.number)]
 
 
@@ -91,9 +91,10 @@ def how_held(history: History, other: Driver, waiting: Driver, zone: int) -> lis
         unload = next((step for step in other.plan.script[other.script_place :]
                        if isinstance(step, OnMap) and step.word == "unload" and step.map == map_.name), None)
         if unload is not None:
-            own = "the same script waits before it: unload first, then wait" if other is waiting else "that script is stuck as well"
-            facts.append(f"map {map_.name} of driver {other.number} is unloaded by {unload.path} ({history.source.where(unload.path)}) "
-                         f"only, and {own}")
+            own = ("the same script waits before this operation: unload first, then wait" if other is waiting
+                   else "that script is stuck as well")
+            facts.append(f"only {unload.path} ({history.source.where(unload.path)}) unloads map {map_.name} of driver {other.number}, "
+                         f"and {own}")
         else:
             facts.append(f"driver {other.number} never unloads map {map_.name} in the rest of its script")
     return facts
