@@ -55,15 +55,26 @@ impl<'s, K: Sink> Pieces<'s, K> {
         self.failed = write_all(self.sink, bytes).is_err();
     }
 
+    /// Adds these bytes, for which the piece has no room, to the text. It stands apart, so that `push` is short.
+    #[cold]
+    #[inline(never)]
+    fn push_apart(&mut self, bytes: &[u8])
+        requires { self.old.failed ≡ false }
+        ensures { PiecesGive K.held K.faults self.old bytes.now self.new }
+    {
+        self.write_piece();
+        self.begin_piece(bytes);
+    }
+
     /// Adds these bytes to the text. If the sink fails, `finish` returns the error.
+    #[inline]
     pub fn push(&mut self, bytes: &[u8])
         ensures { PiecesGive K.held K.faults self.old bytes.now self.new }
     {
         if self.failed || self.piece.try_extend_from_slice(bytes).is_ok() {
             return;
         }
-        self.write_piece();
-        self.begin_piece(bytes);
+        self.push_apart(bytes);
     }
 
     /// Adds this string to the text. If the sink fails, `finish` returns the error.
