@@ -7,7 +7,7 @@ ghost use Rattle.io_edge.specs.Pieces.{PiecesGive};
 ghost use Rattle.program_rules.specs.Reports.Answer as text;
 ghost use Rattle.program_rules.specs.Reports.Text.{hex};
 
-use crate::numbers::{push_byte, push_decimal, push_hex};
+use crate::numbers::{push_block, push_decimal, push_hex};
 use busdma_base::{Answer, Errno, Grown, Pa, Report, ReportName, Segment};
 use io_edge::{Pieces, Sink};
 
@@ -74,8 +74,9 @@ fn push_built<K: Sink>(out: &mut Pieces<'_, K>, segments: &[Segment])
 fn push_digits<K: Sink>(out: &mut Pieces<'_, K>, bytes: &[u8])
     ensures { PiecesGive K.held K.faults out.old (flat_map text.byte_text bytes.now) out.new }
 {
-    for byte in bytes {
-        push_byte(out, *byte);
+    // A push for each byte costs more than its digits.
+    for block in bytes.chunks(64) {
+        push_block(out, block);
     }
 }
 
@@ -145,7 +146,7 @@ fn push_report<K: Sink>(out: &mut Pieces<'_, K>, report: Report)
     push_decimal(out, report.at);
 }
 
-pub(crate) fn push_answer<K: Sink>(out: &mut Pieces<'_, K>, answer: &Answer)
+fn push_answer<K: Sink>(out: &mut Pieces<'_, K>, answer: &Answer)
     ensures { PiecesGive K.held K.faults out.old (text.answer_text answer.now) out.new }
 {
     match answer {
@@ -160,4 +161,19 @@ pub(crate) fn push_answer<K: Sink>(out: &mut Pieces<'_, K>, answer: &Answer)
         Answer::Refused(errno) => out.push_str(errno_name(*errno)),
         Answer::Report(report) => push_report(out, *report),
     }
+}
+
+/// Writes the arrow, the answer and the end of the line.
+pub(crate) fn push_outcome<K: Sink>(out: &mut Pieces<'_, K>, answer: &Answer)
+    ensures { PiecesGive K.held K.faults out.old
+        (codes " -> " ++ (text.answer_text answer.now ++ codes "\n")) out.new }
+{
+    // Most lines end like this.
+    if let Answer::Done = answer {
+        out.push_str(" -> ok\n");
+        return;
+    }
+    out.push_str(" -> ");
+    push_answer(out, answer);
+    out.push_str("\n");
 }

@@ -1,11 +1,11 @@
 //! Writes the lines of a journal's entries.
 
-ghost use Rattle.std.specs.Prelude.{◌≡◌, IfOk};
+ghost use Rattle.std.specs.Prelude.{◌≡◌, ◌++◌, IfOk, codes};
 ghost use Rattle.io_edge.specs.Pieces.{PiecesGive};
 ghost use Rattle.program_rules.specs.Reports.Text.{numbered};
 ghost use Rattle.program_rules.specs.Reports.Report as text;
 
-use crate::answer::push_answer;
+use crate::answer::push_outcome;
 use crate::did::push_did;
 use crate::memory::{text_sink, whole_text};
 use crate::numbers::push_decimal;
@@ -13,20 +13,22 @@ use busdma_base::{Actor, ByteList, JournalEntry, Scenario, Side};
 use io_edge::{Pieces, Sink};
 use std::alloc::{AllocError, Global};
 
-fn side_letter(side: Side) -> &'static str
-    ensures { result.now ≡ text.side_letter side }
+/// Returns the letter of a side, after a space.
+fn spaced_letter(side: Side) -> &'static str
+    ensures { result.now ≡ codes " " ++ text.side_letter side }
 {
     match side {
-        Side::Script => "s",
-        Side::Transfer => "d",
-        Side::Callback => "c",
+        Side::Script => " s",
+        Side::Transfer => " d",
+        Side::Callback => " c",
     }
 }
 
+/// Writes the actor, after a space.
 fn push_actor<K: Sink>(out: &mut Pieces<'_, K>, actor: Actor)
-    ensures { PiecesGive K.held K.faults out.old (text.actor_text actor) out.new }
+    ensures { PiecesGive K.held K.faults out.old (codes " " ++ text.actor_text actor) out.new }
 {
-    out.push_str(side_letter(actor.side));
+    out.push_str(spaced_letter(actor.side));
     push_decimal(out, u64::from(actor.lane.0));
 }
 
@@ -39,13 +41,10 @@ fn push_entry<K: Sink>(
     ensures { PiecesGive K.held K.faults out.old (text.entry_line scenario.now number entry.now) out.new }
 {
     push_decimal(out, number);
-    out.push_str(" ");
     push_actor(out, entry.actor);
     out.push_str(" ");
     push_did(out, scenario, entry.actor.lane, entry.did);
-    out.push_str(" -> ");
-    push_answer(out, &entry.answer);
-    out.push_str("\n");
+    push_outcome(out, &entry.answer);
 }
 
 pub(crate) fn push_entries<K: Sink>(

@@ -1,6 +1,7 @@
 //! Writes numbers in digits.
 
-ghost use Rattle.std.specs.Prelude.{◌≡◌, ◌<◌, ◌≤◌, false, drop};
+ghost use Rattle.std.specs.Prelude.{◌≡◌, ◌*◌, ◌<◌, ◌≤◌, false, drop, length, take};
+ghost use Rattle.std.specs.List.{flat_map};
 ghost use Rattle.std.specs.Fmt.{decimal, digit_glyph, digits as digits_of};
 ghost use Rattle.io_edge.specs.Pieces.{PiecesGive};
 ghost use Rattle.program_rules.specs.Reports.Answer.{byte_text};
@@ -60,9 +61,23 @@ pub(crate) fn push_hex<K: Sink>(out: &mut Pieces<'_, K>, number: u64)
     push_hex_digits(out, number);
 }
 
-/// Writes a byte as two digits in base 16.
-pub(crate) fn push_byte<K: Sink>(out: &mut Pieces<'_, K>, byte: u8)
-    ensures { PiecesGive K.held K.faults out.old (byte_text byte) out.new }
+/// Writes the bytes at the front of the buffer, each as two digits in base 16.
+fn write_bytes(bytes: &[u8], buffer: &mut [u8; 128])
+    requires { length bytes.now ≤ 64 }
+    ensures { take (2 * length bytes.now) buffer.new ≡ flat_map byte_text bytes.now }
 {
-    out.push(&[hex_digit(byte / 16), hex_digit(byte % 16)]);
+    for place in 0..bytes.len() {
+        buffer[2 * place] = hex_digit(bytes[place] / 16);
+        buffer[2 * place + 1] = hex_digit(bytes[place] % 16);
+    }
+}
+
+/// Writes at most 64 bytes, each as two digits in base 16.
+pub(crate) fn push_block<K: Sink>(out: &mut Pieces<'_, K>, block: &[u8])
+    requires { length block.now ≤ 64 }
+    ensures { PiecesGive K.held K.faults out.old (flat_map byte_text block.now) out.new }
+{
+    let mut buffer = [0; 128];
+    write_bytes(block, &mut buffer);
+    out.push(&buffer[..2 * block.len()]);
 }
