@@ -15,5 +15,6 @@ pub mod RawPlaces
 mod RawRuns
 mod Repaging
 mod Shares
+pub mod Steps
 mod Syncing
 pub mod Unbounced

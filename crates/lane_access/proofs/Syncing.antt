@@ -1,6 +1,6 @@
 -- What a sync of a range of a map's load makes of a driver's ideal state and of what it holds.
-use Rattle.std.proofs.Common.{◌≡◌, ℕ, ◌+◌, ◌≤◌, ◌&&◌, ◌||◌, Bool, true, false, cond, length, Some, is_some, Result}
-use Rattle.std.proofs.Common.{List, Ok, Err, IfOk, refl, sym, ap, ◌∙◌, subst}
+use Rattle.std.proofs.Common.{◌≡◌, ℕ, ◌+◌, ◌≤◌, ◌&&◌, ◌||◌, Bool, true, false, cond, length, Some, is_some}
+use Rattle.std.proofs.Common.{List, refl, sym, ap, ◌∙◌, subst}
 use Rattle.std.specs.List.{list_any}
 use Rattle.std.specs.Option.{option_map}
 use Rattle.std.specs.Ordering.{nat_cmp}
@@ -44,6 +44,7 @@ use Rattle.lane_state.specs.Kept.{device_in, map_of, kept_share, kept_stage}
 use Rattle.lane_state.specs.MapValues.{map_values}
 use Rattle.lane_state.specs.PagesLent.{IsRepaged}
 use Rattle.lane_state.specs.Wire.{IsWired, held_pages, wire_of}
+use Rattle.lane_access.specs.Steps.{part_sync}
 use Rattle.lane_access.proofs.Copying.{sync-copied}
 use Rattle.lane_access.proofs.DeviceReads.{ends, loads}
 use Rattle.lane_state.proofs.Devices.{Loading, loading}
@@ -223,29 +224,18 @@ module _ (h : Holdings) (wired : IsWired h) (k : ℕ) (o : KeptMap) (there : get
       subst (λ ms. AreMaps ms loans h.agenda.returns h.agenda.promised) (sym put_in)
       (subst (λ ls. AreMaps table ls h.agenda.returns h.agenda.promised) (sym same) one)
 
--- ---- a sync of all bytes of the load, and of a range of them
-pub if-ok : {T E : Type 0} (r : Result T E) (P Q : T → Type 0) → ((v : T) → P v → Q v) → IfOk r P → IfOk r Q
-if-ok (Ok v) P Q f h = f v h
-if-ok (Err e) P Q f h = tt
-
+-- ---- a sync of a range of the load
 module _ (l : LaneState) (k : ℕ) (o : LaneMap) (there : get l.maps k ≡ Some o) (on : is_loaded o.stage ≡ true)
     (ops : ℕ) where
-  pub sync-whole : (len : ℕ) → len ≡ load_length l k → syncs.sync k ops l ≡ sync_part k o 0 len ops l
-  sync-whole len same =
-      loads l k o there on (λ x. sync_part k x 0 (load_length l k) ops l)
-      ∙ ap (λ n. sync_part k o 0 n ops l) (sym same)
-
-  pub sync-wires : (len : ℕ) (w : Wire) → len ≡ load_length l k →
-      if_done (sync_part k o 0 len ops l) (wires.wire_synced k 0 len ops l w) w ≡ wires.wire_sync k ops l w
-  sync-wires len w same =
-      ap (λ s. if_done s (wires.wire_synced k 0 len ops l w) w) (sym (sync-whole len same))
-      ∙ ap (λ n. if_done (syncs.sync k ops l) (wires.wire_synced k 0 n ops l w) w) same
+  pub part-there : (off len : ℕ) → part_sync k off len ops l ≡ sync_part k o off len ops l
+  part-there off len = loads l k o there on (λ x. sync_part k x off len ops l)
 
   pub range-within : (off len : ℕ) → off + len ≤ load_length l k →
-      syncs.sync_range k off len ops l ≡ sync_part k o off len ops l
+      part_sync k off len ops l ≡ syncs.sync_range k off len ops l
   range-within off len within =
-      loads l k o there on (λ x. unless_past k off len l (sync_part k x off len ops l))
-      ∙ ends l k off len within (sync_part k o off len ops l)
+      part-there off len
+      ∙ sym (loads l k o there on (λ x. unless_past k off len l (sync_part k x off len ops l))
+      ∙ ends l k off len within (sync_part k o off len ops l))
 
   pub range-past : (off len : ℕ) (r : Report) →
       ((s : Asking Outcome) → unless_past k off len l s ≡ gives l (answer.Report r)) →

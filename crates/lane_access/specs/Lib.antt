@@ -1,2 +1,3 @@
 pub mod Raw
 pub mod Shares
+pub mod Steps

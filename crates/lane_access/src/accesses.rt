@@ -1,7 +1,7 @@
 //! Accesses by the driver and by its device.
 
-ghost use Rattle.std.specs.Prelude.{◌≡◌, ◌+◌, ◌≤◌, ◌<◌, ◌^◌, true, [], length, map, map as mapped, IfOk, IfSome};
-ghost use Rattle.std.specs.Prelude.{IfNone, OnOk, OnErr};
+ghost use Rattle.std.specs.Prelude.{◌≡◌, ◌+◌, ◌≤◌, ◌<◌, ◌^◌, true, length, map, map as mapped, IfOk, IfSome};
+ghost use Rattle.std.specs.Prelude.{IfNone, OnOk};
 ghost use Rattle.std.specs.FinMap.{get};
 ghost use Rattle.std.specs.List.{AllByRecursion};
 ghost use Rattle.busdma_base.specs.declared.journals.answer.Answer.TheVariants as answer;
@@ -20,14 +20,14 @@ ghost use Rattle.ideal_lane.specs.Standing.{Stands};
 ghost use Rattle.ideal_lane.specs.State.{LaneMap};
 ghost use Rattle.ideal_wire.specs.Centre.{IsFaithful};
 ghost use Rattle.ideal_wire.specs.WireStep as wires;
-ghost use Rattle.ideal_wire.specs.WireStep.{Reads, load_buses};
+ghost use Rattle.ideal_wire.specs.WireStep.{load_buses};
 ghost use Rattle.lane_state.specs.Covered.{has_load};
 ghost use Rattle.lane_state.specs.Changes.{with_written};
 ghost use Rattle.lane_state.specs.Held.{device_view};
 ghost use Rattle.lane_state.specs.Kept.{device_in};
 ghost use Rattle.lane_state.specs.PagesLent.{IsRangeReached, IsRepaged};
 ghost use Rattle.lane_access.specs.Raw.{IsInFrame};
-ghost use Rattle.lane_state.specs.Changes.{KeepsState};
+ghost use Rattle.lane_access.specs.Steps.{IsReading, IsStep, own_write};
 ghost use Rattle.lane_state.specs.Ideal.{given, ideal_of};
 ghost use Rattle.lane_state.specs.Wire.{IsWired, wire_of};
 
@@ -78,14 +78,8 @@ pub fn cpu_write(
     bytes: &[u8],
 ) -> Result<Answer, AllocError>
     requires { IsWired holdings.old }
-    ensures done { IfOk result (λ answer.
-        Gives (given holdings.new answer) ≡ accesses.cpu_write place bytes.now (ideal_of holdings.old)) }
-    ensures wire { IfOk result (λ answer.
-        wire_of holdings.new ≡ wires.wire_cpu_write place bytes.now (ideal_of holdings.old) (wire_of holdings.old)) }
-    ensures script { holdings.new.script ≡ holdings.old.script }
-    ensures memories { holdings.new.memories ≡ holdings.old.memories }
-    ensures agenda { holdings.new.agenda ≡ holdings.old.agenda }
-    ensures err { OnErr result (KeepsState holdings.old holdings.new) }
+    ensures { IsStep (accesses.cpu_write place bytes.now) (wires.wire_cpu_write place bytes.now)
+        holdings.old holdings.new result }
 {
     let Some(va) = holdings.virtual_at(place) else {
         return Ok(report(ReportName::Absent, 0));
@@ -97,36 +91,31 @@ pub fn cpu_write(
     if let Judged::Refused(refusal) = holdings.loans.may_cpu_write(parts.as_slice()) {
         return Ok(Answer::Report(refusal));
     }
-    write_own(holdings, alloc, parts.as_slice(), bytes)?;
-    Ok(Answer::Done)
+    write_own(holdings, alloc, parts.as_slice(), bytes)
 }
 
-/// Writes bytes to extents of the driver's own frames, which have as many. The bytes are Known afterwards.
+/// Writes bytes to extents of the driver's own frames, which have as many, and returns `Done`. The bytes are Known
+/// afterwards.
 pub(crate) fn write_own(
     holdings: &mut Holdings<'_>,
     alloc: Global,
     parts: &[Extent],
     bytes: &[u8],
-) -> Result<(), AllocError>
+) -> Result<Answer, AllocError>
     requires wired { IsWired holdings.old }
     requires lie { Lie holdings.old.memory.memory parts.now }
     requires inside { AreIn holdings.old.loans.bytes (addresses parts.now) }
     requires len { length (addresses parts.now) ≡ length bytes.now }
     requires faithful { IsFaithful (with_written (addresses parts.now) bytes.now (ideal_of holdings.old))
         (put (addresses parts.now) bytes.now (wire_of holdings.old)) }
-    ensures done { OnOk result (ideal_of holdings.new
-        ≡ with_written (addresses parts.now) bytes.now (ideal_of holdings.old)) }
-    ensures wire { OnOk result (wire_of holdings.new ≡ put (addresses parts.now) bytes.now (wire_of holdings.old)) }
-    ensures script { holdings.new.script ≡ holdings.old.script }
-    ensures memories { holdings.new.memories ≡ holdings.old.memories }
-    ensures agenda { holdings.new.agenda ≡ holdings.old.agenda }
-    ensures err { OnErr result (KeepsState holdings.old holdings.new) }
+    ensures { IsStep (own_write (addresses parts.now) bytes.now) (λ l w. put (addresses parts.now) bytes.now w)
+        holdings.old holdings.new result }
 {
     let extents = u32::try_from(parts.len()).map_err(|_| AllocError)?;
     holdings.loans.reserve(alloc, extents)?;
     write_parts(&mut holdings.memory, parts, bytes);
     holdings.loans.note_write(parts);
-    Ok(())
+    Ok(Answer::Done)
 }
 
 /// Returns the report about a map that does not exist (`Absent`) or is not loaded (`NotLoaded`). Returns `None` if the
@@ -188,15 +177,8 @@ pub fn dev_read(
 ) -> Result<Answer, AllocError>
     requires wired { IsWired holdings.old }
     requires stands { Stands (ideal_of holdings.old) }
-    ensures done { IfOk result (λ answer.
-        Gives (given holdings.new answer) ≡ accesses.dev_read map off len (ideal_of holdings.old)) }
-    ensures read { IfOk result (λ answer.
-        Reads answer (load_buses (ideal_of holdings.old) map off len) (wire_of holdings.old)) }
-    ensures wire { wire_of holdings.new ≡ wire_of holdings.old }
-    ensures kept { KeepsState holdings.old holdings.new }
-    ensures script { holdings.new.script ≡ holdings.old.script }
-    ensures memories { holdings.new.memories ≡ holdings.old.memories }
-    ensures agenda { holdings.new.agenda ≡ holdings.old.agenda }
+    ensures { IsReading (accesses.dev_read map off len) (load_buses (ideal_of holdings.old) map off len)
+        holdings.old holdings.new result }
 {
     if let Some(refusal) = unloaded(holdings, map) {
         return Ok(Answer::Report(refusal));
@@ -234,14 +216,8 @@ pub fn dev_write(
 ) -> Result<Answer, AllocError>
     requires wired { IsWired holdings.old }
     requires stands { Stands (ideal_of holdings.old) }
-    ensures done { IfOk result (λ answer.
-        Gives (given holdings.new answer) ≡ accesses.dev_write map off bytes.now (ideal_of holdings.old)) }
-    ensures wire { IfOk result (λ answer.
-        wire_of holdings.new ≡ wires.wire_dev_write map off bytes.now (ideal_of holdings.old) (wire_of holdings.old)) }
-    ensures script { holdings.new.script ≡ holdings.old.script }
-    ensures memories { holdings.new.memories ≡ holdings.old.memories }
-    ensures agenda { holdings.new.agenda ≡ holdings.old.agenda }
-    ensures err { OnErr result (KeepsState holdings.old holdings.new) }
+    ensures { IsStep (accesses.dev_write map off bytes.now) (wires.wire_dev_write map off bytes.now)
+        holdings.old holdings.new result }
 {
     let len = bytes.len() as u64;
     if let Some(refusal) = unloaded(holdings, map) {
@@ -256,8 +232,7 @@ pub fn dev_write(
     }
     if holdings.is_device(map) {
         let parts = load_extents(holdings, alloc, map, off, len)?;
-        write_own(holdings, alloc, parts.as_slice(), bytes)?;
-        return Ok(Answer::Done);
+        return write_own(holdings, alloc, parts.as_slice(), bytes);
     }
     reserve_extents(&mut holdings.loans, alloc, id, off, len)?;
     let Some(kept) = holdings.maps.get_mut(map) else {

@@ -1,27 +1,23 @@
 //! Accesses of an IOMMU tag's address space by the tag's device, at any device addresses.
 
 ghost use Rattle.std.specs.Prelude.{◌≡◌, ◌+◌, ◌%◌, ◌<◌, ◌≤◌, ◌^◌, ℕ, None, true, is_some, length, option_map, IfOk, IfSome};
-ghost use Rattle.std.specs.Prelude.{OnErr};
 ghost use Rattle.std.specs.FinMap.{entries};
 ghost use Rattle.std.specs.List.{AllByRecursion};
 ghost use Rattle.busdma_machine.specs.declared.machine.address.Pa.{Pa as Address};
 ghost use Rattle.busdma_machine.specs.Judging.{judged};
 ghost use Rattle.busdma_machine.specs.Machine.Wire.{stretch};
 ghost use Rattle.busdma_machine.specs.Runs.{addresses, run_of};
-ghost use Rattle.dma_map.specs.MapView.{segments_of};
 ghost use Rattle.busdma_rules.specs.Iommu.Space.{translated};
 ghost use Rattle.loan_table.specs.Table.{HasMap, buffer_of};
 ghost use Rattle.busdma_rules.specs.Segments.Obeying.{segments_bytes};
 ghost use Rattle.ideal_lane.specs.Accesses as accesses;
-ghost use Rattle.ideal_lane.specs.Asking.{Gives};
 ghost use Rattle.ideal_lane.specs.Standing.{Stands};
 ghost use Rattle.ideal_wire.specs.WireStep as wires;
-ghost use Rattle.ideal_wire.specs.WireStep.{Reads};
 ghost use Rattle.lane_access.specs.Raw.{AreShortOf, IsFoundIn, IsInFrame, IsStanding, refusal_of, lent_refusal};
 ghost use Rattle.lane_access.specs.Raw.{last_of, later, position_at, unlent_of};
-ghost use Rattle.lane_state.specs.Changes.{KeepsState};
-ghost use Rattle.lane_state.specs.Ideal.{given, ideal_of};
-ghost use Rattle.lane_state.specs.Wire.{IsWired, wire_of};
+ghost use Rattle.lane_access.specs.Steps.{IsReading, IsStep};
+ghost use Rattle.lane_state.specs.Ideal.{ideal_of};
+ghost use Rattle.lane_state.specs.Wire.{IsWired};
 
 use crate::accesses::{read_parts, write_own};
 use busdma_base::{Answer, Extent, Judged, Pa, Report, ReportName, Segment};
@@ -146,15 +142,8 @@ pub fn dev_read_at(
 ) -> Result<Answer, AllocError>
     requires wired { IsWired holdings.old }
     requires stands { Stands (ideal_of holdings.old) }
-    ensures done { IfOk result (λ answer.
-        Gives (given holdings.new answer) ≡ accesses.dev_read_at tag addr len (ideal_of holdings.old)) }
-    ensures read { IfOk result (λ answer.
-        Reads answer (accesses.raw_bytes (ideal_of holdings.old) tag (run_of addr len)) (wire_of holdings.old)) }
-    ensures wire { wire_of holdings.new ≡ wire_of holdings.old }
-    ensures kept { KeepsState holdings.old holdings.new }
-    ensures script { holdings.new.script ≡ holdings.old.script }
-    ensures memories { holdings.new.memories ≡ holdings.old.memories }
-    ensures agenda { holdings.new.agenda ≡ holdings.old.agenda }
+    ensures { IsReading (accesses.dev_read_at tag addr len)
+        (accesses.raw_bytes (ideal_of holdings.old) tag (run_of addr len)) holdings.old holdings.new result }
 {
     let Some(_) = holdings.tags.get(tag) else {
         return Ok(report(ReportName::Absent, 0));
@@ -181,14 +170,8 @@ pub fn dev_write_at(
 ) -> Result<Answer, AllocError>
     requires wired { IsWired holdings.old }
     requires stands { Stands (ideal_of holdings.old) }
-    ensures done { IfOk result (λ answer.
-        Gives (given holdings.new answer) ≡ accesses.dev_write_at tag addr bytes.now (ideal_of holdings.old)) }
-    ensures wire { IfOk result (λ answer.
-        wire_of holdings.new ≡ wires.wire_dev_write_at tag addr bytes.now (ideal_of holdings.old) (wire_of holdings.old)) }
-    ensures script { holdings.new.script ≡ holdings.old.script }
-    ensures memories { holdings.new.memories ≡ holdings.old.memories }
-    ensures agenda { holdings.new.agenda ≡ holdings.old.agenda }
-    ensures err { OnErr result (KeepsState holdings.old holdings.new) }
+    ensures { IsStep (accesses.dev_write_at tag addr bytes.now) (wires.wire_dev_write_at tag addr bytes.now)
+        holdings.old holdings.new result }
 {
     let len = bytes.len() as u64;
     let Some(_) = holdings.tags.get(tag) else {
@@ -198,8 +181,7 @@ pub fn dev_write_at(
         return Ok(Answer::Report(refusal));
     }
     let parts = raw_extents(holdings, alloc, tag, addr, len)?;
-    write_own(holdings, alloc, parts.as_slice(), bytes)?;
-    Ok(Answer::Done)
+    write_own(holdings, alloc, parts.as_slice(), bytes)
 }
 
 /// Judges an access of `len` device addresses from `addr` on, up to the first that is refused.

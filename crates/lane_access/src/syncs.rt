@@ -1,7 +1,7 @@
 //! Syncs of a map's load.
 
-ghost use Rattle.std.specs.Prelude.{◌≡◌, ◌+◌, ◌≤◌, ◌<◌, ◌^◌, ◌&&◌, ◌||◌, true, false, [], Some, length, max, min};
-ghost use Rattle.std.specs.Prelude.{nat_lt, IfOk, OnErr, vec_len, vec_capacity};
+ghost use Rattle.std.specs.Prelude.{◌≡◌, ◌+◌, ◌≤◌, ◌<◌, ◌^◌, ◌&&◌, ◌||◌, true, false, Some, length, max, min};
+ghost use Rattle.std.specs.Prelude.{nat_lt, vec_len, vec_capacity};
 ghost use Rattle.std.specs.FinMap.{get};
 ghost use Rattle.std.specs.List.{list_any};
 ghost use Rattle.std.specs.Option.{option_map};
@@ -14,20 +14,17 @@ ghost use Rattle.loan_table.specs.Table.{extent_count};
 ghost use Rattle.map_sync.specs.Ranges.{range_of_chunks};
 ghost use Rattle.phys_memory.specs.Frames.{SamePages};
 ghost use Rattle.busdma_rules.specs.Segments.Trace.{chunk_len};
-ghost use Rattle.ideal_lane.specs.Asking.{Gives};
-ghost use Rattle.ideal_lane.specs.State.{LaneMap};
 ghost use Rattle.ideal_lane.specs.Syncs as syncs;
 ghost use Rattle.ideal_lane.specs.Syncs.{counted};
 ghost use Rattle.ideal_wire.specs.WireStep as wires;
-ghost use Rattle.ideal_wire.specs.WireStep.{copied_by, if_done};
+ghost use Rattle.ideal_wire.specs.WireStep.{copied_by};
 ghost use Rattle.lane_state.specs.Covered.{has_load};
 ghost use Rattle.lane_state.specs.Held.{device_view};
 ghost use Rattle.lane_state.specs.Kept.{device_in, kept_share as share_of};
 ghost use Rattle.lane_state.specs.PagesLent.{IsBounced, IsRepaged};
 ghost use Rattle.lane_access.specs.Shares.{share_place};
-ghost use Rattle.lane_state.specs.Changes.{KeepsState};
-ghost use Rattle.lane_state.specs.Ideal.{given, ideal_of};
-ghost use Rattle.lane_state.specs.Wire.{IsWired, wire_of};
+ghost use Rattle.lane_access.specs.Steps.{IsStep, part_sync, wire_part_sync};
+ghost use Rattle.lane_state.specs.Wire.{IsWired};
 
 use crate::accesses::{past_end, reserve_extents, unloaded};
 use bitflags::Flags;
@@ -52,14 +49,7 @@ pub fn sync(
     ops: SyncOps,
 ) -> Result<Answer, AllocError>
     requires { IsWired holdings.old }
-    ensures done { IfOk result (λ answer.
-        Gives (given holdings.new answer) ≡ syncs.sync map ops.0 (ideal_of holdings.old)) }
-    ensures wire { IfOk result (λ answer.
-        wire_of holdings.new ≡ wires.wire_sync map ops.0 (ideal_of holdings.old) (wire_of holdings.old)) }
-    ensures script { holdings.new.script ≡ holdings.old.script }
-    ensures memories { holdings.new.memories ≡ holdings.old.memories }
-    ensures agenda { holdings.new.agenda ≡ holdings.old.agenda }
-    ensures err { OnErr result (KeepsState holdings.old holdings.new) }
+    ensures { IsStep (syncs.sync map ops.0) (wires.wire_sync map ops.0) holdings.old holdings.new result }
 {
     if let Some(refusal) = unloaded(holdings, map) {
         return Ok(Answer::Report(refusal));
@@ -83,14 +73,8 @@ pub fn sync_range(
     ops: SyncOps,
 ) -> Result<Answer, AllocError>
     requires { IsWired holdings.old }
-    ensures done { IfOk result (λ answer.
-        Gives (given holdings.new answer) ≡ syncs.sync_range map off len ops.0 (ideal_of holdings.old)) }
-    ensures wire { IfOk result (λ answer.
-        wire_of holdings.new ≡ wires.wire_sync_range map off len ops.0 (ideal_of holdings.old) (wire_of holdings.old)) }
-    ensures script { holdings.new.script ≡ holdings.old.script }
-    ensures memories { holdings.new.memories ≡ holdings.old.memories }
-    ensures agenda { holdings.new.agenda ≡ holdings.old.agenda }
-    ensures err { OnErr result (KeepsState holdings.old holdings.new) }
+    ensures { IsStep (syncs.sync_range map off len ops.0) (wires.wire_sync_range map off len ops.0)
+        holdings.old holdings.new result }
 {
     if let Some(refusal) = unloaded(holdings, map) {
         return Ok(Answer::Report(refusal));
@@ -114,15 +98,8 @@ fn sync_part(
     requires loaded { has_load (get holdings.old.maps.map map) ≡ true }
     requires range { off + len ≤ length (buffer_of holdings.old.loans map) }
     requires below { off + len < 2 ^ 64 }
-    ensures done { IfOk result (λ answer. (o : LaneMap) → get (ideal_of holdings.old).maps map ≡ Some o →
-        Gives (given holdings.new answer) ≡ syncs.sync_part map o off len ops.0 (ideal_of holdings.old)) }
-    ensures wire { IfOk result (λ answer. (o : LaneMap) → get (ideal_of holdings.old).maps map ≡ Some o →
-        wire_of holdings.new ≡ if_done (syncs.sync_part map o off len ops.0 (ideal_of holdings.old))
-        (wires.wire_synced map off len ops.0 (ideal_of holdings.old) (wire_of holdings.old)) (wire_of holdings.old)) }
-    ensures script { holdings.new.script ≡ holdings.old.script }
-    ensures memories { holdings.new.memories ≡ holdings.old.memories }
-    ensures agenda { holdings.new.agenda ≡ holdings.old.agenda }
-    ensures err { OnErr result (KeepsState holdings.old holdings.new) }
+    ensures { IsStep (part_sync map off len ops.0) (wire_part_sync map off len ops.0)
+        holdings.old holdings.new result }
 {
     if ops.is_mixed() {
         return Ok(report(ReportName::MixedSync, 0));

@@ -1,4 +1,4 @@
-use Rattle.std.proofs.Common.{◌≡◌, false, map, Some, refl, ap, sym, ◌∙◌, subst}
+use Rattle.std.proofs.Common.{◌≡◌, false, map, Some, refl, rules, ap, sym, ◌∙◌, subst}
 use Rattle.std.specs.FinMap.{get, insert}
 use Rattle.busdma_base.specs.declared.journals.answer.Answer.TheVariants as answer
 use Rattle.busdma_machine.specs.declared.name.MapId.{MapId}
@@ -9,14 +9,17 @@ use Rattle.loan_table.specs.Table.{AreIn, is_marked_known}
 use Rattle.phys_memory.specs.Frames.{Lie}
 use Rattle.phys_memory.specs.Memory.{wire}
 use Rattle.ideal_lane.specs.Outcomes.{gives}
+use Rattle.ideal_lane.specs.Accesses.{dev_read}
 use Rattle.ideal_wire.specs.Laid.{is_behind}
+use Rattle.ideal_wire.specs.WireStep.{load_buses}
 use Rattle.lane_state.specs.declared.kept.KeptMap.{KeptMap}
 use Rattle.lane_state.specs.Covered.{has_load}
 use Rattle.lane_state.specs.Ideal.{ideal_of}
 use Rattle.lane_state.specs.Kept.{map_of}
 use Rattle.lane_state.specs.Wire.{wire_of}
 use Rattle.lane_access.proofs.DeviceReads.{dev_read-by, dev_read-done, dev_read-past, dev_read-reads, dev_read-refused}
-use Rattle.lane_access.proofs.DeviceReads.{load-there}
+use Rattle.lane_access.proofs.DeviceReads.{dev_read-unloaded, load-there}
+use Rattle.lane_access.proofs.Steps.{done-reading, refused-reading}
 use Rattle.lane_state.proofs.Devices.{is-reached}
 use Rattle.lane_state.proofs.MapValues.{image-some}
 use Rattle.lane_access.proofs.OwnExtents.{lie-inside}
@@ -26,22 +29,31 @@ use Rattle.lane_access.proofs.PutBack.{are-back, ideal-back, pages-back, put-sam
 use Rattle.lane_state.specs.Awaiting.{AreAwaiting}
 use Rattle.lane_access.proofs.accesses.dev_read.Goals as goal
 
-pub returns-in-Some-past_end-clause-done : goal.returns-in-Some-past_end-clause-done
-returns-in-Some-past_end-clause-done c =
+pub returns-in-Some : goal.returns-in-Some
+returns-in-Some c =
+    let h = c.args.holdings.now in
+    refused-reading (dev_read c.args.map c.args.off c.args.len) _ h _ c.in-Some.refusal refl
+    (dev_read-unloaded (ideal_of h) c.args.map c.args.off c.args.len c.in-Some.refusal c.in-Some.ensures.refused)
+
+pub returns-in-Some-past_end : goal.returns-in-Some-past_end
+returns-in-Some-past_end c =
     let h = c.args.holdings.now in
     let x = load-there (get h.maps.map c.args.map) c.in_default.ensures.loaded in
-    dev_read-past (ideal_of h) c.args.map (map_of x.0) (image-some map_of h.maps.map c.args.map x.0 x.1) x.2 c.args.off
-    c.args.len c.in-Some-past_end.refusal c.in-Some-past_end.ensures.refused
+    refused-reading (dev_read c.args.map c.args.off c.args.len) _ h _ c.in-Some-past_end.refusal refl
+    (dev_read-past (ideal_of h) c.args.map (map_of x.0) (image-some map_of h.maps.map c.args.map x.0 x.1) x.2 c.args.off
+    c.args.len c.in-Some-past_end.refusal c.in-Some-past_end.ensures.refused)
 
-pub returns-in-Refused-clause-done : goal.returns-in-Refused-clause-done
-returns-in-Refused-clause-done c =
+pub returns-in-Refused : goal.returns-in-Refused
+returns-in-Refused c =
     let h = c.args.holdings.now in
-    dev_read-refused h c.args.map c.args.off c.args.len c.in_default.ensures.loaded
+    done-reading
+    (dev_read-refused h c.args.map c.args.off c.args.len c.in_default.ensures.loaded
     c.in_default-past_end.ensures.range c.in-Refused.refusal
     (sym c.in-Refused.is ∙ c.may_dev_read.ensures
     ∙ ap (λ (m : MapId). dev_read_answer (is_marked_known h.loans) (loan_of h.loans.loans m.made_at) c.args.off
     c.args.len)
-    c.map_id-id.ensures)
+    c.map_id-id.ensures))
+    tt refl (record { ideal = refl; bytes = record { own = refl; pages = λ m. refl } }) refl refl refl
 
 pub read_load-bytes-requires : goal.read_load-bytes-requires
 read_load-bytes-requires c =
@@ -80,83 +92,46 @@ invariant_of-holdings-2 c =
       ready = h.ready;
     }
 
-pub returns-clause-done : goal.returns-clause-done
-returns-clause-done c =
+pub returns : goal.returns
+returns c =
     let h = c.args.holdings.now in
     let o : KeptMap = c.in-Some-get_mut.kept.now in
     let there : get h.maps.map c.args.map ≡ Some o = sym c.in-Some-get_mut.ensures.value in
     let plain : is_behind (ideal_of h) c.args.map ≡ false =
     not-behind h c.args.map o there c.is_device.result c.is_device.ensures c.if-is_device.false in
-    let maps = put-same h.maps.map c.args.map o c.read_load-bytes.new.map there c.read_load-bytes.ensures.kept in
-    ap (λ s. gives s (answer.Bytes c.in_ok-bytes.field-0))
-    (ideal-back h (insert h.maps.map c.args.map (record o { map = c.read_load-bytes.new.map })) maps)
-    ∙ dev_read-done h c.args.map c.args.off c.args.len c.in_default.ensures.loaded
-    c.in_default-past_end.ensures.range c.requires.wired o there plain
-    (sym c.in_default-may_dev_read.is ∙ c.may_dev_read.ensures
+    let on = c.in_default.ensures.loaded in
+    let range = c.in_default-past_end.ensures.range in
+    let fine = sym c.in_default-may_dev_read.is ∙ c.may_dev_read.ensures
     ∙ ap (λ (m : MapId). dev_read_answer (is_marked_known h.loans) (loan_of h.loans.loans m.made_at) c.args.off
     c.args.len)
-    c.map_id-id.ensures)
-    c.in_ok-bytes.field-0 c.in_ok-bytes.ensures.bytes
-
-pub returns-clause-read : goal.returns-clause-read
-returns-clause-read c =
-    let h = c.args.holdings.now in
-    let o : KeptMap = c.in-Some-get_mut.kept.now in
-    let there : get h.maps.map c.args.map ≡ Some o = sym c.in-Some-get_mut.ensures.value in
-    let plain : is_behind (ideal_of h) c.args.map ≡ false =
-    not-behind h c.args.map o there c.is_device.result c.is_device.ensures c.if-is_device.false in
-    dev_read-reads h c.args.map c.args.off c.args.len c.in_default.ensures.loaded
-    c.in_default-past_end.ensures.range c.requires.wired o there plain
-    (sym c.in_default-may_dev_read.is ∙ c.may_dev_read.ensures
-    ∙ ap (λ (m : MapId). dev_read_answer (is_marked_known h.loans) (loan_of h.loans.loans m.made_at) c.args.off
-    c.args.len)
-    c.map_id-id.ensures)
-    c.in_ok-bytes.field-0 c.in_ok-bytes.ensures.bytes
-
-pub returns-clause-wire : goal.returns-clause-wire
-returns-clause-wire c =
-    let h = c.args.holdings.now in
-    let o : KeptMap = c.in-Some-get_mut.kept.now in
-    let there : get h.maps.map c.args.map ≡ Some o = sym c.in-Some-get_mut.ensures.value in
+    c.map_id-id.ensures in
+    let now = insert h.maps.map c.args.map (record o { map = c.read_load-bytes.new.map }) in
     let maps = put-same h.maps.map c.args.map o c.read_load-bytes.new.map there c.read_load-bytes.ensures.kept in
-    wire-back h (insert h.maps.map c.args.map (record o { map = c.read_load-bytes.new.map })) maps
+    done-reading
+    (ap (λ s. gives s (answer.Bytes c.in_ok-bytes.field-0)) (ideal-back h now maps)
+    ∙ dev_read-done h c.args.map c.args.off c.args.len on range c.requires.wired o there plain fine
+    c.in_ok-bytes.field-0 c.in_ok-bytes.ensures.bytes)
+    (dev_read-reads h c.args.map c.args.off c.args.len on range c.requires.wired o there plain fine
+    c.in_ok-bytes.field-0 c.in_ok-bytes.ensures.bytes)
+    (wire-back h now maps)
+    (record { ideal = ideal-back h now maps; bytes = record { own = refl; pages = pages-back h now maps } })
+    refl refl refl
 
-pub returns-clause-kept : goal.returns-clause-kept
-returns-clause-kept c =
+pub returns-in_err-bytes : goal.returns-in_err-bytes
+returns-in_err-bytes c =
     let h = c.args.holdings.now in
     let o : KeptMap = c.in-Some-get_mut.kept.now in
     let there : get h.maps.map c.args.map ≡ Some o = sym c.in-Some-get_mut.ensures.value in
+    let now = insert h.maps.map c.args.map (record o { map = c.read_load-bytes.new.map }) in
     let maps = put-same h.maps.map c.args.map o c.read_load-bytes.new.map there c.read_load-bytes.ensures.kept in
     record {
-      ideal = ideal-back h (insert h.maps.map c.args.map (record o { map = c.read_load-bytes.new.map })) maps;
-      bytes = record {
-        own = refl;
-        pages =
-            pages-back h (insert h.maps.map c.args.map (record o { map = c.read_load-bytes.new.map })) maps;
-      };
-    }
-
-pub returns-in_err-bytes-clause-wire : goal.returns-in_err-bytes-clause-wire
-returns-in_err-bytes-clause-wire c =
-    let h = c.args.holdings.now in
-    let o : KeptMap = c.in-Some-get_mut.kept.now in
-    let there : get h.maps.map c.args.map ≡ Some o = sym c.in-Some-get_mut.ensures.value in
-    let maps = put-same h.maps.map c.args.map o c.read_load-bytes.new.map there c.read_load-bytes.ensures.kept in
-    wire-back h (insert h.maps.map c.args.map (record o { map = c.read_load-bytes.new.map })) maps
-
-pub returns-in_err-bytes-clause-kept : goal.returns-in_err-bytes-clause-kept
-returns-in_err-bytes-clause-kept c =
-    let h = c.args.holdings.now in
-    let o : KeptMap = c.in-Some-get_mut.kept.now in
-    let there : get h.maps.map c.args.map ≡ Some o = sym c.in-Some-get_mut.ensures.value in
-    let maps = put-same h.maps.map c.args.map o c.read_load-bytes.new.map there c.read_load-bytes.ensures.kept in
-    record {
-      ideal = ideal-back h (insert h.maps.map c.args.map (record o { map = c.read_load-bytes.new.map })) maps;
-      bytes = record {
-        own = refl;
-        pages =
-            pages-back h (insert h.maps.map c.args.map (record o { map = c.read_load-bytes.new.map })) maps;
-      };
+      done = search rules;
+      read = search rules;
+      wire = wire-back h now maps;
+      kept = record { ideal = ideal-back h now maps; bytes = record { own = refl; pages = pages-back h now maps } };
+      script = refl;
+      memories = refl;
+      agenda = refl;
     }
 
 pub read_parts-requires-clause-lie : goal.read_parts-requires-clause-lie
@@ -166,35 +141,25 @@ read_parts-requires-clause-lie c =
     (lie-inside h c.requires.wired c.in_ok-parts.parts.items c.in_ok-parts.ensures.in_frames
     (subst (AreIn h.loans.bytes) (sym c.in_ok-parts.ensures.bytes) c.in_default-past_end.ensures.inside))
 
-pub returns-then-is_device-clause-read : goal.returns-then-is_device-clause-read
-returns-then-is_device-clause-read c =
+pub returns-then-is_device : goal.returns-then-is_device
+returns-then-is_device c =
     let h = c.args.holdings.now in
     let x = load-there (get h.maps.map c.args.map) c.in_default.ensures.loaded in
     let device = is-behind h c.args.map x.0 x.1 c.is_device.result c.is_device.ensures c.if-is_device.true in
+    let read : c.in_ok-read_parts.field-0 ≡ map (wire_of h) (load_buses (ideal_of h) c.args.map c.args.off c.args.len) =
     c.in_ok-read_parts.ensures
     ∙ ap (λ es. map (wire h.memory.memory) (addresses es)) c.as_slice.ensures.value
     ∙ ap (map (wire h.memory.memory)) c.in_ok-parts.ensures.bytes
     ∙ own-reads h c.requires.wired (load_bytes h.loans.loans c.args.map c.args.off c.args.len)
     c.in_default-past_end.ensures.inside
     ∙ ap (map (wire_of h)) (sym (own-buses h c.requires.wired c.requires.stands c.args.map x.0 x.1 x.2 device
-    c.args.off c.args.len))
-
-pub returns-then-is_device-clause-done : goal.returns-then-is_device-clause-done
-returns-then-is_device-clause-done c =
-    let h = c.args.holdings.now in
-    let x = load-there (get h.maps.map c.args.map) c.in_default.ensures.loaded in
-    let device = is-behind h c.args.map x.0 x.1 c.is_device.result c.is_device.ensures c.if-is_device.true in
-    dev_read-by h c.args.map c.args.off c.args.len c.in_default.ensures.loaded
+    c.args.off c.args.len)) in
+    done-reading
+    (dev_read-by h c.args.map c.args.off c.args.len c.in_default.ensures.loaded
     c.in_default-past_end.ensures.range c.requires.wired
     (sym c.in_default-may_dev_read.is ∙ c.may_dev_read.ensures
     ∙ ap (λ (m : MapId). dev_read_answer (is_marked_known h.loans) (loan_of h.loans.loans m.made_at) c.args.off
     c.args.len)
     c.map_id-id.ensures)
-    c.in_ok-read_parts.field-0
-    (c.in_ok-read_parts.ensures
-    ∙ ap (λ es. map (wire h.memory.memory) (addresses es)) c.as_slice.ensures.value
-    ∙ ap (map (wire h.memory.memory)) c.in_ok-parts.ensures.bytes
-    ∙ own-reads h c.requires.wired (load_bytes h.loans.loans c.args.map c.args.off c.args.len)
-    c.in_default-past_end.ensures.inside
-    ∙ ap (map (wire_of h)) (sym (own-buses h c.requires.wired c.requires.stands c.args.map x.0 x.1 x.2 device
-    c.args.off c.args.len)))
+    c.in_ok-read_parts.field-0 read)
+    read refl (record { ideal = refl; bytes = record { own = refl; pages = λ m. refl } }) refl refl refl

@@ -1,6 +1,5 @@
 use Rattle.std.proofs.Common.{◌≡◌, ◌/◌, true, false, Some, length, ap, sym, ◌∙◌, subst}
 use Rattle.std.specs.FinMap.{contains_key, get, insert}
-use Rattle.busdma_base.specs.declared.journals.answer.Answer.TheVariants.{Done}
 use Rattle.busdma_machine.specs.declared.name.MapId.{MapId}
 use Rattle.busdma_machine.specs.Machine.Wire.{put}
 use Rattle.busdma_machine.specs.Runs.{addresses}
@@ -9,9 +8,10 @@ use Rattle.busdma_rules.specs.Lending.Loans.{load_bytes, loan_of}
 use Rattle.loan_table.specs.Table.{AreIn, buffer_of, set_all}
 use Rattle.loan_table.proofs.Extending.{length-range}
 use Rattle.phys_memory.specs.Frames.{Lie}
-use Rattle.ideal_lane.specs.Outcomes.{gives}
+use Rattle.ideal_lane.specs.Accesses.{dev_write}
 use Rattle.ideal_wire.specs.Centre.{IsFaithful}
 use Rattle.ideal_wire.specs.Laid.{is_behind}
+use Rattle.ideal_wire.specs.WireStep as wires
 use Rattle.lane_state.specs.declared.kept.KeptMap.{KeptMap}
 use Rattle.lane_state.specs.Changes.{with_written}
 use Rattle.lane_state.specs.Covered.{has_load}
@@ -20,7 +20,11 @@ use Rattle.lane_state.specs.Kept.{map_of}
 use Rattle.lane_state.specs.Wire.{wire_of}
 use Rattle.lane_access.proofs.DeviceReads.{load-there}
 use Rattle.lane_state.proofs.Devices.{is-reached}
-use Rattle.lane_access.proofs.DeviceWrites.{dev_write-done, dev_write-past, dev_write-wire}
+use Rattle.lane_access.specs.Steps.{own_write}
+use Rattle.lane_access.proofs.DeviceWrites.{dev_write-done, dev_write-past, dev_write-refused, dev_write-wire}
+use Rattle.lane_state.proofs.Doors.{err-map, ok-map}
+use Rattle.lane_access.proofs.CpuWrites.{wire-idle}
+use Rattle.lane_access.proofs.Steps.{done-step, refused-step}
 use Rattle.lane_state.proofs.MapTables.{AreMaps}
 use Rattle.lane_state.proofs.MapValues.{image-some}
 use Rattle.lane_state.proofs.Marks.{has_set_all}
@@ -33,13 +37,29 @@ use Rattle.dma_map.specs.MapView.{held_waiting_load}
 use Rattle.lane_state.proofs.Awaiting.{put-awaiting, still-ready}
 use Rattle.lane_access.proofs.accesses.dev_write.Goals as goal
 
-pub returns-in-Some-past_end-clause-done : goal.returns-in-Some-past_end-clause-done
-returns-in-Some-past_end-clause-done c =
+pub returns-in-Some : goal.returns-in-Some
+returns-in-Some c =
+    refused-step (dev_write c.args.map c.args.off c.args.bytes.now) _ c.args.holdings.now _ c.in-Some.refusal refl
+    (sym (c.in-Some.ensures.refused _))
+
+pub returns-in-Some-past_end : goal.returns-in-Some-past_end
+returns-in-Some-past_end c =
     let h = c.args.holdings.now in
     let x = load-there (get h.maps.map c.args.map) c.in_default.ensures.loaded in
-    dev_write-past (ideal_of h) c.args.map (map_of x.0) (image-some map_of h.maps.map c.args.map x.0 x.1) x.2
-    c.args.off
-    c.args.bytes.now c.in-Some-past_end.refusal c.in-Some-past_end.ensures.refused
+    refused-step (dev_write c.args.map c.args.off c.args.bytes.now) _ h _ c.in-Some-past_end.refusal refl
+    (dev_write-past (ideal_of h) c.args.map (map_of x.0) (image-some map_of h.maps.map c.args.map x.0 x.1) x.2
+    c.args.off c.args.bytes.now c.in-Some-past_end.refusal c.in-Some-past_end.ensures.refused)
+
+pub returns-in-Refused : goal.returns-in-Refused
+returns-in-Refused c =
+    let h = c.args.holdings.now in
+    let x = load-there (get h.maps.map c.args.map) c.in_default.ensures.loaded in
+    let is = dev_write-refused (ideal_of h) c.args.map (map_of x.0) (image-some map_of h.maps.map c.args.map x.0 x.1) x.2
+    c.args.off c.args.bytes.now c.in_default-past_end.ensures.range c.in-Refused.refusal
+    (sym c.in-Refused.is ∙ c.may_dev_write.ensures
+    ∙ ap (λ (m : MapId). dev_write_answer (loan_of h.loans.loans m.made_at) c.args.off (length c.args.bytes.now))
+    c.map_id-id.ensures) in
+    done-step is (wire-idle (ideal_of h) c.in-Refused.refusal _ _ (wire_of h) is) refl refl refl
 
 pub write_load-requires : goal.write_load-requires
 write_load-requires c =
@@ -97,47 +117,35 @@ invariant_of-holdings-2 c =
       ready = still-ready h c.note_dev_write.new.self.prepared prepared;
     }
 
-pub returns-clause-done : goal.returns-clause-done
-returns-clause-done c =
+pub returns : goal.returns
+returns c =
     let h = c.args.holdings.now in
     let k = c.args.map in
+    let vs = c.args.bytes.now in
     let o : KeptMap = c.in-Some-get_mut.kept.now in
     let there : get h.maps.map k ≡ Some o = sym c.in-Some-get_mut.ensures.value in
     let plain : is_behind (ideal_of h) c.args.map ≡ false =
     not-behind h c.args.map o there c.is_device.result c.is_device.ensures c.if-is_device.false in
     let on = sym (ap has_load there) ∙ c.in_default.ensures.loaded in
+    let range = c.in_default-past_end.ensures.range in
     let fine =
     sym c.in_default-may_dev_write.is ∙ c.may_dev_write.ensures
-    ∙ ap (λ (m : MapId). dev_write_answer (loan_of h.loans.loans m.made_at) c.args.off (length c.args.bytes.now))
+    ∙ ap (λ (m : MapId). dev_write_answer (loan_of h.loans.loans m.made_at) c.args.off (length vs))
     c.map_id-id.ensures in
-    dev_write-done h c.requires.wired k o there on plain c.args.off c.args.bytes.now c.in_default-past_end.ensures.range
-    fine
+    let same = c.reserve_extents.ensures.same in
+    done-step
+    (dev_write-done h c.requires.wired k o there on plain c.args.off vs range fine
     c.write_load.new.map c.write_load.ensures.map c.write_load.new.memory.memory c.write_load.ensures.view
     c.note_dev_write.new.self.bytes c.note_dev_write.new.self.loans
     (insert h.maps.map k (record o { map = c.write_load.new.map }))
     c.in_default-past_end.ensures.inside
     (c.note_dev_write.ensures.bytes
-    ∙ (λ i. set_all (c.reserve_extents.ensures.same.bytes i)
-    (load_bytes (c.reserve_extents.ensures.same.loans i)
-    (c.map_id-id.ensures i).made_at c.args.off (length c.args.bytes.now)) true))
-    (c.note_dev_write.ensures.loans ∙ c.reserve_extents.ensures.same.loans) refl
-
-pub returns-clause-wire : goal.returns-clause-wire
-returns-clause-wire c =
-    let h = c.args.holdings.now in
-    let k = c.args.map in
-    let o : KeptMap = c.in-Some-get_mut.kept.now in
-    let there : get h.maps.map k ≡ Some o = sym c.in-Some-get_mut.ensures.value in
-    let plain : is_behind (ideal_of h) c.args.map ≡ false =
-    not-behind h c.args.map o there c.is_device.result c.is_device.ensures c.if-is_device.false in
-    let on = sym (ap has_load there) ∙ c.in_default.ensures.loaded in
-    let fine =
-    sym c.in_default-may_dev_write.is ∙ c.may_dev_write.ensures
-    ∙ ap (λ (m : MapId). dev_write_answer (loan_of h.loans.loans m.made_at) c.args.off (length c.args.bytes.now))
-    c.map_id-id.ensures in
-    dev_write-wire h c.requires.wired k o there on plain c.args.off c.args.bytes.now c.in_default-past_end.ensures.range
-    fine
-    c.write_load.new.map c.write_load.ensures.map c.write_load.new.memory.memory c.write_load.ensures.view
+    ∙ (λ i. set_all (same.bytes i)
+    (load_bytes (same.loans i) (c.map_id-id.ensures i).made_at c.args.off (length vs)) true))
+    (c.note_dev_write.ensures.loans ∙ same.loans) refl)
+    (dev_write-wire h c.requires.wired k o there on plain c.args.off vs range fine
+    c.write_load.new.map c.write_load.ensures.map c.write_load.new.memory.memory c.write_load.ensures.view)
+    refl refl refl
 
 pub write_own-requires-clause-lie : goal.write_own-requires-clause-lie
 write_own-requires-clause-lie c =
@@ -174,33 +182,34 @@ write_own-requires-clause-faithful c =
     (own-faithful h c.requires.wired c.requires.stands c.args.map x.0 x.1 x.2 device c.args.off vs
     c.in_default-past_end.ensures.range fine)
 
-pub returns-then-is_device-clause-done : goal.returns-then-is_device-clause-done
-returns-then-is_device-clause-done c =
+pub returns-then-is_device : goal.returns-then-is_device
+returns-then-is_device c =
     let h = c.args.holdings.now in
+    let k = c.args.map in
     let vs = c.args.bytes.now in
-    let x = load-there (get h.maps.map c.args.map) c.in_default.ensures.loaded in
-    let device = is-behind h c.args.map x.0 x.1 c.is_device.result c.is_device.ensures c.if-is_device.true in
+    let x = load-there (get h.maps.map k) c.in_default.ensures.loaded in
+    let device = is-behind h k x.0 x.1 c.is_device.result c.is_device.ensures c.if-is_device.true in
+    let range = c.in_default-past_end.ensures.range in
     let fine =
     sym c.in_default-may_dev_write.is ∙ c.may_dev_write.ensures
     ∙ ap (λ (m : MapId). dev_write_answer (loan_of h.loans.loans m.made_at) c.args.off (length vs))
     c.map_id-id.ensures in
-    ap (λ s. gives s Done) (c.in_ok-write_own.ensures.done
-    ∙ ap (λ pas. with_written pas vs (ideal_of h)) (ap addresses c.as_slice.ensures.value
-    ∙ c.in_ok-parts.ensures.bytes))
-    ∙ sym (own-step h c.requires.wired c.requires.stands c.args.map x.0 x.1 x.2 device c.args.off vs
-    c.in_default-past_end.ensures.range fine)
-
-pub returns-then-is_device-clause-wire : goal.returns-then-is_device-clause-wire
-returns-then-is_device-clause-wire c =
-    let h = c.args.holdings.now in
-    let vs = c.args.bytes.now in
-    let x = load-there (get h.maps.map c.args.map) c.in_default.ensures.loaded in
-    let device = is-behind h c.args.map x.0 x.1 c.is_device.result c.is_device.ensures c.if-is_device.true in
-    let fine =
-    sym c.in_default-may_dev_write.is ∙ c.may_dev_write.ensures
-    ∙ ap (λ (m : MapId). dev_write_answer (loan_of h.loans.loans m.made_at) c.args.off (length vs))
-    c.map_id-id.ensures in
-    c.in_ok-write_own.ensures.wire
-    ∙ ap (λ pas. put pas vs (wire_of h)) (ap addresses c.as_slice.ensures.value ∙ c.in_ok-parts.ensures.bytes)
-    ∙ sym (own-wire h c.requires.wired c.requires.stands c.args.map x.0 x.1 x.2 device c.args.off vs
-    c.in_default-past_end.ensures.range fine)
+    let pas = addresses c.as_slice.result.now in
+    let bytes : pas ≡ load_bytes h.loans.loans k c.args.off (length vs) =
+    ap addresses c.as_slice.ensures.value ∙ c.in_ok-parts.ensures.bytes in
+    let step = ap (λ xs. own_write xs vs (ideal_of h)) bytes
+    ∙ sym (own-step h c.requires.wired c.requires.stands k x.0 x.1 x.2 device c.args.off vs range fine) in
+    let wire = ap (λ xs. put xs vs (wire_of h)) bytes
+    ∙ sym (own-wire h c.requires.wired c.requires.stands k x.0 x.1 x.2 device c.args.off vs range fine) in
+    let r = c.write_own.ensures in
+    record {
+      done = ok-map c.write_own.result _ _ (λ a e. e ∙ step) r.done;
+      wire = ok-map c.write_own.result _ _ (λ a e. e ∙ wire) r.wire;
+      err = err-map c.write_own.result (λ s. record {
+        ideal = s.ideal;
+        bytes = record { own = s.bytes.own; pages = s.bytes.pages };
+      }) r.err;
+      script = r.script;
+      memories = r.memories;
+      agenda = r.agenda;
+    }

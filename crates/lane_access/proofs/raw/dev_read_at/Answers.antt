@@ -1,4 +1,4 @@
-use Rattle.std.proofs.Common.{◌≡◌, length, map, unwrap_or, sym, ap, ◌∙◌, subst, arith}
+use Rattle.std.proofs.Common.{◌≡◌, length, map, unwrap_or, refl, sym, ap, ◌∙◌, subst, arith}
 use Rattle.std.proofs.lemmas.List.{length-map}
 use Rattle.busdma_machine.specs.declared.report.Judged.TheVariants.{Fine}
 use Rattle.busdma_machine.specs.Judging.{judged}
@@ -8,25 +8,27 @@ use Rattle.loan_table.specs.Table.{AreIn}
 use Rattle.loan_table.proofs.Judgement.{length-run_of}
 use Rattle.phys_memory.specs.Frames.{Lie}
 use Rattle.phys_memory.specs.Memory.{wire}
-use Rattle.ideal_lane.specs.Accesses.{raw_bytes}
-use Rattle.ideal_lane.specs.Outcomes.{gives}
+use Rattle.ideal_lane.specs.Accesses.{dev_read_at, raw_bytes}
 use Rattle.lane_access.specs.declared.raw.RawAccess.TheVariants.{Read}
 use Rattle.lane_state.specs.Ideal.{ideal_of}
+use Rattle.lane_state.specs.Wire.{wire_of}
 use Rattle.lane_access.specs.Raw.{refusal_of}
 use Rattle.lane_access.proofs.OwnExtents.{lie-inside}
 use Rattle.lane_state.proofs.OwnBytes.{own-reads}
 use Rattle.lane_access.proofs.RawAccesses.{raw-below, raw-inside, raw-reached, read-absent, read-done, read-refused}
+use Rattle.lane_access.proofs.Steps.{done-reading, refused-reading, same-state}
 use Rattle.lane_access.proofs.raw.dev_read_at.Goals as goal
 
-pub returns-in_default-clause-done : goal.returns-in_default-clause-done
-returns-in_default-clause-done c =
-    ap (gives (ideal_of c.args.holdings.now)) c.report.ensures
-    ∙ read-absent c.args.holdings.now c.args.tag c.args.addr c.args.len (sym c.in_default.ensures)
+pub returns-in_default : goal.returns-in_default
+returns-in_default c =
+    refused-reading (dev_read_at c.args.tag c.args.addr c.args.len) _ c.args.holdings.now c.report.result _
+    c.report.ensures (read-absent c.args.holdings.now c.args.tag c.args.addr c.args.len (sym c.in_default.ensures))
 
-pub returns-in-Refused-clause-done : goal.returns-in-Refused-clause-done
-returns-in-Refused-clause-done c =
-    read-refused c.args.holdings.now c.args.tag c.args.addr c.in-Some.field-0.now (sym c.in-Some.ensures) c.args.len
-    c.in-Refused.refusal (sym c.judge_raw.ensures ∙ c.in-Refused.is)
+pub returns-in-Refused : goal.returns-in-Refused
+returns-in-Refused c =
+    refused-reading (dev_read_at c.args.tag c.args.addr c.args.len) _ c.args.holdings.now _ c.in-Refused.refusal refl
+    (read-refused c.args.holdings.now c.args.tag c.args.addr c.in-Some.field-0.now (sym c.in-Some.ensures) c.args.len
+    c.in-Refused.refusal (sym c.judge_raw.ensures ∙ c.in-Refused.is))
 
 pub raw_extents-requires-clause-below : goal.raw_extents-requires-clause-below
 raw_extents-requires-clause-below c =
@@ -55,25 +57,18 @@ read_parts-requires-clause-len c =
     ∙ length-map (run_of c.args.addr c.args.len) (λ a. unwrap_or (translated s a) 0)
     ∙ length-run_of c.args.addr c.args.len
 
-pub returns-clause-read : goal.returns-clause-read
-returns-clause-read c =
+pub returns : goal.returns
+returns c =
     let h = c.args.holdings.now in
+    let bytes = raw_bytes (ideal_of h) c.args.tag (run_of c.args.addr c.args.len) in
+    let fine : judged (refusal_of Read (ideal_of h) c.args.tag) 0 (run_of c.args.addr c.args.len) ≡ Fine =
+    sym c.judge_raw.ensures ∙ c.in_default-judge_raw.is in
+    let read : c.in_ok-read_parts.field-0 ≡ map (wire_of h) bytes =
     c.in_ok-read_parts.ensures
     ∙ ap (λ es. map (wire h.memory.memory) (addresses es)) c.as_slice.ensures.value
     ∙ ap (map (wire h.memory.memory)) c.in_ok-parts.ensures.bytes
-    ∙ own-reads h c.requires.wired (raw_bytes (ideal_of h) c.args.tag (run_of c.args.addr c.args.len))
-    (raw-inside h c.args.tag c.args.addr Read c.args.len (sym c.judge_raw.ensures ∙ c.in_default-judge_raw.is)
-    c.requires.wired c.requires.stands)
-
-pub returns-clause-done : goal.returns-clause-done
-returns-clause-done c =
-    let h = c.args.holdings.now in
-    let fine : judged (refusal_of Read (ideal_of h) c.args.tag) 0 (run_of c.args.addr c.args.len) ≡ Fine =
-    sym c.judge_raw.ensures ∙ c.in_default-judge_raw.is in
-    read-done h c.args.tag c.args.addr c.in-Some.field-0.now (sym c.in-Some.ensures) c.args.len c.requires.wired
-    c.requires.stands fine c.in_ok-read_parts.field-0
-    (c.in_ok-read_parts.ensures
-    ∙ ap (λ es. map (wire h.memory.memory) (addresses es)) c.as_slice.ensures.value
-    ∙ ap (map (wire h.memory.memory)) c.in_ok-parts.ensures.bytes
-    ∙ own-reads h c.requires.wired (raw_bytes (ideal_of h) c.args.tag (run_of c.args.addr c.args.len))
-    (raw-inside h c.args.tag c.args.addr Read c.args.len fine c.requires.wired c.requires.stands))
+    ∙ own-reads h c.requires.wired bytes
+    (raw-inside h c.args.tag c.args.addr Read c.args.len fine c.requires.wired c.requires.stands) in
+    done-reading
+    (read-done h c.args.tag c.args.addr c.in-Some.field-0.now (sym c.in-Some.ensures) c.args.len
+    c.requires.wired c.requires.stands fine c.in_ok-read_parts.field-0 read) read refl (same-state h) refl refl refl

@@ -1,41 +1,28 @@
-use Rattle.std.proofs.Common.{ap, sym, ◌∙◌}
-use Rattle.std.specs.FinMap.{get}
+use Rattle.std.proofs.Common.{◌≡◌, length, refl, ap, sym, ◌∙◌}
 use Rattle.busdma_machine.specs.declared.name.MapId.{MapId}
 use Rattle.loan_table.specs.Table.{buffer_of}
-use Rattle.std.proofs.Common.{◌≡◌, length}
 use Rattle.ideal_lane.specs.Outcomes.{load_length}
+use Rattle.ideal_lane.specs.Syncs as syncs
+use Rattle.ideal_wire.specs.WireStep as wires
 use Rattle.lane_state.specs.Ideal.{ideal_of}
-use Rattle.lane_state.specs.Kept.{map_of}
 use Rattle.lane_state.specs.Wire.{wire_of}
-use Rattle.lane_access.proofs.DeviceReads.{load-there}
-use Rattle.lane_state.proofs.MapValues.{image-some}
-use Rattle.lane_access.proofs.Syncing.{if-ok, sync-whole, sync-wires}
+use Rattle.lane_access.specs.Steps.{part_sync, wire_part_sync}
+use Rattle.lane_access.proofs.Steps.{refused-step, same-step}
 use Rattle.lane_access.proofs.syncs.sync.Goals as goal
 
-pub returns-clause-done : goal.returns-clause-done
-returns-clause-done c =
-    let h = c.args.holdings.now in
-    let l = ideal_of h in
-    let k = c.args.map in
-    let x = load-there (get h.maps.map k) c.in_default.ensures.loaded in
-    let there = image-some map_of h.maps.map k x.0 x.1 in
-    let size : c.len_of-len.result ≡ load_length l k =
-    c.len_of-len.ensures.is ∙ ap (λ (m : MapId). length (buffer_of h.loans m.made_at)) c.map_id.ensures in
-    if-ok c.sync_part.result _ _
-    (λ answer is. is (map_of x.0) there ∙ sym (sync-whole l k (map_of x.0) there x.2 c.args.ops.0 c.len_of-len.result
-    size))
-    c.sync_part.ensures.done
+pub returns-in-Some : goal.returns-in-Some
+returns-in-Some c =
+    refused-step (syncs.sync c.args.map c.args.ops.0) _ c.args.holdings.now _ c.in-Some.refusal refl
+    (sym (c.in-Some.ensures.refused _))
 
-pub returns-clause-wire : goal.returns-clause-wire
-returns-clause-wire c =
+pub returns : goal.returns
+returns c =
     let h = c.args.holdings.now in
-    let l = ideal_of h in
     let k = c.args.map in
-    let x = load-there (get h.maps.map k) c.in_default.ensures.loaded in
-    let there = image-some map_of h.maps.map k x.0 x.1 in
-    let size : c.len_of-len.result ≡ load_length l k =
+    let ops = c.args.ops.0 in
+    let len = c.len_of-len.result in
+    let size : len ≡ load_length (ideal_of h) k =
     c.len_of-len.ensures.is ∙ ap (λ (m : MapId). length (buffer_of h.loans m.made_at)) c.map_id.ensures in
-    if-ok c.sync_part.result _ _
-    (λ answer is. is (map_of x.0) there
-    ∙ sync-wires l k (map_of x.0) there x.2 c.args.ops.0 c.len_of-len.result (wire_of h) size)
-    c.sync_part.ensures.wire
+    same-step (part_sync k 0 len ops) (syncs.sync k ops) (wire_part_sync k 0 len ops) (wires.wire_sync k ops) h
+    c.sync_part.new.holdings c.sync_part.result (ap (λ n. part_sync k 0 n ops (ideal_of h)) size)
+    (ap (λ n. wire_part_sync k 0 n ops (ideal_of h) (wire_of h)) size) c.sync_part.ensures
