@@ -2,8 +2,9 @@
 use Rattle.std.proofs.Common.{◌≡◌, ℕ, ◌+◌, ◌==◌, ◌<◌, ◌≤◌, ◌^◌, ◌&&◌, ◌⊎◌, inl, inr, not, Bool, true, false, nat_lt}
 use Rattle.std.proofs.Common.{is_some}
 use Rattle.std.proofs.Common.{if◌then◌else◌, List, [], ◌∷◌, ◌++◌, length, take, Option, Some, None, unwrap_or, zero}
-use Rattle.std.proofs.Common.{suc}
+use Rattle.std.proofs.Common.{suc, Result, Ok}
 use Rattle.std.proofs.Common.{IfNone, refl, sym, ap, ◌∙◌, subst, arith}
+use Rattle.std.specs.declared.alloc.AllocError.{AllocError}
 use Rattle.std.proofs.lemmas.List.Concat.{flat_map-cons}
 use Rattle.std.specs.FinMap.{get}
 use Rattle.std.specs.List.{AllByRecursion}
@@ -23,7 +24,7 @@ use Rattle.ideal_lane.specs.Asking.{Asking}
 use Rattle.ideal_lane.specs.Loads.{is_device}
 use Rattle.ideal_lane.specs.Outcomes.{Outcome, gives, is_loaded, load_length, unless_absent, unless_past}
 use Rattle.ideal_lane.specs.Outcomes.{unless_unloaded}
-use Rattle.ideal_lane.specs.Rings.{is_work, may_post, no_ring, posted, ring_post, slot_place}
+use Rattle.ideal_lane.specs.Rings.{is_work, may_post, no_ring, posted, slot_place}
 use Rattle.ideal_lane.specs.Rings as rings
 use Rattle.ideal_lane.specs.State.{LaneMap, LaneMemory, LaneRing, LaneState}
 use Rattle.ideal_lane.specs.Unloads.{segments_in}
@@ -41,18 +42,33 @@ use Rattle.busdma_rules.specs.Segments.Segmentation.{segment_bytes}
 use Rattle.ideal_wire.specs.Laid.{is_behind}
 use Rattle.lane_state.specs.declared.holdings.Holdings.{Holdings}
 use Rattle.lane_state.specs.declared.kept.KeptMap.{KeptMap}
+use Rattle.lane_state.specs.declared.kept.KeptMemory.{KeptMemory}
+use Rattle.lane_state.specs.declared.kept.KeptRing.{KeptRing}
 use Rattle.lane_state.specs.Covered.{has_load}
 use Rattle.lane_state.specs.Ideal.{ideal_of}
-use Rattle.lane_state.specs.Kept.{device_in}
-use Rattle.lane_state.specs.Wire.{IsWired}
+use Rattle.lane_state.specs.Kept.{device_in, map_of, memory_of, kept_ring}
+use Rattle.lane_state.specs.Wire.{IsWired, wire_of}
 use Rattle.lane_state.proofs.Devices.{bytes-long, is-reached}
+use Rattle.lane_state.proofs.MapValues.{image-none, image-some}
+use Rattle.lane_access.specs.Steps.{IsStep}
+use Rattle.lane_access.proofs.Steps.{idle-step, same-step}
 use Rattle.lane_rings.specs.declared.posts.Posting.{Posting}
-use Rattle.lane_rings.specs.Ringing.{IsPosted, IsUnposted}
-use Rattle.lane_access.proofs.DeviceReads.{ends, loads}
+use Rattle.lane_rings.specs.Ringing.{IsPosted, IsUnposted, post_step, post_wire}
+use Rattle.lane_access.proofs.DeviceReads.{ends, load-there, loads}
 
-module _ (l : LaneState) (k : ℕ) (p : Posting) where
+abbrev absent : Answer
+absent = answer.Report (record { name = Absent; at = 0 })
+
+module _ (h : Holdings) (k : ℕ) (p : Posting) where
+  abbrev l : LaneState
+  l = ideal_of h
+
   abbrev step : Asking Outcome
-  step = ring_post k p.slot p.map p.off p.len p.kind p.fill l
+  step = post_step k p l
+
+  -- the post leaves all holdings and has this answer
+  abbrev Stays : Answer → Type 0
+  Stays a = IsStep (post_step k p) (post_wire k p) h h (Ok a)
 
   -- what follows after the ring, and then its memory, is found
   abbrev behind : LaneRing → LaneMap → Asking Outcome
@@ -60,63 +76,98 @@ module _ (l : LaneState) (k : ℕ) (p : Posting) where
       then cpu_write (slot_place r p.slot) (descriptor_bytes (posted (segments_in o.stage) p.off p.len p.kind p.fill)) l
       else gives l (answer.Refused EINVAL)
 
+  abbrev with_load : LaneRing → Asking Outcome
+  with_load r = unless_unloaded p.map l (λ o. unless_past p.map p.off p.len l (behind r o))
+
   abbrev with_ring : LaneRing → Asking Outcome
-  with_ring r = unless_absent (get l.mems r.mem) l (λ (x : LaneMemory).
-      unless_unloaded p.map l (λ o. unless_past p.map p.off p.len l (behind r o)))
+  with_ring r = unless_absent (get l.mems r.mem) l (λ (x : LaneMemory). with_load r)
+
+  -- a post that is refused writes nothing
+  unposted : (a b : Answer) → a ≡ b → ((after w : Wire) → wires.if_answered b after w ≡ w) → gives l b ≡ step → Stays a
+  unposted a b told idle is =
+      let after = put (place_bytes l (slot_place (rings.ring_of l k) p.slot) 16)
+      (descriptor_bytes (posted (segments_in (stage_at l p.map)) p.off p.len p.kind p.fill)) (wire_of h) in
+      idle-step (post_step k p) (post_wire k p) h a b told is
+      (sym (idle after (wire_of h)) ∙ ap (λ s. if_done s after (wire_of h)) is)
 
   -- there is no such ring
-  pub post-none : get l.rings k ≡ None → gives l (answer.Report (record { name = Absent; at = 0 })) ≡ step
-  post-none none = sym (ap (λ o. unless_absent o l with_ring) none)
+  pub post-none : (a : Answer) → a ≡ absent → get h.rings.map k ≡ None → Stays a
+  post-none a told none =
+      unposted a absent told (λ after w. refl)
+      (sym (ap (λ o. unless_absent o l with_ring) (image-none kept_ring h.rings.map k none)))
 
-  module _ (r : LaneRing) (ring : get l.rings k ≡ Some r) where
+  module _ (q : KeptRing) (ring : get h.rings.map k ≡ Some q) where
+    abbrev r : LaneRing
+    r = kept_ring q
+
+    is-ring : get l.rings k ≡ Some r
+    is-ring = image-some kept_ring h.rings.map k q ring
+
     found : step ≡ with_ring r
-    found = ap (λ o. unless_absent o l with_ring) ring
+    found = ap (λ o. unless_absent o l with_ring) is-ring
 
     -- the ring's memory does not exist
-    pub post-absent : get l.mems r.mem ≡ None → gives l (answer.Report (record { name = Absent; at = 0 })) ≡ step
-    post-absent none = sym (found ∙ ap (λ o. unless_absent o l (λ (x : LaneMemory).
-        unless_unloaded p.map l (λ o. unless_past p.map p.off p.len l (behind r o)))) none)
+    pub post-absent : (a : Answer) → a ≡ absent → get h.memories.map q.mem ≡ None → Stays a
+    post-absent a told none =
+        unposted a absent told (λ after w. refl)
+        (sym (found ∙ ap (λ o. unless_absent o l (λ (x : LaneMemory). with_load r))
+        (image-none memory_of h.memories.map q.mem none)))
 
-    module _ (x : LaneMemory) (memory : get l.mems r.mem ≡ Some x) where
-      kept : step ≡ unless_unloaded p.map l (λ o. unless_past p.map p.off p.len l (behind r o))
-      kept = found ∙ ap (λ o. unless_absent o l (λ (x : LaneMemory).
-          unless_unloaded p.map l (λ o. unless_past p.map p.off p.len l (behind r o)))) memory
+    module _ (x : KeptMemory) (memory : get h.memories.map q.mem ≡ Some x) where
+      kept : step ≡ with_load r
+      kept =
+          found ∙ ap (λ o. unless_absent o l (λ (x : LaneMemory). with_load r))
+          (image-some memory_of h.memories.map q.mem x memory)
 
       -- the map is not loaded
       pub post-unloaded : (u : Report) →
           ((s : LaneMap → Asking Outcome) → unless_unloaded p.map l s ≡ gives l (answer.Report u)) →
-          gives l (answer.Report u) ≡ step
-      post-unloaded u h = sym (kept ∙ h (λ o. unless_past p.map p.off p.len l (behind r o)))
+          Stays (answer.Report u)
+      post-unloaded u e =
+          unposted (answer.Report u) (answer.Report u) refl (λ after w. refl)
+          (sym (kept ∙ e (λ o. unless_past p.map p.off p.len l (behind r o))))
 
-      module _ (o : LaneMap) (there : get l.maps p.map ≡ Some o) (on : is_loaded o.stage ≡ true) where
+      module _ (on : has_load (get h.maps.map p.map) ≡ true) where
+        abbrev load : (y : KeptMap) × (get h.maps.map p.map ≡ Some y) × (has_load (Some y) ≡ true)
+        load = load-there (get h.maps.map p.map) on
+
+        abbrev o : LaneMap
+        o = map_of load.0
+
+        there : get l.maps p.map ≡ Some o
+        there = image-some map_of h.maps.map p.map load.0 load.1
+
         loaded : step ≡ unless_past p.map p.off p.len l (behind r o)
-        loaded = kept ∙ loads l p.map o there on (λ y. unless_past p.map p.off p.len l (behind r y))
+        loaded = kept ∙ loads l p.map o there load.2 (λ y. unless_past p.map p.off p.len l (behind r y))
 
         -- the range reaches past the end
         pub post-past : (u : Report) →
             ((s : Asking Outcome) → unless_past p.map p.off p.len l s ≡ gives l (answer.Report u)) →
-            gives l (answer.Report u) ≡ step
-        post-past u h = sym (loaded ∙ h (behind r o))
+            Stays (answer.Report u)
+        post-past u e =
+            unposted (answer.Report u) (answer.Report u) refl (λ after w. refl) (sym (loaded ∙ e (behind r o)))
 
         module _ (range : p.off + p.len ≤ load_length l p.map) where
           ready : step ≡ behind r o
           ready = loaded ∙ ends l p.map p.off p.len range (behind r o)
 
           -- the bytes cannot be posted
-          pub post-refused : IsUnposted l r p → gives l (answer.Refused EINVAL) ≡ step
-          post-refused unfit = sym (ready ∙ ap (λ b. if b
+          pub post-refused : IsUnposted l r p → Stays (answer.Refused EINVAL)
+          post-refused unfit =
+              unposted (answer.Refused EINVAL) (answer.Refused EINVAL) refl (λ after w. refl)
+              (sym (ready ∙ ap (λ b. if b
               then cpu_write (slot_place r p.slot)
               (descriptor_bytes (posted (segments_in o.stage) p.off p.len p.kind p.fill)) l
-              else gives l (answer.Refused EINVAL)) (unfit o there))
+              else gives l (answer.Refused EINVAL)) (unfit o there)))
 
           -- the bytes are posted
-          module _ (d : Descriptor) (is : IsPosted l r p d) where
+          module _ (d : Descriptor) (is : IsPosted l r p d) (size : length (descriptor_bytes d) ≡ 16) where
             same : is.map ≡ o
             same = let e : Some is.map ≡ Some o = sym is.there ∙ there in cc
 
-            pub post-write : step ≡ cpu_write (slot_place r p.slot) (descriptor_bytes d) l
-            post-write =
-                ready
+            write : cpu_write (slot_place r p.slot) (descriptor_bytes d) l ≡ step
+            write =
+                sym (ready
                 ∙ ap (λ b. if b
                 then cpu_write (slot_place r p.slot)
                 (descriptor_bytes (posted (segments_in o.stage) p.off p.len p.kind p.fill)) l
@@ -124,35 +175,35 @@ module _ (l : LaneState) (k : ℕ) (p : Posting) where
                 (ap (λ y. may_post r p.slot p.map y p.off p.len p.kind l) (sym same) ∙ is.may)
                 ∙ ap (λ (y : LaneMap). cpu_write (slot_place r p.slot)
                 (descriptor_bytes (posted (segments_in y.stage) p.off p.len p.kind p.fill)) l) (sym same)
-                ∙ ap (λ e. cpu_write (slot_place r p.slot) (descriptor_bytes e) l) (sym is.is)
+                ∙ ap (λ e. cpu_write (slot_place r p.slot) (descriptor_bytes e) l) (sym is.is))
 
-            pub post-wire : (w : Wire) → length (descriptor_bytes d) ≡ 16 →
-                wires.wire_cpu_write (slot_place r p.slot) (descriptor_bytes d) l w
-                ≡ wires.wire_ring_post k p.slot p.map p.off p.len p.kind p.fill l w
-            post-wire w size =
+            wired : wires.wire_cpu_write (slot_place r p.slot) (descriptor_bytes d) l (wire_of h)
+                ≡ post_wire k p l (wire_of h)
+            wired =
+                let w = wire_of h in
                 ap (λ s. if_done s (put (place_bytes l (slot_place r p.slot) (length (descriptor_bytes d)))
-                (descriptor_bytes d) w) w) (sym post-write)
+                (descriptor_bytes d) w) w) write
                 ∙ (λ i. if_done step (put (place_bytes l (slot_place (ring-is i) p.slot) (size i))
                 (descriptor_bytes (told i)) w) w)
               where
                 ring-is : r ≡ rings.ring_of l k
-                ring-is = sym (ap (λ o. unwrap_or o no_ring) ring)
+                ring-is = sym (ap (λ o. unwrap_or o no_ring) is-ring)
 
                 told : d ≡ posted (segments_in (stage_at l p.map)) p.off p.len p.kind p.fill
                 told =
                     is.is ∙ ap (λ y. posted (segments_in y) p.off p.len p.kind p.fill)
                     (sym (ap stage_in is.there))
 
--- a step that is refused posts nothing
-pub unposted-wire : (l : LaneState) (k : ℕ) (p : Posting) (a : Answer) (w : Wire) →
-    ((after : Wire) → wires.if_answered a after w ≡ w) →
-    gives l a ≡ ring_post k p.slot p.map p.off p.len p.kind p.fill l →
-    w ≡ wires.wire_ring_post k p.slot p.map p.off p.len p.kind p.fill l w
-unposted-wire l k p a w idle is =
-    sym (idle (put (place_bytes l (slot_place (rings.ring_of l k) p.slot) 16)
-    (descriptor_bytes (posted (segments_in (stage_at l p.map)) p.off p.len p.kind p.fill)) w))
-    ∙ ap (λ s. if_done s (put (place_bytes l (slot_place (rings.ring_of l k) p.slot) 16)
-    (descriptor_bytes (posted (segments_in (stage_at l p.map)) p.off p.len p.kind p.fill)) w) w) is
+            -- the driver writes the descriptor
+            pub post-written : (vs : List ℕ) → vs ≡ descriptor_bytes d → (n : Holdings)
+                (v : Result Answer AllocError) →
+                IsStep (cpu_write (slot_place r p.slot) vs) (wires.wire_cpu_write (slot_place r p.slot) vs) h n v →
+                IsStep (post_step k p) (post_wire k p) h n v
+            post-written vs told n v =
+                same-step (cpu_write (slot_place r p.slot) vs) (post_step k p)
+                (wires.wire_cpu_write (slot_place r p.slot) vs) (post_wire k p) h n v
+                (ap (λ bytes. cpu_write (slot_place r p.slot) bytes l) told ∙ write)
+                (ap (λ bytes. wires.wire_cpu_write (slot_place r p.slot) bytes l (wire_of h)) told ∙ wired)
 
 -- ---- whether the bytes may be posted
 

@@ -61,11 +61,7 @@ differ a b no-same = by (a == b) refl
     by true e = absurd (no-same (eqb-true a b e))
     by false e = refl
 
--- a fact that holds in any case, and what follows from two facts of a value if a value was made
-pub always : {T E : Type 0} (r : Result T E) (Q : Type 0) → Q → IfOk r (λ x. Q)
-always (Ok x) Q q = q
-always (Err e) Q q = tt
-
+-- what follows from two facts of a value if a value was made
 pub both-ok : {T E : Type 0} (r : Result T E) (P Q : T → Type 0) (R : Type 0) → ((x : T) → P x → Q x → R) → IfOk r P →
     IfOk r Q → IfOk r (λ x. R)
 both-ok (Ok x) P Q R f p q = f x p q

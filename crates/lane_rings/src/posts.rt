@@ -1,17 +1,14 @@
 //! What a driver asks of a ring's device: descriptors, and the steps that fetch them.
 
-ghost use Rattle.std.specs.Prelude.{◌≡◌, ◌≤◌, ◌+◌, true, false, length, IfOk, IfSome, IfNone, OnErr};
+ghost use Rattle.std.specs.Prelude.{◌≡◌, ◌≤◌, true, length, IfSome, IfNone};
 ghost use Rattle.std.specs.FinMap.{get};
-ghost use Rattle.ideal_lane.specs.Asking.{Gives};
-ghost use Rattle.ideal_lane.specs.Rings as rings;
 ghost use Rattle.ideal_lane.specs.Rings.{is_work};
-ghost use Rattle.ideal_wire.specs.WireStep as wires;
-ghost use Rattle.lane_state.specs.Changes.{KeepsAgenda, KeepsBytes, KeepsState};
 ghost use Rattle.lane_state.specs.Covered.{has_load};
-ghost use Rattle.lane_state.specs.Ideal.{given, ideal_of};
+ghost use Rattle.lane_state.specs.Ideal.{ideal_of};
 ghost use Rattle.lane_state.specs.Kept.{kept_ring};
-ghost use Rattle.lane_state.specs.Wire.{IsWired, wire_of};
-ghost use Rattle.lane_rings.specs.Ringing.{IsPosted, IsUnposted};
+ghost use Rattle.lane_state.specs.Wire.{IsWired};
+ghost use Rattle.lane_access.specs.Steps.{IsStep};
+ghost use Rattle.lane_rings.specs.Ringing.{IsKicked, IsPosted, IsUnposted, post_step, post_wire};
 
 use busdma_base::{Answer, Errno, ItemList, Place, ReportName};
 use busdma_rules::Descriptor;
@@ -48,16 +45,7 @@ pub fn post(
     posting: Posting,
 ) -> Result<Answer, AllocError>
     requires { IsWired holdings.old }
-    ensures done { IfOk result (λ answer. Gives (given holdings.new answer)
-        ≡ rings.ring_post ring posting.slot posting.map posting.off posting.len posting.kind posting.fill
-        (ideal_of holdings.old)) }
-    ensures wire { IfOk result (λ answer. wire_of holdings.new
-        ≡ wires.wire_ring_post ring posting.slot posting.map posting.off posting.len posting.kind posting.fill
-        (ideal_of holdings.old) (wire_of holdings.old)) }
-    ensures script { holdings.new.script ≡ holdings.old.script }
-    ensures memories { holdings.new.memories ≡ holdings.old.memories }
-    ensures agenda { holdings.new.agenda ≡ holdings.old.agenda }
-    ensures err { OnErr result (KeepsState holdings.old holdings.new) }
+    ensures { IsStep (post_step ring posting) (post_wire ring posting) holdings.old holdings.new result }
 {
     let Some(kept) = holdings.rings.get(ring) else {
         return Ok(report(ReportName::Absent, 0));
@@ -125,15 +113,7 @@ pub(crate) fn is_work(kind: u8, len: u64) -> bool
 /// `AllocError` if memory runs out. The driver and its queues are then unchanged.
 pub fn kick(holdings: &mut Holdings<'_>, ring: u32, steps: &ItemList) -> Result<Answer, AllocError>
     requires room { length steps.now ≤ holdings.old.agenda.room }
-    ensures done { IfOk result (λ answer.
-        Gives (given holdings.new answer) ≡ rings.kick ring steps.now (ideal_of holdings.old)) }
-    ensures err { OnErr result (KeepsState holdings.old holdings.new) }
-    ensures bytes { KeepsBytes holdings.old holdings.new }
-    ensures script { holdings.new.script ≡ holdings.old.script }
-    ensures memories { holdings.new.memories ≡ holdings.old.memories }
-    ensures agenda { KeepsAgenda holdings.old holdings.new }
-    ensures unpromised { OnErr result (holdings.new.agenda ≡ holdings.old.agenda) }
-    ensures promised { holdings.new.agenda.promised ≡ holdings.old.agenda.promised }
+    ensures { IsKicked ring steps.now holdings.old holdings.new result }
 {
     let Some(_) = holdings.rings.get(ring) else {
         return Ok(report(ReportName::Absent, 0));

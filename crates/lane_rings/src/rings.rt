@@ -1,29 +1,26 @@
 //! The steps of a ring's device.
 
-ghost use Rattle.std.specs.Prelude.{◌≡◌, ◌+◌, ◌/◌, ◌%◌, ◌<◌, ◌≤◌, ◌^◌, ℕ, true, length, map as mapped, [], ◌∷◌, IfOk, IfSome};
-ghost use Rattle.std.specs.Prelude.{IfNone, OnErr, Some, option_map, IsSome};
+ghost use Rattle.std.specs.Prelude.{◌≡◌, ◌+◌, ◌/◌, ◌%◌, ◌<◌, ◌≤◌, ◌^◌, true, length, map as mapped, IfOk, IfSome};
+ghost use Rattle.std.specs.Prelude.{IfNone, Some, option_map, IsSome};
 ghost use Rattle.std.specs.FinMap.{entries, get};
 ghost use Rattle.busdma_rules.specs.Lending.Loans.{loan_of};
 ghost use Rattle.loan_table.specs.Table.{buffer_of};
 ghost use Rattle.phys_memory.specs.Memory.{memory_has_frame, wire};
 ghost use Rattle.busdma_rules.specs.Rings.Descriptors.{descriptor_of};
-ghost use Rattle.ideal_lane.specs.Asking.{Gives};
-ghost use Rattle.ideal_lane.specs.Outcomes.{gives};
 ghost use Rattle.ideal_lane.specs.Rings as rings;
 ghost use Rattle.ideal_lane.specs.Rings.{candidates_in, head_at, is_left_out, judged_at, moved_on, retired};
 ghost use Rattle.ideal_lane.specs.Standing.{Stands};
 ghost use Rattle.ideal_lane.specs.State.{LaneMap};
 ghost use Rattle.ideal_wire.specs.WireStep as wires;
-ghost use Rattle.ideal_wire.specs.WireStep.{load_buses, used_wire};
-ghost use Rattle.busdma_machine.specs.Machine.Wire.{put};
+ghost use Rattle.ideal_wire.specs.WireStep.{used_wire};
 ghost use Rattle.busdma_machine.specs.Runs.{run_of};
-ghost use Rattle.lane_state.specs.Changes.{KeepsState};
 ghost use Rattle.lane_state.specs.Covered.{has_load};
-ghost use Rattle.lane_state.specs.Ideal.{given, ideal_of};
+ghost use Rattle.lane_state.specs.Ideal.{ideal_of};
 ghost use Rattle.lane_state.specs.Kept.{map_of, kept_ring};
-ghost use Rattle.lane_state.specs.Wire.{IsWired, wire_of};
-ghost use Rattle.lane_rings.specs.Ringing.{IfAt, IsAllowedAt, IsReadable, IsUnread, candidate_in, candidate_of};
-ghost use Rattle.lane_rings.specs.Ringing.{work_of};
+ghost use Rattle.lane_state.specs.Wire.{IsWired};
+ghost use Rattle.lane_access.specs.Steps.{IsStep};
+ghost use Rattle.lane_rings.specs.Ringing.{IfAt, IsAllowedAt, IsChanged, IsReadable, IsUnread, candidate_in};
+ghost use Rattle.lane_rings.specs.Ringing.{candidate_of, retired_wire, use_step, work_of};
 
 use crate::posts::is_work;
 use busdma_base::{Answer, Errno, Judged, Pa, Report, ReportName};
@@ -64,14 +61,7 @@ pub fn ring_step(
 ) -> Result<Answer, AllocError>
     requires wired { IsWired holdings.old }
     requires stands { Stands (ideal_of holdings.old) }
-    ensures done { IfOk result (λ answer.
-        Gives (given holdings.new answer) ≡ rings.ring_step ring (ideal_of holdings.old)) }
-    ensures wire { IfOk result (λ answer.
-        wire_of holdings.new ≡ wires.wire_ring_step ring (ideal_of holdings.old) (wire_of holdings.old)) }
-    ensures script { holdings.new.script ≡ holdings.old.script }
-    ensures memories { holdings.new.memories ≡ holdings.old.memories }
-    ensures agenda { holdings.new.agenda ≡ holdings.old.agenda }
-    ensures err { OnErr result (KeepsState holdings.old holdings.new) }
+    ensures { IsStep (rings.ring_step ring) (wires.wire_ring_step ring) holdings.old holdings.new result }
 {
     let Some(kept) = holdings.rings.get(ring) else {
         return Ok(report(ReportName::Absent, 0));
@@ -224,16 +214,9 @@ fn access(
     requires wired { IsWired holdings.old }
     requires stands { Stands (ideal_of holdings.old) }
     requires allowed { IsAllowedAt (ideal_of holdings.old) descriptor candidate }
-    ensures done { IfOk result (λ answer. Gives (given holdings.new answer)
-        ≡ gives (rings.used descriptor (candidate_of candidate) (ideal_of holdings.old))
-        (rings.told descriptor (candidate_of candidate) (ideal_of holdings.old))) }
-    ensures wire { IfOk result (λ answer. wire_of holdings.new
-        ≡ used_wire descriptor (candidate_of candidate) (ideal_of holdings.old) (wire_of holdings.old)) }
+    ensures step { IsStep (use_step descriptor candidate) (used_wire descriptor (candidate_of candidate))
+        holdings.old holdings.new result }
     ensures wired { IfOk result (λ answer. IsWired holdings.new) }
-    ensures script { holdings.new.script ≡ holdings.old.script }
-    ensures memories { holdings.new.memories ≡ holdings.old.memories }
-    ensures agenda { holdings.new.agenda ≡ holdings.old.agenda }
-    ensures err { OnErr result (KeepsState holdings.old holdings.new) }
 {
     if descriptor.kind == 1 {
         let len = descriptor.len as u64;
@@ -250,13 +233,7 @@ fn retire(holdings: &mut Holdings<'_>, ring: KeptRing)
     requires memory { IsSome (get holdings.old.memories.map ring.mem) }
     requires readable { IsReadable (ideal_of holdings.old) ring.mem (head_at (kept_ring ring)) 16 }
     requires coherent { (loan_of (ideal_of holdings.old).loans ring.mem).coherent ≡ true }
-    ensures done { ideal_of holdings.new ≡ retired (kept_ring ring) (ideal_of holdings.old) }
-    ensures wire { wire_of holdings.new
-        ≡ put (load_buses (ideal_of holdings.old) ring.mem (head_at (kept_ring ring) + 14) 2) (0 ∷ 1 ∷ [])
-        (wire_of holdings.old) }
-    ensures script { holdings.new.script ≡ holdings.old.script }
-    ensures memories { holdings.new.memories ≡ holdings.old.memories }
-    ensures agenda { holdings.new.agenda ≡ holdings.old.agenda }
+    ensures { IsChanged (retired (kept_ring ring)) (retired_wire (kept_ring ring)) holdings.old holdings.new }
 {
     let Some(memory) = holdings.memories.get(ring.mem) else {
         unreachable!()
@@ -270,11 +247,7 @@ fn move_on(holdings: &mut Holdings<'_>, ring: u32, kept: KeptRing)
     requires there { get holdings.old.rings.map ring ≡ Some kept }
     requires head { kept.head < kept.slots }
     requires few { kept.slots ≤ 256 }
-    ensures done { ideal_of holdings.new ≡ moved_on ring (kept_ring kept) (ideal_of holdings.old) }
-    ensures wire { wire_of holdings.new ≡ wire_of holdings.old }
-    ensures script { holdings.new.script ≡ holdings.old.script }
-    ensures memories { holdings.new.memories ≡ holdings.old.memories }
-    ensures agenda { holdings.new.agenda ≡ holdings.old.agenda }
+    ensures { IsChanged (moved_on ring (kept_ring kept)) (λ l w. w) holdings.old holdings.new }
 {
     let Some(now) = holdings.rings.get_mut(ring) else {
         unreachable!()

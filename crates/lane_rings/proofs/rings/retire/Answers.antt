@@ -1,11 +1,13 @@
 use Rattle.std.proofs.Common.{◌≡◌, ℕ, ◌+◌, ◌/◌, ◌≤◌, ◌^◌, List, ◌∷◌, [], true, Some, None, IsSome, Option}
-use Rattle.std.proofs.Common.{ap, sym, ◌∙◌, subst, arith}
+use Rattle.std.proofs.Common.{refl, ap, sym, ◌∙◌, subst, arith}
 use Rattle.std.specs.FinMap.{get}
 use Rattle.phys_memory.specs.Frames.{SamePages}
 use Rattle.phys_memory.specs.Memory.{FrameMemory, memory_has_frame}
 use Rattle.phys_memory.specs.Memory.{rewritten, wire, memory_written}
+use Rattle.ideal_lane.specs.Outcomes.{load_length}
 use Rattle.ideal_lane.specs.Rings.{head_at}
 use Rattle.lane_state.specs.declared.kept.KeptMemory.{KeptMemory}
+use Rattle.lane_state.specs.Ideal.{ideal_of}
 use Rattle.lane_state.specs.Kept.{kept_ring}
 use Rattle.lane_state.proofs.Reaching.{same-physical, same-placed, same-standing}
 use Rattle.lane_state.proofs.WireBytes.{same_rewritten}
@@ -51,75 +53,53 @@ write-requires-clause-inside c =
     r.loaded in
     omega (arith, first, c.head_in.ensures)
 
-pub invariant_of-holdings-clause-covered : goal.invariant_of-holdings-clause-covered
-invariant_of-holdings-clause-covered c =
+pub invariant_of-holdings : goal.invariant_of-holdings
+invariant_of-holdings c =
     let h = c.args.holdings.now in
-    let same = unchanged h.memory.memory c.write.new.self.memory (c.head_in.result.0 + 14) (0 ∷ 1 ∷ [])
+    let n = c.write.new.self.memory in
+    let same = unchanged h.memory.memory n (c.head_in.result.0 + 14) (0 ∷ 1 ∷ [])
     (told-there h c.requires.wired c.args.ring.mem c.in-Some.memory.now (sym c.in-Some.ensures)
     (head_at (kept_ring c.args.ring)) c.head_in.result.0 c.requires.readable c.head_in.ensures)
     c.write.ensures.memory in
-    λ a. h.covered a ∙ sym (same.frames (a / 4096))
+    record {
+      covered = λ a. h.covered a ∙ sym (same.frames (a / 4096));
+      reaches = λ va. ap (λ t. t va) (same-physical h.memory.memory n same) ∙ h.reaches va;
+      framed = λ f own. same.frames f ∙ h.framed f own;
+      placed = same-placed h.memory.memory n same h.placed;
+      standing = same-standing h.memories.map h.memory.memory n same h.standing;
+      tag_places = h.tag_places;
+      map_places = h.map_places;
+      memory_places = h.memory_places;
+      ring_places = h.ring_places;
+      loaded = h.loaded;
+      unlent = h.unlent;
+      promised = h.promised;
+      own_returns = h.own_returns;
+      returning = h.returning;
+      tried = h.tried;
+      awaiting = h.awaiting;
+      ready = h.ready;
+    }
 
-pub invariant_of-holdings-clause-reaches : goal.invariant_of-holdings-clause-reaches
-invariant_of-holdings-clause-reaches c =
+pub returns : goal.returns
+returns c =
     let h = c.args.holdings.now in
-    let same = unchanged h.memory.memory c.write.new.self.memory (c.head_in.result.0 + 14) (0 ∷ 1 ∷ [])
-    (told-there h c.requires.wired c.args.ring.mem c.in-Some.memory.now (sym c.in-Some.ensures)
-    (head_at (kept_ring c.args.ring)) c.head_in.result.0 c.requires.readable c.head_in.ensures)
-    c.write.ensures.memory in
-    λ va. ap (λ t. t va) (same-physical h.memory.memory c.write.new.self.memory same) ∙ h.reaches va
-
-pub invariant_of-holdings-clause-framed : goal.invariant_of-holdings-clause-framed
-invariant_of-holdings-clause-framed c =
-    let h = c.args.holdings.now in
-    let same = unchanged h.memory.memory c.write.new.self.memory (c.head_in.result.0 + 14) (0 ∷ 1 ∷ [])
-    (told-there h c.requires.wired c.args.ring.mem c.in-Some.memory.now (sym c.in-Some.ensures)
-    (head_at (kept_ring c.args.ring)) c.head_in.result.0 c.requires.readable c.head_in.ensures)
-    c.write.ensures.memory in
-    λ f own. same.frames f ∙ h.framed f own
-
-pub invariant_of-holdings-clause-placed : goal.invariant_of-holdings-clause-placed
-invariant_of-holdings-clause-placed c =
-    let h = c.args.holdings.now in
-    let same = unchanged h.memory.memory c.write.new.self.memory (c.head_in.result.0 + 14) (0 ∷ 1 ∷ [])
-    (told-there h c.requires.wired c.args.ring.mem c.in-Some.memory.now (sym c.in-Some.ensures)
-    (head_at (kept_ring c.args.ring)) c.head_in.result.0 c.requires.readable c.head_in.ensures)
-    c.write.ensures.memory in
-    same-placed h.memory.memory c.write.new.self.memory same h.placed
-
-pub invariant_of-holdings-clause-standing : goal.invariant_of-holdings-clause-standing
-invariant_of-holdings-clause-standing c =
-    let h = c.args.holdings.now in
-    let same = unchanged h.memory.memory c.write.new.self.memory (c.head_in.result.0 + 14) (0 ∷ 1 ∷ [])
-    (told-there h c.requires.wired c.args.ring.mem c.in-Some.memory.now (sym c.in-Some.ensures)
-    (head_at (kept_ring c.args.ring)) c.head_in.result.0 c.requires.readable c.head_in.ensures)
-    c.write.ensures.memory in
-    same-standing h.memories.map h.memory.memory c.write.new.self.memory same h.standing
-
-pub returns-clause-done : goal.returns-clause-done
-returns-clause-done c =
-    let h = c.args.holdings.now in
+    let wired = c.requires.wired in
     let r = c.requires.readable in
     let m = c.args.ring.mem in
     let x = c.in-Some.memory.now in
     let here = sym c.in-Some.ensures in
     let at = head_at (kept_ring c.args.ring) in
     let place : c.head_in.result.0 + 14 ≡ x.first.0 + (at + 14) = omega (arith, c.head_in.ensures) in
-    two-done h c.requires.wired m x here r.map r.there r.loaded (at + 14) (omega (arith, r.range))
-    (last-two h c.requires.wired m x here r.map r.there r.loaded at r.range r.fine) c.requires.coherent
-    c.write.new.self.memory
-    (c.write.ensures.wire ∙ ap (λ a. memory_written a (0 ∷ 1 ∷ []) (wire h.memory.memory)) place)
-
-pub returns-clause-wire : goal.returns-clause-wire
-returns-clause-wire c =
-    let h = c.args.holdings.now in
-    let r = c.requires.readable in
-    let m = c.args.ring.mem in
-    let x = c.in-Some.memory.now in
-    let here = sym c.in-Some.ensures in
-    let at = head_at (kept_ring c.args.ring) in
-    let place : c.head_in.result.0 + 14 ≡ x.first.0 + (at + 14) = omega (arith, c.head_in.ensures) in
-    two-wire h c.requires.wired m x here r.map r.there r.loaded (at + 14) (omega (arith, r.range))
-    (last-two h c.requires.wired m x here r.map r.there r.loaded at r.range r.fine) c.requires.coherent
-    c.write.new.self.memory
-    (c.write.ensures.wire ∙ ap (λ a. memory_written a (0 ∷ 1 ∷ []) (wire h.memory.memory)) place)
+    let range : at + 14 + 2 ≤ load_length (ideal_of h) m = omega (arith, r.range) in
+    let known = last-two h wired m x here r.map r.there r.loaded at r.range r.fine in
+    let now = c.write.ensures.wire ∙ ap (λ a. memory_written a (0 ∷ 1 ∷ []) (wire h.memory.memory)) place in
+    record {
+      done = two-done h wired m x here r.map r.there r.loaded (at + 14) range known c.requires.coherent
+          c.write.new.self.memory now;
+      wire = two-wire h wired m x here r.map r.there r.loaded (at + 14) range known c.requires.coherent
+          c.write.new.self.memory now;
+      script = refl;
+      memories = refl;
+      agenda = refl;
+    }
