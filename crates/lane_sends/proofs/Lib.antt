@@ -1,4 +1,5 @@
 mod CopiedClusters
 mod LoadEndings
+mod ResendEnds
 mod ResendSteps
 mod Resent

@@ -23,7 +23,7 @@ use Rattle.ideal_wire.specs.WireStep.{if_fine, is_free}
 use Rattle.lane_state.specs.Doing.{IsAllowedBy, IsDone, asks}
 use Rattle.lane_state.proofs.Reading as steps
 use Rattle.lane_state.proofs.Reading.{passes}
-use Rattle.lane_sends.specs.Resends.{IsUnrefused}
+use Rattle.lane_sends.specs.Resends.{IsStopped, IsUnrefused}
 
 -- ---- a step that goes on
 
@@ -42,11 +42,6 @@ asks-on f (Gives y) = refl
 asks-on f (Asks c k) = refl
 
 -- ---- a resend
-
--- a resend is refused with this report, and leaves the wire
-pub record IsStopped (l : LaneState) (s : Send) (r : Report) : Type 0 where
-  pub step : sends.resend s l ≡ gives l (answer.Report r)
-  pub wire : (w : Wire) → wires.wire_resend s l w ≡ w
 
 module _ (l : LaneState) (s : Send) where
   abbrev judged_read : Judged

@@ -1,25 +1,10 @@
 //! Resends: a chain is copied to clusters, and loaded again from there.
 
-ghost use Rattle.std.specs.Prelude.{◌≡◌, ◌+◌, ◌<◌, ◌≤◌, ◌^◌, length, Some, IfNone, IfOk, IfSome, OnErr, OnOk};
-ghost use Rattle.busdma_base.specs.declared.journals.answer.Answer.TheVariants as answer;
-ghost use Rattle.busdma_machine.specs.Machine.Spans.{span_bytes};
-ghost use Rattle.busdma_machine.specs.Machine.Wire.{Wire};
-ghost use Rattle.busdma_machine.specs.Runs.{addresses, byte_count};
-ghost use Rattle.loan_table.specs.Table.{AreIn};
-ghost use Rattle.mbuf_defrag.specs.Copying.{ShareNone, extents_copied};
-ghost use Rattle.phys_memory.specs.Frames.{Lie};
-ghost use Rattle.phys_memory.specs.Memory.{wire};
-ghost use Rattle.ideal_lane.specs.Outcomes.{gives};
-ghost use Rattle.ideal_lane.specs.Sends as sends;
-ghost use Rattle.ideal_lane.specs.Sends.{due_send};
-ghost use Rattle.ideal_lane.specs.Standing.{Stands};
-ghost use Rattle.ideal_wire.specs.WireStep as wires;
-ghost use Rattle.lane_state.specs.Changes.{IsWireOf, KeepsAgenda, KeepsPromises, KeepsState, with_marked};
-ghost use Rattle.lane_state.specs.Doing.{IsAllowedBy, IsDone, IsUndone, asks};
-ghost use Rattle.lane_state.specs.Ideal.{given, ideal_of};
+ghost use Rattle.std.specs.Prelude.{◌≡◌, ◌≤◌, length, IfNone, IfSome, OnOk};
+ghost use Rattle.lane_state.specs.Ideal.{ideal_of};
 ghost use Rattle.lane_state.specs.Sends.{the_send};
-ghost use Rattle.lane_state.specs.Wire.{IsWired, wire_of};
-ghost use Rattle.lane_sends.specs.Resends.{AreItsBytes, IsUnrefused};
+ghost use Rattle.lane_sends.specs.Resends.{AreCopied, AreItsExtents, IsResent, IsStopped, IsUnrefused, KeepsButRoom};
+ghost use Rattle.lane_sends.specs.Resends.{MayCopy, MayResend};
 
 use busdma_base::{Answer, Extent, HubDoor, Judged, Report, ReportName};
 use dma_map::MapState;
@@ -46,26 +31,9 @@ pub fn resend<'s, D: HubDoor>(
     door: &mut D,
     resend: Resend<'s>,
 ) -> Result<Answered, AllocError>
-    requires stands { Stands (ideal_of holdings.old) }
-    requires wired { IsWired holdings.old }
-    requires due { due_send (ideal_of holdings.old) ≡ Some (the_send resend) }
-    requires small { span_bytes resend.chain.now ≤ 2 ^ 20 }
-    requires few_items { length resend.items.now ≤ holdings.old.agenda.room }
-    requires few_pages { holdings.old.agenda.promised + span_bytes resend.chain.now < 2 ^ 32 }
-    requires allowed { IsAllowedBy (D.seen door.old) holdings.old.id.0
-        (sends.resend (the_send resend) (ideal_of holdings.old)) }
-    ensures done { IfOk result (λ r. IsDone (D.seen door.old) holdings.old.id.0
-        (sends.resend (the_send resend.entry) (ideal_of holdings.old)) (given holdings.new r.answer) (D.seen door.new)) }
-    ensures held { IfOk result (λ r. r.held ≡ asks (sends.resend (the_send resend.entry) (ideal_of holdings.old))) }
-    ensures wire { OnOk result (IsWireOf holdings.old holdings.new
-        (wires.wire_resend (the_send resend.entry) (ideal_of holdings.old) (wire_of holdings.old))) }
-    ensures err { OnErr result (KeepsState holdings.old holdings.new) }
-    ensures unpromised { OnErr result (holdings.new.agenda ≡ holdings.old.agenda) }
-    ensures undone { OnErr result (IsUndone (D.seen door.old) (D.seen door.new)) }
-    ensures memories { holdings.new.memories ≡ holdings.old.memories }
-    ensures agenda { KeepsAgenda holdings.old holdings.new }
-    ensures promised { holdings.new.agenda.promised ≤ holdings.old.agenda.promised + span_bytes resend.entry.chain.now }
-    ensures due { KeepsPromises holdings.old holdings.new }
+    requires { MayResend (the_send resend) holdings.old (D.seen door.old) }
+    ensures resent { IsResent (the_send resend.entry) holdings.old holdings.new (D.seen door.old) (D.seen door.new)
+        result }
     ensures fixed { D.fixed door.new ≡ D.fixed door.old }
 {
     let from = holdings.extents(alloc, resend.chain)?;
@@ -96,15 +64,8 @@ fn refusal_of(
     from: &[Extent],
     to: &[Extent],
 ) -> Option<Report>
-    requires small { span_bytes resend.clusters.now ≤ 2 ^ 20 }
-    requires from { AreIn holdings.now.loans.bytes (addresses from.now) }
-    requires from_total { byte_count from.now ≤ 2 ^ 20 }
-    requires to { AreIn holdings.now.loans.bytes (addresses to.now) }
-    requires to_total { byte_count to.now ≤ 2 ^ 20 }
-    requires bytes { AreItsBytes (ideal_of holdings.now) (the_send resend) from.now to.now }
-    ensures refused { IfSome result (λ r.
-        sends.resend (the_send resend.entry) (ideal_of holdings.now) ≡ gives (ideal_of holdings.now) (answer.Report r)) }
-    ensures stays { IfSome result (λ r. (w : Wire) → wires.wire_resend (the_send resend.entry) (ideal_of holdings.now) w ≡ w) }
+    requires { AreItsExtents holdings.now (the_send resend) from.now to.now }
+    ensures refused { IfSome result (IsStopped (ideal_of holdings.now) (the_send resend.entry)) }
     ensures fine { IfNone result (IsUnrefused (ideal_of holdings.now) (the_send resend.entry)) }
 {
     let Some(kept) = holdings.maps.get(resend.map) else {
@@ -139,12 +100,7 @@ fn make_room(
     extents: &[Extent],
 ) -> Result<(), AllocError>
     ensures room { OnOk result (length extents.now ≤ holdings.new.loans.spare) }
-    ensures ideal { ideal_of holdings.new ≡ ideal_of holdings.old }
-    ensures maps { holdings.new.maps ≡ holdings.old.maps }
-    ensures memory { holdings.new.memory ≡ holdings.old.memory }
-    ensures memories { holdings.new.memories ≡ holdings.old.memories }
-    ensures agenda { holdings.new.agenda ≡ holdings.old.agenda }
-    ensures bytes { holdings.new.loans.bytes ≡ holdings.old.loans.bytes }
+    ensures same { KeepsButRoom holdings.old holdings.new }
 {
     let parts = u32::try_from(extents.len()).map_err(|_| AllocError)?;
     holdings.loans.reserve(alloc, parts)
@@ -152,18 +108,8 @@ fn make_room(
 
 /// Copies the bytes of extents to as many others, in order, and marks these as Known. There is room to mark them.
 fn copy_bytes(holdings: &mut Holdings<'_>, from: &[Extent], to: &[Extent])
-    requires from { Lie holdings.old.memory.memory from.now }
-    requires to { Lie holdings.old.memory.memory to.now }
-    requires inside { AreIn holdings.old.loans.bytes (addresses to.now) }
-    requires total { byte_count to.now ≤ 2 ^ 20 }
-    requires alike { byte_count from.now ≡ byte_count to.now }
-    requires apart { ShareNone from.now to.now }
-    requires room { length to.now ≤ holdings.old.loans.spare }
-    ensures ideal { ideal_of holdings.new ≡ with_marked (addresses to.now) holdings.new.memory.memory holdings.old }
-    ensures wire { wire holdings.new.memory.memory ≡ extents_copied from.now to.now (wire holdings.old.memory.memory) }
-    ensures maps { holdings.new.maps ≡ holdings.old.maps }
-    ensures memories { holdings.new.memories ≡ holdings.old.memories }
-    ensures agenda { holdings.new.agenda ≡ holdings.old.agenda }
+    requires { MayCopy holdings.old from.now to.now }
+    ensures { AreCopied from.now to.now holdings.old holdings.new }
 {
     copy(from, to, &mut holdings.memory);
     holdings.loans.note_write(to);

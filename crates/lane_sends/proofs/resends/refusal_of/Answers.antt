@@ -32,16 +32,8 @@ read-same h from s e =
 pub returns-in_default-clause-refused : goal.returns-in_default-clause-refused
 returns-in_default-clause-refused c =
     let h = c.args.holdings.now in
-    let l = ideal_of h in
     let s = the_send c.args.resend in
-    (stopped-absent l s (image-none map_of h.maps.map s.map (sym c.in_default.ensures))).step
-
-pub returns-in_default-clause-stays : goal.returns-in_default-clause-stays
-returns-in_default-clause-stays c =
-    let h = c.args.holdings.now in
-    let l = ideal_of h in
-    let s = the_send c.args.resend in
-    (stopped-absent l s (image-none map_of h.maps.map s.map (sym c.in_default.ensures))).wire
+    stopped-absent (ideal_of h) s (image-none map_of h.maps.map s.map (sym c.in_default.ensures))
 
 pub returns-in-Refused-clause-refused : goal.returns-in-Refused-clause-refused
 returns-in-Refused-clause-refused c =
@@ -50,20 +42,9 @@ returns-in-Refused-clause-refused c =
     let s = the_send c.args.resend in
     let o = c.in-Some.kept.now in
     let there = image-some map_of h.maps.map s.map o (sym c.in-Some.ensures) in
-    let idle = state-idle o.map.stage (sym c.state.ensures ∙ c.in-Idle.is) in
-    let free : is_free (get l.maps s.map) ≡ true = ap is_free there ∙ idle in
-    (stopped-load l s free c.in-Refused.refusal (sym c.judge_load.ensures ∙ c.in-Refused.is)).step
-
-pub returns-in-Refused-clause-stays : goal.returns-in-Refused-clause-stays
-returns-in-Refused-clause-stays c =
-    let h = c.args.holdings.now in
-    let l = ideal_of h in
-    let s = the_send c.args.resend in
-    let o = c.in-Some.kept.now in
-    let there = image-some map_of h.maps.map s.map o (sym c.in-Some.ensures) in
-    let idle = state-idle o.map.stage (sym c.state.ensures ∙ c.in-Idle.is) in
-    let free : is_free (get l.maps s.map) ≡ true = ap is_free there ∙ idle in
-    (stopped-load l s free c.in-Refused.refusal (sym c.judge_load.ensures ∙ c.in-Refused.is)).wire
+    let free : is_free (get l.maps s.map) ≡ true =
+    ap is_free there ∙ state-idle o.map.stage (sym c.state.ensures ∙ c.in-Idle.is) in
+    stopped-load l s free c.in-Refused.refusal (sym c.judge_load.ensures ∙ c.in-Refused.is)
 
 pub returns-in-Refused-may_cpu_read-clause-refused : goal.returns-in-Refused-may_cpu_read-clause-refused
 returns-in-Refused-may_cpu_read-clause-refused c =
@@ -72,26 +53,12 @@ returns-in-Refused-may_cpu_read-clause-refused c =
     let s = the_send c.args.resend in
     let o = c.in-Some.kept.now in
     let there = image-some map_of h.maps.map s.map o (sym c.in-Some.ensures) in
-    let idle = state-idle o.map.stage (sym c.state.ensures ∙ c.in-Idle.is) in
-    let free : is_free (get l.maps s.map) ≡ true = ap is_free there ∙ idle in
+    let free : is_free (get l.maps s.map) ≡ true =
+    ap is_free there ∙ state-idle o.map.stage (sym c.state.ensures ∙ c.in-Idle.is) in
     let fine : load_judged l s.map (Vector s.clusters) ≡ Fine = sym c.judge_load.ensures ∙ c.in_default-judge_load.is in
-    (stopped-read l s free fine c.in-Refused-may_cpu_read.refusal
+    stopped-read l s free fine c.in-Refused-may_cpu_read.refusal
     (read-same h c.args.from.now s c.requires.bytes.chain ∙ sym c.may_cpu_read.ensures
-    ∙ c.in-Refused-may_cpu_read.is)).step
-
-pub returns-in-Refused-may_cpu_read-clause-stays : goal.returns-in-Refused-may_cpu_read-clause-stays
-returns-in-Refused-may_cpu_read-clause-stays c =
-    let h = c.args.holdings.now in
-    let l = ideal_of h in
-    let s = the_send c.args.resend in
-    let o = c.in-Some.kept.now in
-    let there = image-some map_of h.maps.map s.map o (sym c.in-Some.ensures) in
-    let idle = state-idle o.map.stage (sym c.state.ensures ∙ c.in-Idle.is) in
-    let free : is_free (get l.maps s.map) ≡ true = ap is_free there ∙ idle in
-    let fine : load_judged l s.map (Vector s.clusters) ≡ Fine = sym c.judge_load.ensures ∙ c.in_default-judge_load.is in
-    (stopped-read l s free fine c.in-Refused-may_cpu_read.refusal
-    (read-same h c.args.from.now s c.requires.bytes.chain ∙ sym c.may_cpu_read.ensures
-    ∙ c.in-Refused-may_cpu_read.is)).wire
+    ∙ c.in-Refused-may_cpu_read.is)
 
 pub returns-in-Refused-may_cpu_write-clause-refused : goal.returns-in-Refused-may_cpu_write-clause-refused
 returns-in-Refused-may_cpu_write-clause-refused c =
@@ -100,41 +67,22 @@ returns-in-Refused-may_cpu_write-clause-refused c =
     let s = the_send c.args.resend in
     let o = c.in-Some.kept.now in
     let there = image-some map_of h.maps.map s.map o (sym c.in-Some.ensures) in
-    let idle = state-idle o.map.stage (sym c.state.ensures ∙ c.in-Idle.is) in
-    let free : is_free (get l.maps s.map) ≡ true = ap is_free there ∙ idle in
+    let free : is_free (get l.maps s.map) ≡ true =
+    ap is_free there ∙ state-idle o.map.stage (sym c.state.ensures ∙ c.in-Idle.is) in
     let fine : load_judged l s.map (Vector s.clusters) ≡ Fine = sym c.judge_load.ensures ∙ c.in_default-judge_load.is in
-    (stopped-write l s free fine
+    stopped-write l s free fine
     (read-same h c.args.from.now s c.requires.bytes.chain ∙ sym c.may_cpu_read.ensures ∙ c.in_default-may_cpu_read.is)
     c.in-Refused-may_cpu_write.refusal
     (ap (cpu_write_answer l.loans) (sym (c.requires.bytes.clusters fine)) ∙ sym c.may_cpu_write.ensures
-    ∙ c.in-Refused-may_cpu_write.is)).step
+    ∙ c.in-Refused-may_cpu_write.is)
 
-pub returns-in-Refused-may_cpu_write-clause-stays : goal.returns-in-Refused-may_cpu_write-clause-stays
-returns-in-Refused-may_cpu_write-clause-stays c =
+pub returns-in_default-state-clause-refused : goal.returns-in_default-state-clause-refused
+returns-in_default-state-clause-refused c =
     let h = c.args.holdings.now in
-    let l = ideal_of h in
     let s = the_send c.args.resend in
     let o = c.in-Some.kept.now in
-    let there = image-some map_of h.maps.map s.map o (sym c.in-Some.ensures) in
-    let idle = state-idle o.map.stage (sym c.state.ensures ∙ c.in-Idle.is) in
-    let free : is_free (get l.maps s.map) ≡ true = ap is_free there ∙ idle in
-    let fine : load_judged l s.map (Vector s.clusters) ≡ Fine = sym c.judge_load.ensures ∙ c.in_default-judge_load.is in
-    (stopped-write l s free fine
-    (read-same h c.args.from.now s c.requires.bytes.chain ∙ sym c.may_cpu_read.ensures ∙ c.in_default-may_cpu_read.is)
-    c.in-Refused-may_cpu_write.refusal
-    (ap (cpu_write_answer l.loans) (sym (c.requires.bytes.clusters fine)) ∙ sym c.may_cpu_write.ensures
-    ∙ c.in-Refused-may_cpu_write.is)).wire
-
-pub returns-in_default-state : goal.returns-in_default-state
-returns-in_default-state c =
-    let h = c.args.holdings.now in
-    let l = ideal_of h in
-    let s = the_send c.args.resend in
-    let o = c.in-Some.kept.now in
-    let there = image-some map_of h.maps.map s.map o (sym c.in-Some.ensures) in
-    let x = stopped-busy l s (map_of o) there
-    (state-busy o.map.stage (λ e. c.in_default-state.not-Idle (c.state.ensures ∙ e))) in
-    record { refused = x.step; stays = x.wire; fine = tt }
+    stopped-busy (ideal_of h) s (map_of o) (image-some map_of h.maps.map s.map o (sym c.in-Some.ensures))
+    (state-busy o.map.stage (λ e. c.in_default-state.not-Idle (c.state.ensures ∙ e)))
 
 pub returns-clause-fine : goal.returns-clause-fine
 returns-clause-fine c =

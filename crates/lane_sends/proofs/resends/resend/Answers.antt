@@ -1,30 +1,63 @@
-use Rattle.std.proofs.Common.{◌≡◌, true, List, sym, ap, ◌∙◌, subst, arith}
+use Rattle.std.proofs.Common.{◌≡◌, ◌+◌, ◌≤◌, ◌^◌, true, List, length, inl, refl, sym, ap, ◌∙◌, subst, arith}
 use Rattle.busdma_machine.specs.declared.machine.address.Extent.{Extent}
 use Rattle.busdma_machine.specs.declared.machine.bio.Bio.TheVariants.{Vector}
 use Rattle.busdma_machine.specs.Runs.{addresses, byte_count}
 use Rattle.loan_table.specs.Table.{AreIn}
-use Rattle.mbuf_defrag.specs.Copying.{ShareNone, extents_copied}
+use Rattle.mbuf_defrag.specs.Copying.{ShareNone}
 use Rattle.phys_memory.specs.Frames.{Lie}
-use Rattle.phys_memory.specs.Memory.{wire}
 use Rattle.ideal_lane.specs.Loads.{asked, load}
 use Rattle.ideal_lane.specs.State.{LaneState}
-use Rattle.lane_state.specs.Changes.{with_marked}
+use Rattle.lane_state.specs.Covered.{pages_due}
 use Rattle.lane_state.specs.Doing.{IsAllowedBy, IsDone, asks}
 use Rattle.lane_state.specs.Ideal.{given, ideal_of}
 use Rattle.lane_state.specs.Sends.{the_send}
+use Rattle.lane_sends.specs.Resends.{AreCopied}
 use Rattle.lane_sends.proofs.CopiedClusters.{bytes-alike, its-bytes, its-clusters, share-none}
+use Rattle.lane_sends.proofs.ResendEnds.{due-from, failed-resend, keeps-room, room-due, state-from, stopped-resent}
+use Rattle.lane_sends.proofs.ResendEnds.{unmade-resend}
 use Rattle.lane_sends.proofs.ResendSteps.{resend-allowed, resend-asks}
 use Rattle.lane_sends.proofs.Resent.{inside-now, lies-now, resent-done, resent-wire, stays-from}
 use Rattle.lane_sends.proofs.resends.resend.Goals as goal
 
-pub refusal_of-requires-clause-bytes : goal.refusal_of-requires-clause-bytes
-refusal_of-requires-clause-bytes g c =
-    let h = c.args.holdings.now in
-    let l = ideal_of h in
+pub extents-requires-2 : goal.extents-requires-2
+extents-requires-2 g c =
     let s = the_send c.args.resend in
-    its-bytes h c.requires.wired s c.requires.due c.deref.result.now c.deref-2.result.now
-    (ap addresses c.deref.ensures.value ∙ c.in_ok-from.ensures.bytes)
-    (ap addresses c.deref-2.ensures.value ∙ c.in_ok-to.ensures.bytes)
+    let alike = (its-clusters c.args.holdings.now c.requires.wired s c.requires.due).alike in
+    let small = c.requires.small in
+    omega (arith, alike, small)
+
+pub returns-in_err-from-clause-resent : goal.returns-in_err-from-clause-resent
+returns-in_err-from-clause-resent g c =
+    unmade-resend (the_send c.args.resend) c.args.holdings.now (g.D.HubDoor.seen c.args.door.now)
+    c.from_residual.result c.from_residual.ensures.0
+
+pub returns-in_err-to-clause-resent : goal.returns-in_err-to-clause-resent
+returns-in_err-to-clause-resent g c =
+    unmade-resend (the_send c.args.resend) c.args.holdings.now (g.D.HubDoor.seen c.args.door.now)
+    c.from_residual-in_err-to.result c.from_residual-in_err-to.ensures.0
+
+pub refusal_of-requires : goal.refusal_of-requires
+refusal_of-requires g c =
+    let h = c.args.holdings.now in
+    let s = the_send c.args.resend in
+    let alike = (its-clusters h c.requires.wired s c.requires.due).alike in
+    let small = c.requires.small in
+    let from = c.deref.ensures.value in
+    let to = c.deref-2.ensures.value in
+    record {
+      small = omega (arith, alike, small);
+      from_own = subst (λ (es : List Extent). AreIn h.loans.bytes (addresses es)) (sym from) c.in_ok-from.ensures.there;
+      from_total = subst (λ (es : List Extent). byte_count es ≤ 2 ^ 20) (sym from) c.in_ok-from.ensures.total;
+      to_own = subst (λ (es : List Extent). AreIn h.loans.bytes (addresses es)) (sym to) c.in_ok-to.ensures.there;
+      to_total = subst (λ (es : List Extent). byte_count es ≤ 2 ^ 20) (sym to) c.in_ok-to.ensures.total;
+      bytes = its-bytes h c.requires.wired s c.requires.due c.deref.result.now c.deref-2.result.now
+          (ap addresses from ∙ c.in_ok-from.ensures.bytes) (ap addresses to ∙ c.in_ok-to.ensures.bytes);
+    }
+
+pub returns-in-Some-clause-resent : goal.returns-in-Some-clause-resent
+returns-in-Some-clause-resent g c =
+    stopped-resent c.args.holdings.now (the_send c.args.resend) (g.D.HubDoor.seen c.args.door.now) c.unheld.result
+    c.in-Some.refusal c.unheld.ensures c.in-Some.ensures.refused
 
 pub load-requires-clause-loadable : goal.load-requires-clause-loadable
 load-requires-clause-loadable g c =
@@ -42,7 +75,7 @@ load-requires-clause-few_pages g c =
     let s = the_send c.args.resend in
     let alike = (its-clusters h c.requires.wired s c.requires.due).alike in
     let few = c.requires.few_pages in
-    omega (arith, alike, few, ap (λ a. a.promised) c.make_room.ensures.agenda)
+    omega (arith, alike, few, ap (λ a. a.promised) c.make_room.ensures.same.agenda)
 
 pub load-requires-clause-allowed : goal.load-requires-clause-allowed
 load-requires-clause-allowed g c =
@@ -52,15 +85,15 @@ load-requires-clause-allowed g c =
     let u = c.in_default.ensures.fine in
     let d = g.D.HubDoor.seen c.args.door.now in
     subst (λ (x : LaneState). IsAllowedBy d x.id (load s.map (asked s.map (Vector s.clusters) true s.items x) x))
-    (sym c.make_room.ensures.ideal) (resend-allowed l s u d c.requires.allowed)
+    (sym c.make_room.ensures.same.ideal) (resend-allowed l s u d c.requires.allowed)
 
-pub copy_bytes-requires-clause-from : goal.copy_bytes-requires-clause-from
-copy_bytes-requires-clause-from g c =
+pub copy_bytes-requires : goal.copy_bytes-requires
+copy_bytes-requires g c =
     let h = c.args.holdings.now in
     let l = ideal_of h in
     let s = the_send c.args.resend in
     let u = c.in_default.ensures.fine in
-    let r = c.make_room.new.holdings in
+    let room = c.make_room.ensures.same in
     let k = c.load.new.holdings in
     let d = g.D.HubDoor.seen c.args.door.now in
     let e = g.D.HubDoor.seen c.load.new.door in
@@ -68,51 +101,57 @@ copy_bytes-requires-clause-from g c =
     let done : IsDone d h.id.0 (load s.map (asked s.map (Vector s.clusters) true s.items l) l) (given k a) e =
     subst (λ (x : LaneState). IsDone d x.id (load s.map (asked s.map (Vector s.clusters) true s.items x) x)
     (given k a) e)
-    c.make_room.ensures.ideal c.in_ok-loaded.ensures.done in
-    let stays = stays-from h r k c.make_room.ensures.memory c.make_room.ensures.maps c.load.ensures.bytes in
-    subst (Lie k.memory.memory) (sym c.deref-4.ensures.value)
-    (lies-now h k s u d e a done stays c.in_ok-from.from.items c.in_ok-from.ensures.lie)
+    room.ideal c.in_ok-loaded.ensures.done in
+    let stays = stays-from h c.make_room.new.holdings k room.memory room.maps c.load.ensures.bytes in
+    let from = c.in_ok-from.from.items in
+    let to = c.in_ok-to.to.items in
+    let from-is : c.deref-4.result.now ≡ from = c.deref-4.ensures.value in
+    let to-is : c.deref-5.result.now ≡ to = c.deref-5.ensures.value in
+    let are = its-bytes h c.requires.wired s c.requires.due from to c.in_ok-from.ensures.bytes
+    c.in_ok-to.ensures.bytes in
+    record {
+      from_lie = subst (Lie k.memory.memory) (sym from-is)
+          (lies-now h k s u d e a done stays from c.in_ok-from.ensures.lie);
+      to_lie = subst (Lie k.memory.memory) (sym to-is) (lies-now h k s u d e a done stays to c.in_ok-to.ensures.lie);
+      inside = subst (λ (es : List Extent). AreIn k.loans.bytes (addresses es)) (sym to-is)
+          (inside-now h k s u d e a done stays (addresses to) c.in_ok-to.ensures.there);
+      total = subst (λ (es : List Extent). byte_count es ≤ 2 ^ 20) (sym to-is) c.in_ok-to.ensures.total;
+      alike = ap byte_count from-is ∙ bytes-alike h c.requires.wired s c.requires.due u from to are
+          ∙ sym (ap byte_count to-is);
+      apart = subst (λ (x : List Extent × List Extent). ShareNone x.0 x.1) (λ i. (sym from-is i, sym to-is i))
+          (share-none h c.requires.wired s c.requires.due u from to are);
+      room = omega (
+        arith,
+        c.in_ok-make_room.ensures.room,
+        c.load.ensures.spare,
+        ap (λ es. length es) c.deref-3.ensures.value,
+        ap (λ es. length es) to-is,
+      );
+    }
 
-pub copy_bytes-requires-clause-to : goal.copy_bytes-requires-clause-to
-copy_bytes-requires-clause-to g c =
+pub returns-in_err-make_room-clause-resent : goal.returns-in_err-make_room-clause-resent
+returns-in_err-make_room-clause-resent g c =
     let h = c.args.holdings.now in
-    let l = ideal_of h in
-    let s = the_send c.args.resend in
-    let u = c.in_default.ensures.fine in
+    let d = g.D.HubDoor.seen c.args.door.now in
+    let room = c.make_room.ensures.same in
+    failed-resend (the_send c.args.resend) h c.make_room.new.holdings d d c.from_residual-in_err-make_room.result
+    c.from_residual-in_err-make_room.ensures.0 (keeps-room h c.make_room.new.holdings room) room.agenda (inl refl)
+    room.memories (room-due h c.make_room.new.holdings room)
+
+pub returns-in_err-loaded-clause-resent : goal.returns-in_err-loaded-clause-resent
+returns-in_err-loaded-clause-resent g c =
+    let h = c.args.holdings.now in
     let r = c.make_room.new.holdings in
     let k = c.load.new.holdings in
-    let d = g.D.HubDoor.seen c.args.door.now in
-    let e = g.D.HubDoor.seen c.load.new.door in
-    let a = c.in_ok-loaded.loaded.answer in
-    let done : IsDone d h.id.0 (load s.map (asked s.map (Vector s.clusters) true s.items l) l) (given k a) e =
-    subst (λ (x : LaneState). IsDone d x.id (load s.map (asked s.map (Vector s.clusters) true s.items x) x)
-    (given k a) e)
-    c.make_room.ensures.ideal c.in_ok-loaded.ensures.done in
-    let stays = stays-from h r k c.make_room.ensures.memory c.make_room.ensures.maps c.load.ensures.bytes in
-    subst (Lie k.memory.memory) (sym c.deref-5.ensures.value)
-    (lies-now h k s u d e a done stays c.in_ok-to.to.items c.in_ok-to.ensures.lie)
+    let room = c.make_room.ensures.same in
+    let failed = c.in_err-loaded.ensures in
+    failed-resend (the_send c.args.resend) h k (g.D.HubDoor.seen c.args.door.now) (g.D.HubDoor.seen c.load.new.door)
+    c.from_residual-in_err-loaded.result c.from_residual-in_err-loaded.ensures.0
+    (state-from h r room k failed.err) (failed.unpromised ∙ room.agenda) failed.undone
+    (c.load.ensures.memories ∙ room.memories) (due-from h r room k c.load.ensures.due)
 
-pub copy_bytes-requires-clause-inside : goal.copy_bytes-requires-clause-inside
-copy_bytes-requires-clause-inside g c =
-    let h = c.args.holdings.now in
-    let l = ideal_of h in
-    let s = the_send c.args.resend in
-    let u = c.in_default.ensures.fine in
-    let r = c.make_room.new.holdings in
-    let k = c.load.new.holdings in
-    let d = g.D.HubDoor.seen c.args.door.now in
-    let e = g.D.HubDoor.seen c.load.new.door in
-    let a = c.in_ok-loaded.loaded.answer in
-    let done : IsDone d h.id.0 (load s.map (asked s.map (Vector s.clusters) true s.items l) l) (given k a) e =
-    subst (λ (x : LaneState). IsDone d x.id (load s.map (asked s.map (Vector s.clusters) true s.items x) x)
-    (given k a) e)
-    c.make_room.ensures.ideal c.in_ok-loaded.ensures.done in
-    let stays = stays-from h r k c.make_room.ensures.memory c.make_room.ensures.maps c.load.ensures.bytes in
-    subst (λ (es : List Extent). AreIn k.loans.bytes (addresses es)) (sym c.deref-5.ensures.value)
-    (inside-now h k s u d e a done stays (addresses c.in_ok-to.to.items) c.in_ok-to.ensures.there)
-
-pub copy_bytes-requires-clause-alike : goal.copy_bytes-requires-clause-alike
-copy_bytes-requires-clause-alike g c =
+pub returns-clause-resent : goal.returns-clause-resent
+returns-clause-resent g c =
     let h = c.args.holdings.now in
     let l = ideal_of h in
     let s = the_send c.args.resend in
@@ -121,104 +160,50 @@ copy_bytes-requires-clause-alike g c =
     let to = c.in_ok-to.to.items in
     let are = its-bytes h c.requires.wired s c.requires.due from to c.in_ok-from.ensures.bytes
     c.in_ok-to.ensures.bytes in
-    ap byte_count c.deref-4.ensures.value
-    ∙ bytes-alike h c.requires.wired s c.requires.due u from to are
-    ∙ sym (ap byte_count c.deref-5.ensures.value)
-
-pub copy_bytes-requires-clause-apart : goal.copy_bytes-requires-clause-apart
-copy_bytes-requires-clause-apart g c =
-    let h = c.args.holdings.now in
-    let l = ideal_of h in
-    let s = the_send c.args.resend in
-    let u = c.in_default.ensures.fine in
-    let from = c.in_ok-from.from.items in
-    let to = c.in_ok-to.to.items in
-    let are = its-bytes h c.requires.wired s c.requires.due from to c.in_ok-from.ensures.bytes
-    c.in_ok-to.ensures.bytes in
-    (λ (p : c.deref-4.result.now ≡ from) (q : c.deref-5.result.now ≡ to).
-    subst (λ (x : List Extent × List Extent). ShareNone x.0 x.1) (λ i. (sym p i, sym q i))
-    (share-none h c.requires.wired s c.requires.due u from to are)) c.deref-4.ensures.value c.deref-5.ensures.value
-
-pub returns-clause-held : goal.returns-clause-held
-returns-clause-held g c =
-    let h = c.args.holdings.now in
-    let l = ideal_of h in
-    let s = the_send c.args.resend in
-    let u = c.in_default.ensures.fine in
-    c.in_ok-loaded.ensures.held
-    ∙ ap (λ (x : LaneState). asks (load s.map (asked s.map (Vector s.clusters) true s.items x) x))
-    c.make_room.ensures.ideal
-    ∙ resend-asks l s u
-
-pub returns-clause-promised : goal.returns-clause-promised
-returns-clause-promised g c =
-    let h = c.args.holdings.now in
-    let l = ideal_of h in
-    let s = the_send c.args.resend in
+    let room = c.make_room.ensures.same in
+    let r = c.make_room.new.holdings in
+    let k = c.load.new.holdings in
+    let loaded = c.load.ensures in
+    let d = g.D.HubDoor.seen c.args.door.now in
+    let e = g.D.HubDoor.seen c.load.new.door in
+    let a = c.in_ok-loaded.loaded.answer in
+    let done : IsDone d h.id.0 (load s.map (asked s.map (Vector s.clusters) true s.items l) l) (given k a) e =
+    subst (λ (x : LaneState). IsDone d x.id (load s.map (asked s.map (Vector s.clusters) true s.items x) x)
+    (given k a) e)
+    room.ideal c.in_ok-loaded.ensures.done in
+    let stays = stays-from h r k room.memory room.maps loaded.bytes in
+    let n = c.copy_bytes.new.holdings in
+    let copied : AreCopied from to k n =
+    subst (λ (x : List Extent × List Extent). AreCopied x.0 x.1 k n)
+    (λ i. (c.deref-4.ensures.value i, c.deref-5.ensures.value i)) c.copy_bytes.ensures in
     let alike = (its-clusters h c.requires.wired s c.requires.due).alike in
-    let more = c.load.ensures.promised in
-    omega (
-      arith,
-      alike,
-      more,
-      ap (λ a. a.promised) c.make_room.ensures.agenda,
-      ap (λ a. a.promised) c.copy_bytes.ensures.agenda,
-    )
-
-pub returns-clause-done : goal.returns-clause-done
-returns-clause-done g c =
-    let h = c.args.holdings.now in
-    let l = ideal_of h in
-    let s = the_send c.args.resend in
-    let u = c.in_default.ensures.fine in
-    let from = c.in_ok-from.from.items in
-    let to = c.in_ok-to.to.items in
-    let are = its-bytes h c.requires.wired s c.requires.due from to c.in_ok-from.ensures.bytes
-    c.in_ok-to.ensures.bytes in
-    let r = c.make_room.new.holdings in
-    let k = c.load.new.holdings in
-    let d = g.D.HubDoor.seen c.args.door.now in
-    let e = g.D.HubDoor.seen c.load.new.door in
-    let a = c.in_ok-loaded.loaded.answer in
-    let done : IsDone d h.id.0 (load s.map (asked s.map (Vector s.clusters) true s.items l) l) (given k a) e =
-    subst (λ (x : LaneState). IsDone d x.id (load s.map (asked s.map (Vector s.clusters) true s.items x) x)
-    (given k a) e)
-    c.make_room.ensures.ideal c.in_ok-loaded.ensures.done in
-    let stays = stays-from h r k c.make_room.ensures.memory c.make_room.ensures.maps c.load.ensures.bytes in
-    let n = c.copy_bytes.new.holdings in
-    resent-done h k s u d e a done stays c.requires.wired c.requires.due from to are c.in_ok-from.ensures.there
-    c.in_ok-to.ensures.there n
-    (c.copy_bytes.ensures.ideal
-    ∙ ap (λ (es : List Extent). with_marked (addresses es) n.memory.memory k) c.deref-5.ensures.value)
-    (c.copy_bytes.ensures.wire
-    ∙ (λ i. extents_copied (c.deref-4.ensures.value i) (c.deref-5.ensures.value i) (wire k.memory.memory)))
-
-pub returns-clause-wire : goal.returns-clause-wire
-returns-clause-wire g c =
-    let h = c.args.holdings.now in
-    let l = ideal_of h in
-    let s = the_send c.args.resend in
-    let u = c.in_default.ensures.fine in
-    let from = c.in_ok-from.from.items in
-    let to = c.in_ok-to.to.items in
-    let are = its-bytes h c.requires.wired s c.requires.due from to c.in_ok-from.ensures.bytes
-    c.in_ok-to.ensures.bytes in
-    let r = c.make_room.new.holdings in
-    let k = c.load.new.holdings in
-    let d = g.D.HubDoor.seen c.args.door.now in
-    let e = g.D.HubDoor.seen c.load.new.door in
-    let a = c.in_ok-loaded.loaded.answer in
-    let done : IsDone d h.id.0 (load s.map (asked s.map (Vector s.clusters) true s.items l) l) (given k a) e =
-    subst (λ (x : LaneState). IsDone d x.id (load s.map (asked s.map (Vector s.clusters) true s.items x) x)
-    (given k a) e)
-    c.make_room.ensures.ideal c.in_ok-loaded.ensures.done in
-    let stays = stays-from h r k c.make_room.ensures.memory c.make_room.ensures.maps c.load.ensures.bytes in
-    let n = c.copy_bytes.new.holdings in
-    resent-wire h k s u d e a done stays c.requires.wired c.requires.due from to are c.in_ok-from.ensures.there
-    c.in_ok-to.ensures.there n
-    (c.copy_bytes.ensures.ideal
-    ∙ ap (λ (es : List Extent). with_marked (addresses es) n.memory.memory k) c.deref-5.ensures.value)
-    (c.copy_bytes.ensures.wire
-    ∙ (λ i. extents_copied (c.deref-4.ensures.value i) (c.deref-5.ensures.value i) (wire k.memory.memory)))
-    c.copy_bytes.ensures.maps
-    (c.copy_bytes.ensures.memories ∙ c.load.ensures.memories ∙ c.make_room.ensures.memories)
+    let due = due-from h r room k loaded.due in
+    record {
+      done = resent-done h k s u d e a done stays c.requires.wired c.requires.due from to are
+          c.in_ok-from.ensures.there c.in_ok-to.ensures.there n copied.ideal copied.wire;
+      held = c.in_ok-loaded.ensures.held
+          ∙ ap (λ (x : LaneState). asks (load s.map (asked s.map (Vector s.clusters) true s.items x) x)) room.ideal
+          ∙ resend-asks l s u;
+      wire = resent-wire h k s u d e a done stays c.requires.wired c.requires.due from to are
+          c.in_ok-from.ensures.there c.in_ok-to.ensures.there n copied.ideal copied.wire copied.maps
+          (copied.memories ∙ loaded.memories ∙ room.memories);
+      err = tt;
+      unpromised = tt;
+      undone = tt;
+      memories = copied.memories ∙ loaded.memories ∙ room.memories;
+      agenda = record {
+        place = ap (λ x. x.place) copied.agenda ∙ loaded.agenda.place ∙ ap (λ x. x.place) room.agenda;
+        end = ap (λ x. x.length) copied.agenda ∙ loaded.agenda.end ∙ ap (λ x. x.length) room.agenda;
+        capacity = ap (λ x. x.room + length x.queue) copied.agenda ∙ loaded.agenda.capacity
+            ∙ ap (λ x. x.room + length x.queue) room.agenda;
+      };
+      promised = omega (
+        arith,
+        alike,
+        loaded.promised,
+        ap (λ x. x.promised) room.agenda,
+        ap (λ x. x.promised) copied.agenda,
+      );
+      due = ap (λ x. x.promised + pages_due h.maps.map) copied.agenda ∙ due
+          ∙ ap (λ t. h.agenda.promised + pages_due t.map) (sym copied.maps);
+    }

@@ -11,25 +11,22 @@ use Rattle.lane_turns.proofs.SmallLoads.{chain-small, few-resent, has-due, is-se
 use Rattle.lane_turns.proofs.ScriptTurns.{again-made, again-may, few-items}
 use Rattle.lane_turns.proofs.turns.resend_turn.Goals as goal
 
-pub resend-requires-clause-small : goal.resend-requires-clause-small
-resend-requires-clause-small g c =
-    chain-small c.args.holdings.now c.requires.small (the_send c.args.send) c.requires.due
-
-pub resend-requires-clause-few_items : goal.resend-requires-clause-few_items
-resend-requires-clause-few_items g c =
+pub resend-requires : goal.resend-requires
+resend-requires g c =
     let h = c.args.holdings.now in
-    let has = has-due h (the_send c.args.send) c.requires.due in
-    subst (λ items. length items ≤ h.agenda.room) (is-send has.o (the_send c.args.send) has.send).items
-    (few-items h has.o has.here c.requires.ready.room)
-
-pub resend-requires-clause-few_pages : goal.resend-requires-clause-few_pages
-resend-requires-clause-few_pages g c =
-    few-resent c.args.holdings.now c.requires.small (the_send c.args.send) c.requires.due
-
-pub resend-requires-clause-allowed : goal.resend-requires-clause-allowed
-resend-requires-clause-allowed g c =
-    again-may c.args.holdings.now c.requires.empty (the_send c.args.send) c.requires.due
-    (g.D.HubDoor.seen c.args.door.now) c.requires.ready.stands c.requires.ready.served
+    let s = the_send c.args.send in
+    let has = has-due h s c.requires.due in
+    record {
+      stands = c.requires.ready.stands;
+      wired = c.requires.ready.wired;
+      due = c.requires.due;
+      small = chain-small h c.requires.small s c.requires.due;
+      few_items = subst (λ items. length items ≤ h.agenda.room) (is-send has.o s has.send).items
+          (few-items h has.o has.here c.requires.ready.room);
+      few_pages = few-resent h c.requires.small s c.requires.due;
+      allowed = again-may h c.requires.empty s c.requires.due (g.D.HubDoor.seen c.args.door.now)
+          c.requires.ready.stands c.requires.ready.served;
+    }
 
 pub advance-requires : goal.advance-requires
 advance-requires g c =
@@ -37,16 +34,17 @@ advance-requires g c =
     let has = has-due h (the_send c.args.send) c.requires.due in
     let within : h.agenda.place < length h.script = slice_get_within h.script h.agenda.place has.o has.here in
     let all = c.requires.length in
-    let place = c.resend.ensures.agenda.place in
-    let same = c.resend.ensures.agenda.end in
+    let place = c.resend.ensures.resent.agenda.place in
+    let same = c.resend.ensures.resent.agenda.end in
     omega (arith, within, all, place, same)
 
 pub returns-clause-made : goal.returns-clause-made
 returns-clause-made g c =
     again-made c.args.holdings.now c.requires.empty (the_send c.args.send) c.requires.due c.resend.new.holdings
     c.advance.new.holdings (g.D.HubDoor.seen c.args.door.now) (g.D.HubDoor.seen c.resend.new.door)
-    c.in_ok-answer.field-0 c.stepped.result c.advance.ensures c.in_ok-answer.ensures.done c.in_ok-answer.ensures.held
-    c.in_ok-answer.ensures.wire c.resend.ensures.agenda
+    c.in_ok-answer.field-0 c.stepped.result c.advance.ensures c.in_ok-answer.ensures.resent.done
+    c.in_ok-answer.ensures.resent.held
+    c.in_ok-answer.ensures.resent.wire c.resend.ensures.resent.agenda
     (c.stepped.ensures ∙ ap (λ p. turn.Stepped (record {
       actor = record { lane = c.advance.new.holdings.id; side = side.Script };
       did = did.Again p;
@@ -55,19 +53,19 @@ returns-clause-made g c =
 
 pub returns-in_err-answer-clause-small : goal.returns-in_err-answer-clause-small
 returns-in_err-answer-clause-small g c =
-    let agenda = c.in_err-answer.ensures.unpromised in
+    let agenda = c.in_err-answer.ensures.resent.unpromised in
     let promised = ap (λ a. a.promised) agenda in
     small-same c.args.holdings.now c.requires.small c.resend.new.holdings
-    (ap (λ l. l.script) c.in_err-answer.ensures.err.ideal)
-    c.resend.ensures.agenda.place (ap (λ l. l.due) c.in_err-answer.ensures.err.ideal)
-    (omega (arith, promised)) c.resend.ensures.due
+    (ap (λ l. l.script) c.in_err-answer.ensures.resent.err.ideal)
+    c.resend.ensures.resent.agenda.place (ap (λ l. l.due) c.in_err-answer.ensures.resent.err.ideal)
+    (omega (arith, promised)) c.resend.ensures.resent.due
 
 pub returns-clause-small : goal.returns-clause-small
 returns-clause-small g c =
     let h = c.args.holdings.now in
     let k = c.resend.new.holdings in
     let n = c.advance.new.holdings in
-    let done = c.resend.ensures in
+    let done = c.resend.ensures.resent in
     let on = c.advance.ensures.agenda in
     let promised : n.agenda.promised ≡ k.agenda.promised = ap (λ a. a.promised) on in
     let few : k.agenda.promised ≤ h.agenda.promised + span_bytes c.args.send.chain.now = done.promised in
