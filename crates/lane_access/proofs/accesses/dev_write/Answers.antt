@@ -11,7 +11,6 @@ use Rattle.phys_memory.specs.Frames.{Lie}
 use Rattle.ideal_lane.specs.Accesses.{dev_write}
 use Rattle.ideal_wire.specs.Centre.{IsFaithful}
 use Rattle.ideal_wire.specs.Laid.{is_behind}
-use Rattle.ideal_wire.specs.WireStep as wires
 use Rattle.lane_state.specs.declared.kept.KeptMap.{KeptMap}
 use Rattle.lane_state.specs.Changes.{with_written}
 use Rattle.lane_state.specs.Covered.{has_load}
