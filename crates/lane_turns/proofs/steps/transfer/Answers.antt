@@ -1,9 +1,16 @@
 use Rattle.std.proofs.Common.{ap, sym, ◌∙◌}
+use Rattle.ideal_lane.specs.Turns as turns
 use Rattle.ideal_wire.specs.WireStep as wires
 use Rattle.lane_state.specs.Ideal.{ideal_of}
 use Rattle.lane_state.specs.Wire.{wire_of}
-use Rattle.lane_state.proofs.Doors.{always-ok}
+use Rattle.lane_state.proofs.Doors.{always-ok, ok-map}
 use Rattle.lane_turns.proofs.steps.transfer.Goals as goal
+
+pub returns-in-DevReadAt-clause-done : goal.returns-in-DevReadAt-clause-done
+returns-in-DevReadAt-clause-done c =
+    ok-map c.dev_read_at.result _ _
+    (λ a e. e ∙ sym (ap (λ i. turns.transfer i (ideal_of c.args.holdings.now)) c.in-DevReadAt.is))
+    c.dev_read_at.ensures.done
 
 pub returns-in-DevReadAt-clause-wire : goal.returns-in-DevReadAt-clause-wire
 returns-in-DevReadAt-clause-wire c =
