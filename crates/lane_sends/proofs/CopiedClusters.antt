@@ -1,6 +1,6 @@
 -- The bytes of a resend: where its chain and its clusters lie, and what is held once they are copied.
-use Rattle.std.proofs.Common.{◌≡◌, ◌≢◌, ◌⊎◌, inl, inr, ℕ, zero, suc, ◌==◌, ◌||◌, Bool, true, false, cond, List, []}
-use Rattle.std.proofs.Common.{◌∷◌, length, map, Option, Some, None, slice_get, refl, sym, ap, ◌∙◌, subst}
+use Rattle.std.proofs.Common.{◌≡◌, ◌≢◌, ◌≤◌, ◌^◌, ◌⊎◌, inl, inr, ℕ, zero, suc, ◌==◌, ◌||◌, Bool, true, false, cond, List}
+use Rattle.std.proofs.Common.{[], ◌∷◌, length, map, Option, Some, None, slice_get, refl, sym, ap, ◌∙◌, subst, arith}
 use Rattle.std.proofs.lemmas.Bool.{ne_eqb, eq-eqb, false≢true}
 use Rattle.std.proofs.lemmas.List.{length-map}
 use Rattle.std.specs.FinMap.{FinMap, entries, get, get-entries}
@@ -14,7 +14,7 @@ use Rattle.busdma_machine.specs.declared.report.Judged.TheVariants.{Fine}
 use Rattle.busdma_machine.specs.Machine.Entry.{entries_addresses}
 use Rattle.busdma_machine.specs.Machine.Page.{FrameBytes}
 use Rattle.busdma_machine.specs.Machine.PageList.{page_addresses}
-use Rattle.busdma_machine.specs.Machine.Spans.{span_addresses}
+use Rattle.busdma_machine.specs.Machine.Spans.{span_addresses, span_bytes}
 use Rattle.busdma_machine.specs.Machine.Wire.{put, with_bytes_of}
 use Rattle.busdma_machine.specs.Runs.{addresses, byte_count}
 use Rattle.busdma_base.specs.Scenarios.Buffers.{AreClustersFor}
@@ -85,6 +85,10 @@ module _ (h : Holdings) (wired : IsWired h) (s : Send) (due : due_send (ideal_of
 
   pub its-clusters : AreClustersFor s.chain s.clusters
   its-clusters = due-clusters l s due wired.machine.clusters
+
+  -- the clusters have as few bytes as the chain
+  pub clusters-small : span_bytes s.chain ≤ 2 ^ 20 → span_bytes s.clusters ≤ 2 ^ 20
+  clusters-small small = let alike = its-clusters.alike in omega (arith, alike, small)
 
   pub chain-fine : load_judged l s.map (Vector s.chain) ≡ Fine
   chain-fine = wired.machine.due s due

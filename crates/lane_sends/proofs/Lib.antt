@@ -1,5 +1,4 @@
 mod CopiedClusters
 mod LoadEndings
-mod ResendEnds
 mod ResendSteps
 mod Resent

@@ -1,14 +1,17 @@
--- What a resend leaves of a driver that made it, from its load to its copy.
-use Rattle.std.proofs.Common.{◌≡◌, ◌⊎◌, ℕ, ◌/◌, true, List, [], ◌∷◌, map, Option, Some, None, is_some, sym, ap, ◌∙◌}
-use Rattle.std.proofs.Common.{subst}
+-- What a resend leaves of a driver: from its load to its copy, or if it is not made.
+use Rattle.std.proofs.Common.{◌≡◌, ◌⊎◌, ℕ, ◌+◌, ◌/◌, true, false, List, [], ◌∷◌, length, map, Option, Some, None}
+use Rattle.std.proofs.Common.{Result, Ok, Err, IsErr, inl, is_some, refl, sym, ap, ◌∙◌, subst, arith}
+use Rattle.std.specs.declared.alloc.AllocError.{AllocError}
 use Rattle.std.specs.FinMap.{get}
 use Rattle.std.specs.List.{AllByRecursion}
 use Rattle.std.specs.Option.{option_map}
 use Rattle.busdma_base.specs.declared.journals.answer.Answer.{Answer}
+use Rattle.busdma_base.specs.declared.journals.answer.Answer.TheVariants as answer
 use Rattle.busdma_machine.specs.declared.bounce.hold.HubReply.{HubReply}
 use Rattle.busdma_machine.specs.declared.bounce.hold.HubReply.TheVariants.{Nothing}
 use Rattle.busdma_machine.specs.declared.machine.address.Extent.{Extent}
 use Rattle.busdma_machine.specs.declared.machine.bio.Bio.TheVariants.{Vector}
+use Rattle.busdma_machine.specs.declared.report.Report.{Report}
 use Rattle.busdma_machine.specs.Bounce.Door.{Seen}
 use Rattle.busdma_machine.specs.Machine.Wire.{put}
 use Rattle.busdma_machine.specs.Runs.{addresses}
@@ -25,19 +28,21 @@ use Rattle.ideal_lane.specs.Sends.{Send, copied, due_send, load_again, outcome_w
 use Rattle.ideal_lane.specs.State.{LaneState}
 use Rattle.ideal_wire.specs.WireStep as wires
 use Rattle.ideal_wire.specs.WireStep.{is_free}
+use Rattle.lane_state.specs.declared.holdings.Answered.{Answered}
 use Rattle.lane_state.specs.declared.holdings.Holdings.{Holdings}
 use Rattle.lane_state.specs.declared.kept.KeptMap.{KeptMap}
-use Rattle.lane_state.specs.Changes.{Copies, IsWireOf, KeepsWhatStays, with_marked}
-use Rattle.lane_state.specs.Covered.{is_idle_map}
-use Rattle.lane_state.specs.Doing.{IsDone}
+use Rattle.lane_state.specs.Changes.{Copies, IsWireOf, KeepsPromises, KeepsState, KeepsWhatStays, Stays, with_marked}
+use Rattle.lane_state.specs.Covered.{is_idle_map, pages_due}
+use Rattle.lane_state.specs.Doing.{IsDone, IsUndone}
 use Rattle.lane_state.specs.Held.{devices_of}
 use Rattle.lane_state.specs.Ideal.{given, ideal_of}
 use Rattle.lane_state.specs.Kept.{map_of}
 use Rattle.lane_state.specs.Wire.{IsWired, wire_of}
-use Rattle.lane_state.proofs.Keeping.{idle-there}
+use Rattle.lane_state.proofs.Doors.{done-gives, unasked}
+use Rattle.lane_state.proofs.Keeping.{bytes-same, idle-there}
 use Rattle.lane_state.proofs.MapTables.{maps-of}
 use Rattle.lane_state.proofs.MapValues.{get-map_values}
-use Rattle.lane_sends.specs.Resends.{AreItsBytes, IsUnrefused}
+use Rattle.lane_sends.specs.Resends.{AreItsBytes, IsResent, IsStopped, IsUnrefused, KeepsButRoom}
 use Rattle.lane_sends.proofs.CopiedClusters.{held-behind, held-copied, marks}
 use Rattle.lane_sends.proofs.LoadEndings.{IsAfterLoad, load-leaves}
 use Rattle.lane_loads.proofs.Loaded.{none-loaned}
@@ -138,3 +143,78 @@ module _ (h k : Holdings) (s : Send) (u : IsUnrefused (ideal_of h) s) (d e : See
               ⊎ (((devices_of h.maps.map m).pages ≡ []) ⊎ ((devices_of t.map m).pages ≡ []))) (sym maps)
               (stays.pages m);
         })
+
+-- ---- a resend that is refused, or for which memory ran out
+
+-- a resend that is refused leaves all holdings
+pub stopped-resent : (h : Holdings) (s : Send) (d : Seen) (a : Answered) (r : Report) →
+    a ≡ record { answer = answer.Report r; held = false } → IsStopped (ideal_of h) s r → IsResent s h h d d (Ok a)
+stopped-resent h s d a r told stop =
+    let step = sends.resend s (ideal_of h) in
+    let x = given h (answer.Report r) in
+    subst (λ b. IsResent s h h d d (Ok b)) (sym told) (record {
+      done = done-gives d h.id.0 step x stop.step;
+      held = unasked step x stop.step;
+      wire = Stays refl (stop.wire (wire_of h)) (record { own = refl; pages = λ m. inl refl });
+      err = tt;
+      unpromised = tt;
+      undone = tt;
+      memories = refl;
+      agenda = record { place = refl; end = refl; capacity = refl };
+      promised = omega arith;
+      due = refl;
+    })
+
+-- a resend for which memory ran out
+pub failed-resend : (s : Send) (h k : Holdings) (d e : Seen) (r : Result Answered AllocError) → IsErr r →
+    KeepsState h k → k.agenda ≡ h.agenda → IsUndone d e → k.memories ≡ h.memories → KeepsPromises h k →
+    IsResent s h k d e r
+failed-resend s h k d e (Ok a) failed state agenda undone memories due = absurd (cc)
+failed-resend s h k d e (Err x) failed state agenda undone memories due = record {
+  done = tt;
+  held = tt;
+  wire = tt;
+  err = state;
+  unpromised = agenda;
+  undone = undone;
+  memories = memories;
+  agenda = record {
+    place = ap (λ a. a.place) agenda;
+    end = ap (λ a. a.length) agenda;
+    capacity = ap (λ a. a.room + length a.queue) agenda;
+  };
+  promised = let same = ap (λ a. a.promised) agenda in omega (arith, same);
+  due = due;
+}
+
+pub unmade-resend : (s : Send) (h : Holdings) (d : Seen) (r : Result Answered AllocError) → IsErr r →
+    IsResent s h h d d r
+unmade-resend s h d r failed =
+    failed-resend s h h d d r failed (record { ideal = refl; bytes = bytes-same h }) refl (inl refl) refl refl
+
+-- room for marks, and what follows it
+module _ (h r : Holdings) (room : KeepsButRoom h r) where
+  pub state-from : (k : Holdings) → KeepsState r k → KeepsState h k
+  state-from k state = record {
+    ideal = state.ideal ∙ room.ideal;
+    bytes = record {
+      own = state.bytes.own ∙ ap (λ m. wire m.memory) room.memory;
+      pages = λ m. state.bytes.pages m ∙ ap (λ t. (devices_of t.map m).pages) room.maps;
+    };
+  }
+
+  pub keeps-room : KeepsState h r
+  keeps-room = state-from r (record { ideal = refl; bytes = bytes-same r })
+
+  pub loaded-from : (s : Send) (k : Holdings) (d e : Seen) (a : Answer) →
+      IsDone d r.id.0 (load_again s (ideal_of r)) (given k a) e →
+      IsDone d h.id.0 (load_again s (ideal_of h)) (given k a) e
+  loaded-from s k d e a = subst (λ (x : LaneState). IsDone d x.id (load_again s x) (given k a) e) room.ideal
+
+  pub due-from : (k : Holdings) → KeepsPromises r k → KeepsPromises h k
+  due-from k due =
+      ap (λ t. k.agenda.promised + pages_due t.map) (sym room.maps) ∙ due
+      ∙ ap (λ a. a.promised + pages_due k.maps.map) room.agenda
+
+  pub room-due : KeepsPromises h r
+  room-due = due-from r refl

@@ -1,4 +1,4 @@
-use Rattle.std.proofs.Common.{◌≡◌, true, List, sym, ap, ◌∙◌}
+use Rattle.std.proofs.Common.{◌≡◌, ℕ, true, List, Some, sym, ap, ◌∙◌}
 use Rattle.std.specs.FinMap.{get}
 use Rattle.busdma_machine.specs.declared.machine.address.Extent.{Extent}
 use Rattle.busdma_machine.specs.declared.machine.bio.Bio.TheVariants.{Vector}
@@ -10,7 +10,10 @@ use Rattle.ideal_lane.specs.IdealMemory.{is_known}
 use Rattle.ideal_lane.specs.Loads.{load_judged}
 use Rattle.ideal_lane.specs.Sends.{Send, chain_bytes}
 use Rattle.ideal_wire.specs.WireStep.{is_free}
+use Rattle.dma_map.specs.declared.state.MapState.TheVariants.{Idle}
+use Rattle.dma_map.specs.MapView.{state_of}
 use Rattle.lane_state.specs.declared.holdings.Holdings.{Holdings}
+use Rattle.lane_state.specs.declared.kept.KeptMap.{KeptMap}
 use Rattle.lane_state.specs.Held.{devices_of}
 use Rattle.lane_state.specs.Ideal.{ideal_of}
 use Rattle.lane_state.specs.Kept.{map_of}
@@ -29,6 +32,11 @@ read-same h from s e =
     (λ i. cpu_read_answer (known-held h.loans.bytes h.loans.loans (devices_of h.maps.map) h.memory.memory i)
     h.loans.loans (sym e i))
 
+-- an idle map is free
+free-there : (h : Holdings) (m : ℕ) (o : KeptMap) → get h.maps.map m ≡ Some o → state_of o.map.stage ≡ Idle →
+    is_free (get (ideal_of h).maps m) ≡ true
+free-there h m o there idle = ap is_free (image-some map_of h.maps.map m o there) ∙ state-idle o.map.stage idle
+
 pub returns-in_default-clause-refused : goal.returns-in_default-clause-refused
 returns-in_default-clause-refused c =
     let h = c.args.holdings.now in
@@ -41,9 +49,7 @@ returns-in-Refused-clause-refused c =
     let l = ideal_of h in
     let s = the_send c.args.resend in
     let o = c.in-Some.kept.now in
-    let there = image-some map_of h.maps.map s.map o (sym c.in-Some.ensures) in
-    let free : is_free (get l.maps s.map) ≡ true =
-    ap is_free there ∙ state-idle o.map.stage (sym c.state.ensures ∙ c.in-Idle.is) in
+    let free = free-there h s.map o (sym c.in-Some.ensures) (sym c.state.ensures ∙ c.in-Idle.is) in
     stopped-load l s free c.in-Refused.refusal (sym c.judge_load.ensures ∙ c.in-Refused.is)
 
 pub returns-in-Refused-may_cpu_read-clause-refused : goal.returns-in-Refused-may_cpu_read-clause-refused
@@ -52,9 +58,7 @@ returns-in-Refused-may_cpu_read-clause-refused c =
     let l = ideal_of h in
     let s = the_send c.args.resend in
     let o = c.in-Some.kept.now in
-    let there = image-some map_of h.maps.map s.map o (sym c.in-Some.ensures) in
-    let free : is_free (get l.maps s.map) ≡ true =
-    ap is_free there ∙ state-idle o.map.stage (sym c.state.ensures ∙ c.in-Idle.is) in
+    let free = free-there h s.map o (sym c.in-Some.ensures) (sym c.state.ensures ∙ c.in-Idle.is) in
     let fine : load_judged l s.map (Vector s.clusters) ≡ Fine = sym c.judge_load.ensures ∙ c.in_default-judge_load.is in
     stopped-read l s free fine c.in-Refused-may_cpu_read.refusal
     (read-same h c.args.from.now s c.requires.bytes.chain ∙ sym c.may_cpu_read.ensures
@@ -66,9 +70,7 @@ returns-in-Refused-may_cpu_write-clause-refused c =
     let l = ideal_of h in
     let s = the_send c.args.resend in
     let o = c.in-Some.kept.now in
-    let there = image-some map_of h.maps.map s.map o (sym c.in-Some.ensures) in
-    let free : is_free (get l.maps s.map) ≡ true =
-    ap is_free there ∙ state-idle o.map.stage (sym c.state.ensures ∙ c.in-Idle.is) in
+    let free = free-there h s.map o (sym c.in-Some.ensures) (sym c.state.ensures ∙ c.in-Idle.is) in
     let fine : load_judged l s.map (Vector s.clusters) ≡ Fine = sym c.judge_load.ensures ∙ c.in_default-judge_load.is in
     stopped-write l s free fine
     (read-same h c.args.from.now s c.requires.bytes.chain ∙ sym c.may_cpu_read.ensures ∙ c.in_default-may_cpu_read.is)
@@ -90,9 +92,7 @@ returns-clause-fine c =
     let l = ideal_of h in
     let s = the_send c.args.resend in
     let o = c.in-Some.kept.now in
-    let there = image-some map_of h.maps.map s.map o (sym c.in-Some.ensures) in
-    let idle = state-idle o.map.stage (sym c.state.ensures ∙ c.in-Idle.is) in
-    let free : is_free (get l.maps s.map) ≡ true = ap is_free there ∙ idle in
+    let free = free-there h s.map o (sym c.in-Some.ensures) (sym c.state.ensures ∙ c.in-Idle.is) in
     let fine : load_judged l s.map (Vector s.clusters) ≡ Fine = sym c.judge_load.ensures ∙ c.in_default-judge_load.is in
     record {
       free = free;

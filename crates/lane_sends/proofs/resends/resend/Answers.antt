@@ -1,30 +1,26 @@
-use Rattle.std.proofs.Common.{◌≡◌, ◌+◌, ◌≤◌, ◌^◌, true, List, length, inl, refl, sym, ap, ◌∙◌, subst, arith}
+use Rattle.std.proofs.Common.{◌≡◌, ◌+◌, ◌≤◌, ◌^◌, List, length, inl, refl, sym, ap, ◌∙◌, subst, arith}
 use Rattle.busdma_machine.specs.declared.machine.address.Extent.{Extent}
-use Rattle.busdma_machine.specs.declared.machine.bio.Bio.TheVariants.{Vector}
 use Rattle.busdma_machine.specs.Runs.{addresses, byte_count}
 use Rattle.loan_table.specs.Table.{AreIn}
 use Rattle.mbuf_defrag.specs.Copying.{ShareNone}
 use Rattle.phys_memory.specs.Frames.{Lie}
-use Rattle.ideal_lane.specs.Loads.{asked, load}
+use Rattle.ideal_lane.specs.Sends.{load_again}
 use Rattle.ideal_lane.specs.State.{LaneState}
 use Rattle.lane_state.specs.Covered.{pages_due}
-use Rattle.lane_state.specs.Doing.{IsAllowedBy, IsDone, asks}
-use Rattle.lane_state.specs.Ideal.{given, ideal_of}
+use Rattle.lane_state.specs.Doing.{IsAllowedBy, asks}
+use Rattle.lane_state.specs.Ideal.{ideal_of}
 use Rattle.lane_state.specs.Sends.{the_send}
-use Rattle.lane_sends.specs.Resends.{AreCopied}
-use Rattle.lane_sends.proofs.CopiedClusters.{bytes-alike, its-bytes, its-clusters, share-none}
-use Rattle.lane_sends.proofs.ResendEnds.{due-from, failed-resend, keeps-room, room-due, state-from, stopped-resent}
-use Rattle.lane_sends.proofs.ResendEnds.{unmade-resend}
+use Rattle.lane_sends.specs.Resends.{AreCopied, AreItsExtents, MayCopy}
+use Rattle.lane_sends.proofs.CopiedClusters.{bytes-alike, clusters-small, its-bytes, its-clusters, share-none}
 use Rattle.lane_sends.proofs.ResendSteps.{resend-allowed, resend-asks}
-use Rattle.lane_sends.proofs.Resent.{inside-now, lies-now, resent-done, resent-wire, stays-from}
+use Rattle.lane_sends.proofs.Resent.{due-from, failed-resend, inside-now, keeps-room, lies-now, loaded-from}
+use Rattle.lane_sends.proofs.Resent.{resent-done, resent-wire, room-due, state-from, stays-from, stopped-resent}
+use Rattle.lane_sends.proofs.Resent.{unmade-resend}
 use Rattle.lane_sends.proofs.resends.resend.Goals as goal
 
 pub extents-requires-2 : goal.extents-requires-2
 extents-requires-2 g c =
-    let s = the_send c.args.resend in
-    let alike = (its-clusters c.args.holdings.now c.requires.wired s c.requires.due).alike in
-    let small = c.requires.small in
-    omega (arith, alike, small)
+    clusters-small c.args.holdings.now c.requires.wired (the_send c.args.resend) c.requires.due c.requires.small
 
 pub returns-in_err-from-clause-resent : goal.returns-in_err-from-clause-resent
 returns-in_err-from-clause-resent g c =
@@ -40,19 +36,19 @@ pub refusal_of-requires : goal.refusal_of-requires
 refusal_of-requires g c =
     let h = c.args.holdings.now in
     let s = the_send c.args.resend in
-    let alike = (its-clusters h c.requires.wired s c.requires.due).alike in
-    let small = c.requires.small in
-    let from = c.deref.ensures.value in
-    let to = c.deref-2.ensures.value in
-    record {
-      small = omega (arith, alike, small);
-      from_own = subst (λ (es : List Extent). AreIn h.loans.bytes (addresses es)) (sym from) c.in_ok-from.ensures.there;
-      from_total = subst (λ (es : List Extent). byte_count es ≤ 2 ^ 20) (sym from) c.in_ok-from.ensures.total;
-      to_own = subst (λ (es : List Extent). AreIn h.loans.bytes (addresses es)) (sym to) c.in_ok-to.ensures.there;
-      to_total = subst (λ (es : List Extent). byte_count es ≤ 2 ^ 20) (sym to) c.in_ok-to.ensures.total;
-      bytes = its-bytes h c.requires.wired s c.requires.due c.deref.result.now c.deref-2.result.now
-          (ap addresses from ∙ c.in_ok-from.ensures.bytes) (ap addresses to ∙ c.in_ok-to.ensures.bytes);
-    }
+    let from = c.in_ok-from.ensures in
+    let to = c.in_ok-to.ensures in
+    subst (λ (x : List Extent × List Extent). AreItsExtents h s x.0 x.1)
+    (λ i. (sym c.deref.ensures.value i, sym c.deref-2.ensures.value i))
+    (record {
+      small = clusters-small h c.requires.wired s c.requires.due c.requires.small;
+      from_own = from.there;
+      from_total = from.total;
+      to_own = to.there;
+      to_total = to.total;
+      bytes = its-bytes h c.requires.wired s c.requires.due c.in_ok-from.from.items c.in_ok-to.to.items from.bytes
+          to.bytes;
+    })
 
 pub returns-in-Some-clause-resent : goal.returns-in-Some-clause-resent
 returns-in-Some-clause-resent g c =
@@ -60,32 +56,25 @@ returns-in-Some-clause-resent g c =
     c.in-Some.refusal c.unheld.ensures c.in-Some.ensures.refused
 
 pub load-requires-clause-loadable : goal.load-requires-clause-loadable
-load-requires-clause-loadable g c =
-    let h = c.args.holdings.now in
-    let l = ideal_of h in
-    let s = the_send c.args.resend in
-    let alike = (its-clusters h c.requires.wired s c.requires.due).alike in
-    let small = c.requires.small in
-    record { small = omega (arith, alike, small); bio = tt; own = tt }
+load-requires-clause-loadable g c = record {
+  small = clusters-small c.args.holdings.now c.requires.wired (the_send c.args.resend) c.requires.due c.requires.small;
+  bio = tt;
+  own = tt;
+}
 
 pub load-requires-clause-few_pages : goal.load-requires-clause-few_pages
 load-requires-clause-few_pages g c =
-    let h = c.args.holdings.now in
-    let l = ideal_of h in
     let s = the_send c.args.resend in
-    let alike = (its-clusters h c.requires.wired s c.requires.due).alike in
+    let alike = (its-clusters c.args.holdings.now c.requires.wired s c.requires.due).alike in
     let few = c.requires.few_pages in
     omega (arith, alike, few, ap (λ a. a.promised) c.make_room.ensures.same.agenda)
 
 pub load-requires-clause-allowed : goal.load-requires-clause-allowed
 load-requires-clause-allowed g c =
-    let h = c.args.holdings.now in
-    let l = ideal_of h in
     let s = the_send c.args.resend in
-    let u = c.in_default.ensures.fine in
     let d = g.D.HubDoor.seen c.args.door.now in
-    subst (λ (x : LaneState). IsAllowedBy d x.id (load s.map (asked s.map (Vector s.clusters) true s.items x) x))
-    (sym c.make_room.ensures.same.ideal) (resend-allowed l s u d c.requires.allowed)
+    subst (λ (x : LaneState). IsAllowedBy d x.id (load_again s x)) (sym c.make_room.ensures.same.ideal)
+    (resend-allowed (ideal_of c.args.holdings.now) s c.in_default.ensures.fine d c.requires.allowed)
 
 pub copy_bytes-requires : goal.copy_bytes-requires
 copy_bytes-requires g c =
@@ -98,36 +87,28 @@ copy_bytes-requires g c =
     let d = g.D.HubDoor.seen c.args.door.now in
     let e = g.D.HubDoor.seen c.load.new.door in
     let a = c.in_ok-loaded.loaded.answer in
-    let done : IsDone d h.id.0 (load s.map (asked s.map (Vector s.clusters) true s.items l) l) (given k a) e =
-    subst (λ (x : LaneState). IsDone d x.id (load s.map (asked s.map (Vector s.clusters) true s.items x) x)
-    (given k a) e)
-    room.ideal c.in_ok-loaded.ensures.done in
+    let done = loaded-from h c.make_room.new.holdings room s k d e a c.in_ok-loaded.ensures.done in
     let stays = stays-from h c.make_room.new.holdings k room.memory room.maps c.load.ensures.bytes in
     let from = c.in_ok-from.from.items in
     let to = c.in_ok-to.to.items in
-    let from-is : c.deref-4.result.now ≡ from = c.deref-4.ensures.value in
-    let to-is : c.deref-5.result.now ≡ to = c.deref-5.ensures.value in
     let are = its-bytes h c.requires.wired s c.requires.due from to c.in_ok-from.ensures.bytes
     c.in_ok-to.ensures.bytes in
-    record {
-      from_lie = subst (Lie k.memory.memory) (sym from-is)
-          (lies-now h k s u d e a done stays from c.in_ok-from.ensures.lie);
-      to_lie = subst (Lie k.memory.memory) (sym to-is) (lies-now h k s u d e a done stays to c.in_ok-to.ensures.lie);
-      inside = subst (λ (es : List Extent). AreIn k.loans.bytes (addresses es)) (sym to-is)
-          (inside-now h k s u d e a done stays (addresses to) c.in_ok-to.ensures.there);
-      total = subst (λ (es : List Extent). byte_count es ≤ 2 ^ 20) (sym to-is) c.in_ok-to.ensures.total;
-      alike = ap byte_count from-is ∙ bytes-alike h c.requires.wired s c.requires.due u from to are
-          ∙ sym (ap byte_count to-is);
-      apart = subst (λ (x : List Extent × List Extent). ShareNone x.0 x.1) (λ i. (sym from-is i, sym to-is i))
-          (share-none h c.requires.wired s c.requires.due u from to are);
+    subst (λ (x : List Extent × List Extent). MayCopy k x.0 x.1)
+    (λ i. (sym c.deref-4.ensures.value i, sym c.deref-5.ensures.value i))
+    (record {
+      from_lie = lies-now h k s u d e a done stays from c.in_ok-from.ensures.lie;
+      to_lie = lies-now h k s u d e a done stays to c.in_ok-to.ensures.lie;
+      inside = inside-now h k s u d e a done stays (addresses to) c.in_ok-to.ensures.there;
+      total = c.in_ok-to.ensures.total;
+      alike = bytes-alike h c.requires.wired s c.requires.due u from to are;
+      apart = share-none h c.requires.wired s c.requires.due u from to are;
       room = omega (
         arith,
         c.in_ok-make_room.ensures.room,
         c.load.ensures.spare,
         ap (λ es. length es) c.deref-3.ensures.value,
-        ap (λ es. length es) to-is,
       );
-    }
+    })
 
 pub returns-in_err-make_room-clause-resent : goal.returns-in_err-make_room-clause-resent
 returns-in_err-make_room-clause-resent g c =
@@ -167,10 +148,7 @@ returns-clause-resent g c =
     let d = g.D.HubDoor.seen c.args.door.now in
     let e = g.D.HubDoor.seen c.load.new.door in
     let a = c.in_ok-loaded.loaded.answer in
-    let done : IsDone d h.id.0 (load s.map (asked s.map (Vector s.clusters) true s.items l) l) (given k a) e =
-    subst (λ (x : LaneState). IsDone d x.id (load s.map (asked s.map (Vector s.clusters) true s.items x) x)
-    (given k a) e)
-    room.ideal c.in_ok-loaded.ensures.done in
+    let done = loaded-from h c.make_room.new.holdings room s k d e a c.in_ok-loaded.ensures.done in
     let stays = stays-from h r k room.memory room.maps loaded.bytes in
     let n = c.copy_bytes.new.holdings in
     let copied : AreCopied from to k n =
@@ -182,7 +160,7 @@ returns-clause-resent g c =
       done = resent-done h k s u d e a done stays c.requires.wired c.requires.due from to are
           c.in_ok-from.ensures.there c.in_ok-to.ensures.there n copied.ideal copied.wire;
       held = c.in_ok-loaded.ensures.held
-          ∙ ap (λ (x : LaneState). asks (load s.map (asked s.map (Vector s.clusters) true s.items x) x)) room.ideal
+          ∙ ap (λ (x : LaneState). asks (load_again s x)) room.ideal
           ∙ resend-asks l s u;
       wire = resent-wire h k s u d e a done stays c.requires.wired c.requires.due from to are
           c.in_ok-from.ensures.there c.in_ok-to.ensures.there n copied.ideal copied.wire copied.maps
