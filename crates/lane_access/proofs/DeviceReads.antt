@@ -61,15 +61,8 @@ module _ (l : LaneState) (k : ℕ) where
       step
   ends off len h step = rw (le-leb (off + len) (load_length l k) h) refl
 
-  -- the map is not loaded, or the range reaches past the end
-  pub dev_read-unloaded : (off len : ℕ) (r : Report) →
-      ((step : LaneMap → Asking Outcome) → unless_unloaded k l step ≡ gives l (answer.Report r)) →
-      gives l (answer.Report r) ≡ dev_read k off len l
-  dev_read-unloaded off len r h = sym (h (λ o. unless_past k off len l
-      (unless_refused (dev_read_answer (ideal.is_known l.memory) (loan_of l.loans k) off len) l
-      (gives l (answer.Bytes (values l (load_bytes l.loans k off len)))))))
-
   module _ (o : LaneMap) (there : get l.maps k ≡ Some o) (on : is_loaded o.stage ≡ true) where
+    -- the range reaches past the end
     pub dev_read-past : (off len : ℕ) (r : Report) →
         ((step : Asking Outcome) → unless_past k off len l step ≡ gives l (answer.Report r)) →
         gives l (answer.Report r) ≡ dev_read k off len l

@@ -6,7 +6,7 @@ use Rattle.std.specs.Ordering.{nat_cmp}
 use Rattle.std.specs.FinMap.{FinMap, get}
 use Rattle.busdma_machine.specs.declared.bounce.hold.HubReply.TheVariants.{Nothing}
 use Rattle.busdma_base.specs.declared.journals.answer.Answer.TheVariants as answer
-use Rattle.busdma_machine.specs.declared.report.Judged.TheVariants.{Fine, Refused}
+use Rattle.busdma_machine.specs.declared.report.Judged.TheVariants.{Fine}
 use Rattle.busdma_machine.specs.declared.report.Report.{Report}
 use Rattle.busdma_machine.specs.Machine.Wire.{put, stretch, with_bytes_of}
 use Rattle.device_model.specs.Access.{bus_range}
@@ -44,7 +44,7 @@ use Rattle.lane_state.proofs.Lying.{trace-mine}
 use Rattle.lane_state.proofs.MapValues.{image-some}
 use Rattle.lane_state.proofs.MarkedMemory.{marks-held, marks-written, own-marks}
 use Rattle.lane_state.proofs.Marks.{has_set_all}
-use Rattle.lane_state.proofs.Reading.{passes, refused}
+use Rattle.lane_state.proofs.Reading.{passes}
 use Rattle.lane_access.proofs.Repaging.{ideal-maps, maps, repaged-put, unlent-maps}
 use Rattle.lane_state.proofs.Views.{IsMine}
 
@@ -63,13 +63,6 @@ module _ (l : LaneState) (k : ℕ) (o : LaneMap) (there : get l.maps k ≡ Some 
   pub dev_write-within : off + length vs ≤ length (loan_of l.loans k).positions → dev_write k off vs l ≡ step
   dev_write-within h =
       loads l k o there on (λ x. unless_past k off (length vs) l step) ∙ ends l k off (length vs) h step
-
-  pub dev_write-refused : off + length vs ≤ length (loan_of l.loans k).positions → (r : Report) →
-      Refused r ≡ dev_write_answer (loan_of l.loans k) off (length vs) →
-      gives l (answer.Report r) ≡ dev_write k off vs l
-  dev_write-refused range r is =
-      sym (dev_write-within range ∙ refused (dev_write_answer (loan_of l.loans k) off (length vs)) r l
-      (gives (record l { memory = written (load_bytes l.loans k off (length vs)) vs l.memory }) answer.Done) (sym is))
 
 -- as many bytes as a range of a buffer has
 range-size : (off len : ℕ) (buffer : List Position) → off + len ≤ length buffer →

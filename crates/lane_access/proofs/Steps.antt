@@ -1,23 +1,17 @@
 -- Steps that make no call, by what they are.
-use Rattle.std.proofs.Common.{◌≡◌, Bool, List, ℕ, Result, Ok, Err, IfOk, IsErr, refl, sym, ap, ◌∙◌, subst}
+use Rattle.std.proofs.Common.{◌≡◌, List, ℕ, Result, Ok, Err, IfOk, IsErr, refl, sym, ap, ◌∙◌, subst}
 use Rattle.std.specs.declared.alloc.AllocError.{AllocError}
-use Rattle.std.specs.FinMap.{FinMap}
-use Rattle.std.specs.Ordering.{nat_cmp}
 use Rattle.busdma_base.specs.declared.journals.answer.Answer.{Answer}
 use Rattle.busdma_base.specs.declared.journals.answer.Answer.TheVariants as answer
 use Rattle.busdma_machine.specs.declared.report.Report.{Report}
 use Rattle.busdma_machine.specs.Machine.Wire.{Wire}
-use Rattle.busdma_rules.specs.Lending.Loans.{Loans}
 use Rattle.ideal_lane.specs.Asking.{Asking, Gives}
 use Rattle.ideal_lane.specs.Outcomes.{Outcome, gives}
 use Rattle.ideal_lane.specs.State.{LaneState}
 use Rattle.ideal_wire.specs.WireStep.{Reads, if_done}
 use Rattle.lane_state.specs.declared.holdings.Holdings.{Holdings}
-use Rattle.lane_state.specs.declared.kept.KeptShare.{KeptShare}
 use Rattle.lane_state.specs.Changes.{KeepsState}
-use Rattle.lane_state.specs.Held.{devices_of, held}
 use Rattle.lane_state.specs.Ideal.{given, ideal_of}
-use Rattle.lane_state.specs.Kept.{kept_share}
 use Rattle.lane_state.specs.Wire.{wire_of}
 use Rattle.lane_state.proofs.Doors.{ok-map, on-err}
 use Rattle.lane_state.proofs.Keeping.{bytes-same}
@@ -32,21 +26,6 @@ always (Err e) Q q = tt
 -- what leaves all holdings leaves the state
 pub same-state : (h : Holdings) → KeepsState h h
 same-state h = record { ideal = refl; bytes = bytes-same h }
-
--- tables with the same marks, loans and counts are those of the same ideal driver
-pub same-tables : (h : Holdings) (bytes : FinMap nat_cmp Bool) (loans : Loans) (shares : List KeptShare) →
-    bytes ≡ h.loans.bytes → loans ≡ h.loans.loans → shares ≡ h.shares.items →
-    record (ideal_of h) {
-      memory = held bytes loans (devices_of h.maps.map) h.memory.memory;
-      loans = loans;
-      shares = kept_share shares;
-    }
-    ≡ ideal_of h
-same-tables h bytes loans shares marked lent counted = λ i. record (ideal_of h) {
-  memory = held (marked i) (lent i) (devices_of h.maps.map) h.memory.memory;
-  loans = lent i;
-  shares = kept_share (counted i);
-}
 
 -- a step that is done
 pub done-step : {step : LaneState → Asking Outcome} {wired : LaneState → Wire → Wire} {h k : Holdings} {a : Answer} →

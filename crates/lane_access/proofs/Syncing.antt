@@ -7,7 +7,7 @@ use Rattle.std.specs.Ordering.{nat_cmp}
 use Rattle.std.specs.FinMap.{FinMap, contains_key, get, insert}
 use Rattle.busdma_machine.specs.declared.bounce.hold.HubReply.TheVariants.{Nothing}
 use Rattle.busdma_base.specs.declared.journals.answer.Answer.TheVariants as answer
-use Rattle.busdma_machine.specs.declared.report.Judged.TheVariants.{Fine, Refused}
+use Rattle.busdma_machine.specs.declared.report.Judged.TheVariants.{Fine}
 use Rattle.busdma_machine.specs.declared.report.Report.{Report}
 use Rattle.busdma_machine.specs.declared.report.ReportName.TheVariants.{MixedSync}
 use Rattle.busdma_machine.specs.declared.name.ZoneId.{ZoneId}
@@ -68,10 +68,6 @@ module _ (l : LaneState) (k : ℕ) (o : LaneMap) (off len ops : ℕ) where
   pub part-mixed : is_mixed ops ≡ true →
       sync_part k o off len ops l ≡ gives l (answer.Report (record { name = MixedSync; at = 0 }))
   part-mixed mixed = rw mixed refl
-
-  pub part-refused : (r : Report) → is_mixed ops ≡ false → sync_answer l.loans k off len ops ≡ Refused r →
-      sync_part k o off len ops l ≡ gives l (answer.Report r)
-  part-refused r alone is = rw (alone, is) refl
 
   pub part-fine : is_mixed ops ≡ false → sync_answer l.loans k off len ops ≡ Fine →
       sync_part k o off len ops l ≡ gives after_sync answer.Done

@@ -18,7 +18,7 @@ use Rattle.lane_state.specs.Ideal.{ideal_of}
 use Rattle.lane_state.specs.Kept.{map_of}
 use Rattle.lane_state.specs.Wire.{wire_of}
 use Rattle.lane_access.proofs.DeviceReads.{dev_read-by, dev_read-done, dev_read-past, dev_read-reads, dev_read-refused}
-use Rattle.lane_access.proofs.DeviceReads.{dev_read-unloaded, load-there}
+use Rattle.lane_access.proofs.DeviceReads.{load-there}
 use Rattle.lane_access.proofs.Steps.{done-reading, refused-reading}
 use Rattle.lane_state.proofs.Devices.{is-reached}
 use Rattle.lane_state.proofs.MapValues.{image-some}
@@ -28,12 +28,6 @@ use Rattle.lane_access.proofs.Unbounced.{is-behind, not-behind, own-buses}
 use Rattle.lane_access.proofs.PutBack.{are-back, ideal-back, pages-back, put-same, wire-back}
 use Rattle.lane_state.specs.Awaiting.{AreAwaiting}
 use Rattle.lane_access.proofs.accesses.dev_read.Goals as goal
-
-pub returns-in-Some : goal.returns-in-Some
-returns-in-Some c =
-    let h = c.args.holdings.now in
-    refused-reading (dev_read c.args.map c.args.off c.args.len) _ h _ c.in-Some.refusal refl
-    (dev_read-unloaded (ideal_of h) c.args.map c.args.off c.args.len c.in-Some.refusal c.in-Some.ensures.refused)
 
 pub returns-in-Some-past_end : goal.returns-in-Some-past_end
 returns-in-Some-past_end c =

@@ -20,9 +20,8 @@ use Rattle.lane_state.specs.Wire.{wire_of}
 use Rattle.lane_access.proofs.DeviceReads.{load-there}
 use Rattle.lane_state.proofs.Devices.{is-reached}
 use Rattle.lane_access.specs.Steps.{own_write}
-use Rattle.lane_access.proofs.DeviceWrites.{dev_write-done, dev_write-past, dev_write-refused, dev_write-wire}
+use Rattle.lane_access.proofs.DeviceWrites.{dev_write-done, dev_write-past, dev_write-wire}
 use Rattle.lane_state.proofs.Doors.{err-map, ok-map}
-use Rattle.lane_access.proofs.CpuWrites.{wire-idle}
 use Rattle.lane_access.proofs.Steps.{done-step, refused-step}
 use Rattle.lane_state.proofs.MapTables.{AreMaps}
 use Rattle.lane_state.proofs.MapValues.{image-some}
@@ -36,11 +35,6 @@ use Rattle.dma_map.specs.MapView.{held_waiting_load}
 use Rattle.lane_state.proofs.Awaiting.{put-awaiting, still-ready}
 use Rattle.lane_access.proofs.accesses.dev_write.Goals as goal
 
-pub returns-in-Some : goal.returns-in-Some
-returns-in-Some c =
-    refused-step (dev_write c.args.map c.args.off c.args.bytes.now) _ c.args.holdings.now _ c.in-Some.refusal refl
-    (sym (c.in-Some.ensures.refused _))
-
 pub returns-in-Some-past_end : goal.returns-in-Some-past_end
 returns-in-Some-past_end c =
     let h = c.args.holdings.now in
@@ -48,17 +42,6 @@ returns-in-Some-past_end c =
     refused-step (dev_write c.args.map c.args.off c.args.bytes.now) _ h _ c.in-Some-past_end.refusal refl
     (dev_write-past (ideal_of h) c.args.map (map_of x.0) (image-some map_of h.maps.map c.args.map x.0 x.1) x.2
     c.args.off c.args.bytes.now c.in-Some-past_end.refusal c.in-Some-past_end.ensures.refused)
-
-pub returns-in-Refused : goal.returns-in-Refused
-returns-in-Refused c =
-    let h = c.args.holdings.now in
-    let x = load-there (get h.maps.map c.args.map) c.in_default.ensures.loaded in
-    let is = dev_write-refused (ideal_of h) c.args.map (map_of x.0) (image-some map_of h.maps.map c.args.map x.0 x.1) x.2
-    c.args.off c.args.bytes.now c.in_default-past_end.ensures.range c.in-Refused.refusal
-    (sym c.in-Refused.is ∙ c.may_dev_write.ensures
-    ∙ ap (λ (m : MapId). dev_write_answer (loan_of h.loans.loans m.made_at) c.args.off (length c.args.bytes.now))
-    c.map_id-id.ensures) in
-    done-step is (wire-idle (ideal_of h) c.in-Refused.refusal _ _ (wire_of h) is) refl refl refl
 
 pub write_load-requires : goal.write_load-requires
 write_load-requires c =

@@ -1,4 +1,4 @@
-use Rattle.std.proofs.Common.{◌≡◌, length, refl, ap, sym, ◌∙◌}
+use Rattle.std.proofs.Common.{◌≡◌, length, ap, ◌∙◌}
 use Rattle.busdma_machine.specs.declared.name.MapId.{MapId}
 use Rattle.loan_table.specs.Table.{buffer_of}
 use Rattle.ideal_lane.specs.Outcomes.{load_length}
@@ -7,13 +7,8 @@ use Rattle.ideal_wire.specs.WireStep as wires
 use Rattle.lane_state.specs.Ideal.{ideal_of}
 use Rattle.lane_state.specs.Wire.{wire_of}
 use Rattle.lane_access.specs.Steps.{part_sync, wire_part_sync}
-use Rattle.lane_access.proofs.Steps.{refused-step, same-step}
+use Rattle.lane_access.proofs.Steps.{same-step}
 use Rattle.lane_access.proofs.syncs.sync.Goals as goal
-
-pub returns-in-Some : goal.returns-in-Some
-returns-in-Some c =
-    refused-step (syncs.sync c.args.map c.args.ops.0) _ c.args.holdings.now _ c.in-Some.refusal refl
-    (sym (c.in-Some.ensures.refused _))
 
 pub returns : goal.returns
 returns c =

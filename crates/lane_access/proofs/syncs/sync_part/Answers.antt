@@ -2,7 +2,6 @@ use Rattle.std.proofs.Common.{◌≡◌, ◌/◌, ◌&&◌, ◌||◌, false, Som
 use Rattle.std.specs.List.{list_any}
 use Rattle.std.specs.Option.{option_map}
 use Rattle.std.specs.FinMap.{contains_key, get, insert}
-use Rattle.busdma_base.specs.declared.journals.answer.Answer.TheVariants as answer
 use Rattle.busdma_machine.specs.declared.report.Judged.TheVariants.{Fine}
 use Rattle.busdma_machine.specs.declared.name.MapId.{MapId}
 use Rattle.busdma_machine.specs.declared.name.ZoneId.{ZoneId}
@@ -10,8 +9,7 @@ use Rattle.dma_map.specs.MapView.{held_chunks}
 use Rattle.busdma_rules.specs.Tags.SyncOps.{is_mixed, postread, prewrite}
 use Rattle.busdma_rules.specs.Lending.SyncEffects.{lost, sync_answer}
 use Rattle.busdma_rules.specs.Lending.SyncEffects as lending
-use Rattle.loan_table.specs.Table.{AreIn, IsSame, IsSynced, set_all}
-use Rattle.ideal_lane.specs.Outcomes.{gives}
+use Rattle.loan_table.specs.Table.{AreIn, IsSynced, set_all}
 use Rattle.ideal_lane.specs.Syncs.{counted, has_byte_of, sync_part}
 use Rattle.ideal_wire.specs.WireStep as wires
 use Rattle.ideal_wire.specs.WireStep.{if_done}
@@ -25,10 +23,9 @@ use Rattle.lane_state.proofs.MapValues.{image-some}
 use Rattle.lane_state.proofs.Marks.{has_set_all}
 use Rattle.lane_state.proofs.Reaching.{same-physical, same-placed, same-standing}
 use Rattle.lane_access.specs.Steps.{part_sync}
-use Rattle.lane_access.proofs.CpuWrites.{wire-idle}
 use Rattle.lane_access.proofs.DeviceReads.{load-there}
-use Rattle.lane_access.proofs.Steps.{done-step, refused-step, same-tables}
-use Rattle.lane_access.proofs.Syncing.{are-synced, part-done, part-mixed, part-refused, part-there, part-wire}
+use Rattle.lane_access.proofs.Steps.{done-step, refused-step}
+use Rattle.lane_access.proofs.Syncing.{are-synced, part-done, part-mixed, part-there, part-wire}
 use Rattle.dma_map.specs.MapView.{held_waiting_load}
 use Rattle.lane_state.proofs.Awaiting.{put-awaiting, still-ready}
 use Rattle.lane_access.proofs.syncs.sync_part.Goals as goal
@@ -111,30 +108,6 @@ returns-then-is_mixed c =
     refused-step (part_sync k c.args.off c.args.len ops) _ h c.report.result _ c.report.ensures
     (sym (part-there l k (map_of x.0) (image-some map_of h.maps.map k x.0 x.1) x.2 ops c.args.off c.args.len
     ∙ part-mixed l k (map_of x.0) c.args.off c.args.len ops (sym c.is_mixed.ensures ∙ c.if-is_mixed.true)))
-
-pub returns-in-Refused : goal.returns-in-Refused
-returns-in-Refused c =
-    let h = c.args.holdings.now in
-    let l = ideal_of h in
-    let k = c.args.map in
-    let ops = c.args.ops.0 in
-    let x = load-there (get h.maps.map k) c.requires.loaded in
-    let alone : is_mixed ops ≡ false = sym c.is_mixed.ensures ∙ c.if-is_mixed.false in
-    let same = c.reserve_extents.ensures.same in
-    let after : IsSame c.reserve_extents.new.loans c.sync_loans.new.loans =
-    rw c.in-Refused.is at c.sync_loans.ensures.refused in
-    let judged = c.sync_loans.ensures.answer
-    ∙ (λ i. sync_answer (same.loans i) (c.map_id-id.ensures i).made_at c.args.off c.args.len ops) in
-    let is : part_sync k c.args.off c.args.len ops l ≡ gives l (answer.Report c.in-Refused.refusal) =
-    part-there l k (map_of x.0) (image-some map_of h.maps.map k x.0 x.1) x.2 ops c.args.off c.args.len
-    ∙ part-refused l k (map_of x.0) c.args.off c.args.len ops c.in-Refused.refusal alone
-    (sym judged ∙ c.in-Refused.is) in
-    done-step
-    (ap (λ n. gives n (answer.Report c.in-Refused.refusal))
-    (same-tables h c.sync_loans.new.loans.bytes c.sync_loans.new.loans.loans c.reserve.new.self.items
-    (after.bytes ∙ same.bytes) (after.loans ∙ same.loans) c.reserve.ensures.items)
-    ∙ sym is)
-    (wire-idle l c.in-Refused.refusal _ _ (wire_of h) (sym is)) refl refl refl
 
 pub returns : goal.returns
 returns c =

@@ -1,4 +1,4 @@
-use Rattle.std.proofs.Common.{refl, ap, sym}
+use Rattle.std.proofs.Common.{refl, ap}
 use Rattle.std.specs.FinMap.{get}
 use Rattle.ideal_lane.specs.Syncs as syncs
 use Rattle.ideal_wire.specs.WireStep as wires
@@ -12,11 +12,6 @@ use Rattle.lane_state.proofs.MapValues.{image-some}
 use Rattle.lane_access.proofs.Steps.{refused-step, same-step}
 use Rattle.lane_access.proofs.Syncing.{range-past, range-within}
 use Rattle.lane_access.proofs.syncs.sync_range.Goals as goal
-
-pub returns-in-Some : goal.returns-in-Some
-returns-in-Some c =
-    refused-step (syncs.sync_range c.args.map c.args.off c.args.len c.args.ops.0) _ c.args.holdings.now _
-    c.in-Some.refusal refl (sym (c.in-Some.ensures.refused _))
 
 pub returns-in-Some-past_end : goal.returns-in-Some-past_end
 returns-in-Some-past_end c =
