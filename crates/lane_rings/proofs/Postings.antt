@@ -22,7 +22,7 @@ use Rattle.busdma_rules.specs.Rings.Ranges.{address_of}
 use Rattle.ideal_lane.specs.Accesses.{cpu_write}
 use Rattle.ideal_lane.specs.Asking.{Asking}
 use Rattle.ideal_lane.specs.Loads.{is_device}
-use Rattle.ideal_lane.specs.Outcomes.{Outcome, gives, is_loaded, load_length, unless_absent, unless_past}
+use Rattle.ideal_lane.specs.Outcomes.{Outcome, gives, load_length, unless_absent, unless_past}
 use Rattle.ideal_lane.specs.Outcomes.{unless_unloaded}
 use Rattle.ideal_lane.specs.Rings.{is_work, may_post, no_ring, posted, slot_place}
 use Rattle.ideal_lane.specs.Rings as rings

@@ -1,7 +1,6 @@
 -- The steps of a resend, by what refuses it.
 use Rattle.std.proofs.Common.{◌≡◌, ℕ, true, false, Option, Some, None, refl, sym, ap, ◌∙◌, if◌then◌else◌, map, subst}
 use Rattle.std.specs.FinMap.{get}
-use Rattle.busdma_base.specs.declared.journals.answer.Answer.TheVariants as answer
 use Rattle.busdma_machine.specs.declared.machine.bio.Bio.TheVariants.{Vector}
 use Rattle.busdma_machine.specs.declared.report.Judged.{Judged}
 use Rattle.busdma_machine.specs.declared.report.Judged.TheVariants.{Fine, Refused}
@@ -13,7 +12,7 @@ use Rattle.busdma_rules.specs.Lending.Access.{cpu_read_answer, cpu_write_answer}
 use Rattle.ideal_lane.specs.Asking.{Asking, Gives, Asks, goes_on}
 use Rattle.ideal_lane.specs.IdealMemory.{is_known}
 use Rattle.ideal_lane.specs.Loads.{load_judged}
-use Rattle.ideal_lane.specs.Outcomes.{Outcome, gives, is_idle, refused, unless_absent, unless_refused}
+use Rattle.ideal_lane.specs.Outcomes.{Outcome, is_idle, refused, unless_absent, unless_refused}
 use Rattle.ideal_lane.specs.Sends as sends
 use Rattle.ideal_lane.specs.Sends.{Send, chain_bytes, cluster_bytes, copied, load_again, outcome_with}
 use Rattle.ideal_lane.specs.State.{LaneMap, LaneState}

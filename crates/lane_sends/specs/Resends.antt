@@ -1,5 +1,5 @@
 -- When a resend may be made, when it is not refused, which bytes it copies, and what it makes of a driver.
-use Rattle.std.specs.Prelude.{◌≡◌, ℕ, ◌+◌, ◌<◌, ◌≤◌, ◌^◌, List, Some, Result, IfOk, OnErr, OnOk, length, true}
+use Rattle.std.specs.Prelude.{◌≡◌, ◌+◌, ◌<◌, ◌≤◌, ◌^◌, List, Some, Result, IfOk, OnErr, OnOk, length, true}
 use Rattle.std.specs.declared.alloc.AllocError.{AllocError}
 use Rattle.std.specs.FinMap.{get}
 use Rattle.busdma_base.specs.declared.journals.answer.Answer.TheVariants as answer

@@ -1,9 +1,6 @@
-use Rattle.std.proofs.Common.{◌≡◌, ◌+◌, ◌≤◌, ◌^◌, List, length, inl, refl, sym, ap, ◌∙◌, subst, arith}
+use Rattle.std.proofs.Common.{◌+◌, List, length, inl, refl, sym, ap, ◌∙◌, subst, arith}
 use Rattle.busdma_machine.specs.declared.machine.address.Extent.{Extent}
-use Rattle.busdma_machine.specs.Runs.{addresses, byte_count}
-use Rattle.loan_table.specs.Table.{AreIn}
-use Rattle.mbuf_defrag.specs.Copying.{ShareNone}
-use Rattle.phys_memory.specs.Frames.{Lie}
+use Rattle.busdma_machine.specs.Runs.{addresses}
 use Rattle.ideal_lane.specs.Sends.{load_again}
 use Rattle.ideal_lane.specs.State.{LaneState}
 use Rattle.lane_state.specs.Covered.{pages_due}
