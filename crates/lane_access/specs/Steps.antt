@@ -15,19 +15,20 @@ use Rattle.lane_state.specs.Changes.{KeepsState, with_written}
 use Rattle.lane_state.specs.Ideal.{given, ideal_of}
 use Rattle.lane_state.specs.Wire.{wire_of}
 
--- The answer and the holdings are those of this step of the ideal driver, and the bytes become what `wired` says. If
--- memory runs out, the ideal state and all bytes are unchanged. The script, the memories and the agenda always are.
-pub record IsStep (step : LaneState → Asking Outcome) (wired : LaneState → Wire → Wire) (h k : Holdings)
+-- A step that makes no call: the answer and the ideal state are those of `step` of the ideal driver, and the bytes are
+-- those of `wire_after`. If memory runs out, the ideal state and all bytes are unchanged. The script, the memories and
+-- the agenda are unchanged in any case.
+pub record IsLocalStep (step : LaneState → Asking Outcome) (wire_after : LaneState → Wire → Wire) (h k : Holdings)
     (r : Result Answer AllocError) : Type 0 where
   pub done : IfOk r (λ answer. Gives (given k answer) ≡ step (ideal_of h))
-  pub wire : IfOk r (λ answer. wire_of k ≡ wired (ideal_of h) (wire_of h))
+  pub wire : IfOk r (λ answer. wire_of k ≡ wire_after (ideal_of h) (wire_of h))
   pub err : OnErr r (KeepsState h k)
   pub script : k.script ≡ h.script
   pub memories : k.memories ≡ h.memories
   pub agenda : k.agenda ≡ h.agenda
 
--- A step that only reads: the answer is this step's of the ideal driver, and the bytes that it has are those at these
--- addresses. The ideal state, all bytes, the script, the memories and the agenda are unchanged in any case.
+-- A step that makes no call and only reads: the answer is that of `step` of the ideal driver, and its bytes are those
+-- at these addresses. The ideal state, all bytes, the script, the memories and the agenda are unchanged in any case.
 pub record IsReading (step : LaneState → Asking Outcome) (addresses : List ℕ) (h k : Holdings)
     (r : Result Answer AllocError) : Type 0 where
   pub done : IfOk r (λ answer. Gives (given k answer) ≡ step (ideal_of h))

@@ -27,7 +27,7 @@ ghost use Rattle.lane_state.specs.Held.{device_view};
 ghost use Rattle.lane_state.specs.Kept.{device_in};
 ghost use Rattle.lane_state.specs.PagesLent.{IsRangeReached, IsRepaged};
 ghost use Rattle.lane_access.specs.Raw.{IsInFrame};
-ghost use Rattle.lane_access.specs.Steps.{IsReading, IsStep, own_write};
+ghost use Rattle.lane_access.specs.Steps.{IsReading, IsLocalStep, own_write};
 ghost use Rattle.lane_state.specs.Ideal.{given, ideal_of};
 ghost use Rattle.lane_state.specs.Wire.{IsWired, wire_of};
 
@@ -78,7 +78,7 @@ pub fn cpu_write(
     bytes: &[u8],
 ) -> Result<Answer, AllocError>
     requires { IsWired holdings.old }
-    ensures { IsStep (accesses.cpu_write place bytes.now) (wires.wire_cpu_write place bytes.now)
+    ensures { IsLocalStep (accesses.cpu_write place bytes.now) (wires.wire_cpu_write place bytes.now)
         holdings.old holdings.new result }
 {
     let Some(va) = holdings.virtual_at(place) else {
@@ -108,7 +108,7 @@ pub(crate) fn write_own(
     requires len { length (addresses parts.now) ≡ length bytes.now }
     requires faithful { IsFaithful (with_written (addresses parts.now) bytes.now (ideal_of holdings.old))
         (put (addresses parts.now) bytes.now (wire_of holdings.old)) }
-    ensures { IsStep (own_write (addresses parts.now) bytes.now) (λ l w. put (addresses parts.now) bytes.now w)
+    ensures { IsLocalStep (own_write (addresses parts.now) bytes.now) (λ l w. put (addresses parts.now) bytes.now w)
         holdings.old holdings.new result }
 {
     let extents = u32::try_from(parts.len()).map_err(|_| AllocError)?;
@@ -216,7 +216,7 @@ pub fn dev_write(
 ) -> Result<Answer, AllocError>
     requires wired { IsWired holdings.old }
     requires stands { Stands (ideal_of holdings.old) }
-    ensures { IsStep (accesses.dev_write map off bytes.now) (wires.wire_dev_write map off bytes.now)
+    ensures { IsLocalStep (accesses.dev_write map off bytes.now) (wires.wire_dev_write map off bytes.now)
         holdings.old holdings.new result }
 {
     let len = bytes.len() as u64;

@@ -15,7 +15,7 @@ ghost use Rattle.ideal_lane.specs.Standing.{Stands};
 ghost use Rattle.ideal_wire.specs.WireStep as wires;
 ghost use Rattle.lane_access.specs.Raw.{AreShortOf, IsFoundIn, IsInFrame, IsStanding, refusal_of, lent_refusal};
 ghost use Rattle.lane_access.specs.Raw.{last_of, later, position_at, unlent_of};
-ghost use Rattle.lane_access.specs.Steps.{IsReading, IsStep};
+ghost use Rattle.lane_access.specs.Steps.{IsReading, IsLocalStep};
 ghost use Rattle.lane_state.specs.Ideal.{ideal_of};
 ghost use Rattle.lane_state.specs.Wire.{IsWired};
 
@@ -170,7 +170,7 @@ pub fn dev_write_at(
 ) -> Result<Answer, AllocError>
     requires wired { IsWired holdings.old }
     requires stands { Stands (ideal_of holdings.old) }
-    ensures { IsStep (accesses.dev_write_at tag addr bytes.now) (wires.wire_dev_write_at tag addr bytes.now)
+    ensures { IsLocalStep (accesses.dev_write_at tag addr bytes.now) (wires.wire_dev_write_at tag addr bytes.now)
         holdings.old holdings.new result }
 {
     let len = bytes.len() as u64;

@@ -23,7 +23,7 @@ ghost use Rattle.lane_state.specs.Held.{device_view};
 ghost use Rattle.lane_state.specs.Kept.{device_in, kept_share as share_of};
 ghost use Rattle.lane_state.specs.PagesLent.{IsBounced, IsRepaged};
 ghost use Rattle.lane_access.specs.Shares.{share_place};
-ghost use Rattle.lane_access.specs.Steps.{IsStep, part_sync, wire_part_sync};
+ghost use Rattle.lane_access.specs.Steps.{IsLocalStep, part_sync, wire_part_sync};
 ghost use Rattle.lane_state.specs.Wire.{IsWired};
 
 use crate::accesses::{past_end, reserve_extents, unloaded};
@@ -49,7 +49,7 @@ pub fn sync(
     ops: SyncOps,
 ) -> Result<Answer, AllocError>
     requires { IsWired holdings.old }
-    ensures { IsStep (syncs.sync map ops.0) (wires.wire_sync map ops.0) holdings.old holdings.new result }
+    ensures { IsLocalStep (syncs.sync map ops.0) (wires.wire_sync map ops.0) holdings.old holdings.new result }
 {
     if let Some(refusal) = unloaded(holdings, map) {
         return Ok(Answer::Report(refusal));
@@ -73,7 +73,7 @@ pub fn sync_range(
     ops: SyncOps,
 ) -> Result<Answer, AllocError>
     requires { IsWired holdings.old }
-    ensures { IsStep (syncs.sync_range map off len ops.0) (wires.wire_sync_range map off len ops.0)
+    ensures { IsLocalStep (syncs.sync_range map off len ops.0) (wires.wire_sync_range map off len ops.0)
         holdings.old holdings.new result }
 {
     if let Some(refusal) = unloaded(holdings, map) {
@@ -98,7 +98,7 @@ fn sync_part(
     requires loaded { has_load (get holdings.old.maps.map map) ≡ true }
     requires range { off + len ≤ length (buffer_of holdings.old.loans map) }
     requires below { off + len < 2 ^ 64 }
-    ensures { IsStep (part_sync map off len ops.0) (wire_part_sync map off len ops.0)
+    ensures { IsLocalStep (part_sync map off len ops.0) (wire_part_sync map off len ops.0)
         holdings.old holdings.new result }
 {
     if ops.is_mixed() {

@@ -50,7 +50,7 @@ use Rattle.lane_state.specs.Kept.{device_in, map_of, memory_of, kept_ring}
 use Rattle.lane_state.specs.Wire.{IsWired, wire_of}
 use Rattle.lane_state.proofs.Devices.{bytes-long, is-reached}
 use Rattle.lane_state.proofs.MapValues.{image-none, image-some}
-use Rattle.lane_access.specs.Steps.{IsStep}
+use Rattle.lane_access.specs.Steps.{IsLocalStep}
 use Rattle.lane_access.proofs.Steps.{idle-step, same-step}
 use Rattle.lane_rings.specs.declared.posts.Posting.{Posting}
 use Rattle.lane_rings.specs.Ringing.{IsPosted, IsUnposted, post_step, post_wire}
@@ -68,7 +68,7 @@ module _ (h : Holdings) (k : ℕ) (p : Posting) where
 
   -- the post leaves all holdings and has this answer
   abbrev Stays : Answer → Type 0
-  Stays a = IsStep (post_step k p) (post_wire k p) h h (Ok a)
+  Stays a = IsLocalStep (post_step k p) (post_wire k p) h h (Ok a)
 
   -- what follows after the ring, and then its memory, is found
   abbrev behind : LaneRing → LaneMap → Asking Outcome
@@ -197,8 +197,8 @@ module _ (h : Holdings) (k : ℕ) (p : Posting) where
             -- the driver writes the descriptor
             pub post-written : (vs : List ℕ) → vs ≡ descriptor_bytes d → (n : Holdings)
                 (v : Result Answer AllocError) →
-                IsStep (cpu_write (slot_place r p.slot) vs) (wires.wire_cpu_write (slot_place r p.slot) vs) h n v →
-                IsStep (post_step k p) (post_wire k p) h n v
+                IsLocalStep (cpu_write (slot_place r p.slot) vs) (wires.wire_cpu_write (slot_place r p.slot) vs) h n v →
+                IsLocalStep (post_step k p) (post_wire k p) h n v
             post-written vs told n v =
                 same-step (cpu_write (slot_place r p.slot) vs) (post_step k p)
                 (wires.wire_cpu_write (slot_place r p.slot) vs) (post_wire k p) h n v

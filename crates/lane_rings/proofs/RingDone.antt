@@ -38,7 +38,7 @@ use Rattle.lane_state.proofs.MapValues.{get-map_values, image-none, image-some}
 use Rattle.lane_rings.specs.declared.rings.Candidate.{Candidate}
 use Rattle.lane_rings.specs.declared.rings.Work.TheVariants as work
 use Rattle.lane_rings.specs.Ringing.{IsChanged, IsReadable, IsUnread, candidate_of, retired_wire, use_step, work_of}
-use Rattle.lane_access.specs.Steps.{IsStep}
+use Rattle.lane_access.specs.Steps.{IsLocalStep}
 use Rattle.lane_access.proofs.DeviceReads.{not-there}
 use Rattle.lane_access.proofs.Steps.{done-step, idle-step}
 use Rattle.lane_rings.proofs.HeadBytes.{coherent-load, framed, reads, whole}
@@ -66,7 +66,7 @@ module _ (h : Holdings) (k : ℕ) where
 
   -- the step leaves all holdings and has this answer
   abbrev Stays : Answer → Type 0
-  Stays a = IsStep (ring_step k) (wires.wire_ring_step k) h h (Ok a)
+  Stays a = IsLocalStep (ring_step k) (wires.wire_ring_step k) h h (Ok a)
 
   -- a step that does nothing changes no byte
   undone : (a b : Answer) → a ≡ b → ((after w : Wire) → if_fetched b after w ≡ w) → gives l b ≡ ring_step k l → Stays a
@@ -175,7 +175,7 @@ module _ (h : Holdings) (k : ℕ) where
 
             module _ (c : Candidate) (found : work.At c ≡ work_of d l (candidates_in d q.mem l (entries l.maps)))
                 (h1 : Holdings) (a : Answer)
-                (first : IsStep (use_step d c) (used_wire d (candidate_of c)) h h1 (Ok a)) where
+                (first : IsLocalStep (use_step d c) (used_wire d (candidate_of c)) h h1 (Ok a)) where
               abbrev at : rings.Candidate
               at = candidate_of c
 
@@ -238,7 +238,7 @@ module _ (h : Holdings) (k : ℕ) where
                       (wire_of h)) ideal-ring)
 
                   -- the access is done, the descriptor is retired, and the head has moved on
-                  pub all-done : IsStep (ring_step k) (wires.wire_ring_step k) h h3 (Ok a)
+                  pub all-done : IsLocalStep (ring_step k) (wires.wire_ring_step k) h h3 (Ok a)
                   all-done =
                       done-step
                       ((λ i. gives ((third.done ∙ ap (moved_on k r) (second.done ∙ ap (retired r) used-lane)) i)

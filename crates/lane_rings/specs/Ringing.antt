@@ -90,9 +90,10 @@ abbrev pub retired_wire : LaneRing → LaneState → Wire → Wire
 retired_wire r l w = put (wires.load_buses l r.mem (rings.head_at r + 14) 2) (0 ∷ 1 ∷ []) w
 
 -- the ideal state and the bytes become what these two say, and the script, the memories and the agenda are unchanged
-pub record IsChanged (to : LaneState → LaneState) (wired : LaneState → Wire → Wire) (h k : Holdings) : Type 0 where
-  pub done : ideal_of k ≡ to (ideal_of h)
-  pub wire : wire_of k ≡ wired (ideal_of h) (wire_of h)
+pub record IsChanged (lane_after : LaneState → LaneState) (wire_after : LaneState → Wire → Wire) (h k : Holdings) :
+    Type 0 where
+  pub done : ideal_of k ≡ lane_after (ideal_of h)
+  pub wire : wire_of k ≡ wire_after (ideal_of h) (wire_of h)
   pub script : k.script ≡ h.script
   pub memories : k.memories ≡ h.memories
   pub agenda : k.agenda ≡ h.agenda
@@ -120,9 +121,9 @@ IsUnposted l r p = (o : LaneMap) → get l.maps p.map ≡ Some o → may_post r 
 
 -- What is kicked
 
--- A ring is kicked for these steps, with the ideal driver's answer. Its steps take places of the transfer queue that
--- were free, and no byte changes. If memory runs out, the ideal state and the agenda are unchanged. The script, the
--- memories and the promised places always are.
+-- A ring is kicked for these steps: the answer and the ideal state are the ideal driver's, and the items take free
+-- places of the transfer queue. If memory runs out, the ideal state and the agenda are unchanged. All bytes, the script,
+-- the memories and the promised places of the return queue are unchanged in any case.
 pub record IsKicked (ring : ℕ) (steps : List Item) (h k : Holdings) (r : Result Answer AllocError) : Type 0 where
   pub done : IfOk r (λ answer. Gives (given k answer) ≡ rings.kick ring steps (ideal_of h))
   pub bytes : KeepsBytes h k

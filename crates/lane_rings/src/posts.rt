@@ -7,7 +7,7 @@ ghost use Rattle.lane_state.specs.Covered.{has_load};
 ghost use Rattle.lane_state.specs.Ideal.{ideal_of};
 ghost use Rattle.lane_state.specs.Kept.{kept_ring};
 ghost use Rattle.lane_state.specs.Wire.{IsWired};
-ghost use Rattle.lane_access.specs.Steps.{IsStep};
+ghost use Rattle.lane_access.specs.Steps.{IsLocalStep};
 ghost use Rattle.lane_rings.specs.Ringing.{IsKicked, IsPosted, IsUnposted, post_step, post_wire};
 
 use busdma_base::{Answer, Errno, ItemList, Place, ReportName};
@@ -45,7 +45,7 @@ pub fn post(
     posting: Posting,
 ) -> Result<Answer, AllocError>
     requires { IsWired holdings.old }
-    ensures { IsStep (post_step ring posting) (post_wire ring posting) holdings.old holdings.new result }
+    ensures { IsLocalStep (post_step ring posting) (post_wire ring posting) holdings.old holdings.new result }
 {
     let Some(kept) = holdings.rings.get(ring) else {
         return Ok(report(ReportName::Absent, 0));

@@ -18,7 +18,7 @@ ghost use Rattle.lane_state.specs.Covered.{has_load};
 ghost use Rattle.lane_state.specs.Ideal.{ideal_of};
 ghost use Rattle.lane_state.specs.Kept.{map_of, kept_ring};
 ghost use Rattle.lane_state.specs.Wire.{IsWired};
-ghost use Rattle.lane_access.specs.Steps.{IsStep};
+ghost use Rattle.lane_access.specs.Steps.{IsLocalStep};
 ghost use Rattle.lane_rings.specs.Ringing.{IfAt, IsAllowedAt, IsChanged, IsReadable, IsUnread, candidate_in};
 ghost use Rattle.lane_rings.specs.Ringing.{candidate_of, retired_wire, use_step, work_of};
 
@@ -61,7 +61,7 @@ pub fn ring_step(
 ) -> Result<Answer, AllocError>
     requires wired { IsWired holdings.old }
     requires stands { Stands (ideal_of holdings.old) }
-    ensures { IsStep (rings.ring_step ring) (wires.wire_ring_step ring) holdings.old holdings.new result }
+    ensures { IsLocalStep (rings.ring_step ring) (wires.wire_ring_step ring) holdings.old holdings.new result }
 {
     let Some(kept) = holdings.rings.get(ring) else {
         return Ok(report(ReportName::Absent, 0));
@@ -214,7 +214,7 @@ fn access(
     requires wired { IsWired holdings.old }
     requires stands { Stands (ideal_of holdings.old) }
     requires allowed { IsAllowedAt (ideal_of holdings.old) descriptor candidate }
-    ensures step { IsStep (use_step descriptor candidate) (used_wire descriptor (candidate_of candidate))
+    ensures step { IsLocalStep (use_step descriptor candidate) (used_wire descriptor (candidate_of candidate))
         holdings.old holdings.new result }
     ensures wired { IfOk result (λ answer. IsWired holdings.new) }
 {

@@ -42,7 +42,7 @@ use Rattle.lane_state.proofs.Doors.{done-gives, unasked}
 use Rattle.lane_state.proofs.Keeping.{bytes-same, idle-there}
 use Rattle.lane_state.proofs.MapTables.{maps-of}
 use Rattle.lane_state.proofs.MapValues.{get-map_values}
-use Rattle.lane_sends.specs.Resends.{AreItsBytes, IsResent, IsStopped, IsUnrefused, KeepsButRoom}
+use Rattle.lane_sends.specs.Resends.{AreItsBytes, IsResent, IsStopped, IsUnrefused, KeepsForResend}
 use Rattle.lane_sends.proofs.CopiedClusters.{held-behind, held-copied, marks}
 use Rattle.lane_sends.proofs.LoadEndings.{IsAfterLoad, load-leaves}
 use Rattle.lane_loads.proofs.Loaded.{none-loaned}
@@ -193,7 +193,7 @@ unmade-resend s h d r failed =
     failed-resend s h h d d r failed (record { ideal = refl; bytes = bytes-same h }) refl (inl refl) refl refl
 
 -- room for marks, and what follows it
-module _ (h r : Holdings) (room : KeepsButRoom h r) where
+module _ (h r : Holdings) (room : KeepsForResend h r) where
   pub state-from : (k : Holdings) → KeepsState r k → KeepsState h k
   state-from k state = record {
     ideal = state.ideal ∙ room.ideal;

@@ -64,8 +64,8 @@ pub record AreItsExtents (h : Holdings) (s : Send) (from to : List Extent) : Typ
   pub to_total : byte_count to ≤ 2 ^ 20
   pub bytes : AreItsBytes (ideal_of h) s from to
 
--- the driver has room to mark the bytes of some extents; beside it, what a resend works on is unchanged
-pub record KeepsButRoom (h k : Holdings) : Type 0 where
+-- what a resend works on is unchanged, whatever room its tables have
+pub record KeepsForResend (h k : Holdings) : Type 0 where
   pub ideal : ideal_of k ≡ ideal_of h
   pub maps : k.maps ≡ h.maps
   pub memory : k.memory ≡ h.memory
@@ -106,9 +106,10 @@ pub record MayResend (s : Send) (h : Holdings) (d : Seen) : Type 0 where
   pub few_pages : h.agenda.promised + span_bytes s.chain < 2 ^ 32
   pub allowed : IsAllowedBy d h.id.0 (sends.resend s (ideal_of h))
 
--- This resend is done at a door, with the ideal driver's answer and bytes. If memory runs out, the ideal state, all
--- bytes and the agenda are unchanged, and the call is not in the door's history. The memories and the place in the
--- script are unchanged in any case, and each page that is due has a promised place in the return queue.
+-- A resend at a door: the answer, the ideal state, the call and the bytes are those of the ideal driver's resend. If
+-- memory runs out, the ideal state, all bytes and the agenda are unchanged, and the call is not in the door's history.
+-- The memories and the place in the script are unchanged in any case, and the return queue promises a place for each
+-- page that comes to be due.
 pub record IsResent (s : Send) (h k : Holdings) (d e : Seen) (r : Result Answered AllocError) : Type 0 where
   pub done : IfOk r (λ a. IsDone d h.id.0 (sends.resend s (ideal_of h)) (given k a.answer) e)
   pub held : IfOk r (λ a. a.held ≡ asks (sends.resend s (ideal_of h)))

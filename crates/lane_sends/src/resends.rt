@@ -3,7 +3,7 @@
 ghost use Rattle.std.specs.Prelude.{◌≡◌, ◌≤◌, length, IfNone, IfSome, OnOk};
 ghost use Rattle.lane_state.specs.Ideal.{ideal_of};
 ghost use Rattle.lane_state.specs.Sends.{the_send};
-ghost use Rattle.lane_sends.specs.Resends.{AreCopied, AreItsExtents, IsResent, IsStopped, IsUnrefused, KeepsButRoom};
+ghost use Rattle.lane_sends.specs.Resends.{AreCopied, AreItsExtents, IsResent, IsStopped, IsUnrefused, KeepsForResend};
 ghost use Rattle.lane_sends.specs.Resends.{MayCopy, MayResend};
 
 use busdma_base::{Answer, Extent, HubDoor, Judged, Report, ReportName};
@@ -100,7 +100,7 @@ fn make_room(
     extents: &[Extent],
 ) -> Result<(), AllocError>
     ensures room { OnOk result (length extents.now ≤ holdings.new.loans.spare) }
-    ensures same { KeepsButRoom holdings.old holdings.new }
+    ensures same { KeepsForResend holdings.old holdings.new }
 {
     let parts = u32::try_from(extents.len()).map_err(|_| AllocError)?;
     holdings.loans.reserve(alloc, parts)
