@@ -1,7 +1,8 @@
 -- Which answers a read and a load have.
-use Rattle.std.proofs.Common.{◌≡◌, ℕ, ◌==◌, true, List, length, refl, sym, subst, Some}
+use Rattle.std.proofs.Common.{◌≡◌, ℕ, ◌==◌, true, List, length, refl, sym, subst, Some, None}
 use Rattle.std.specs.FinMap.{get}
 use Rattle.busdma_base.specs.declared.journals.answer.Answer.{Answer}
+use Rattle.busdma_base.specs.declared.journals.answer.Answer.TheVariants as answer
 use Rattle.busdma_base.specs.declared.scenarios.buffer.Buffer.{Buffer}
 use Rattle.busdma_base.specs.declared.scenarios.script.Item.{Item}
 use Rattle.busdma_base.specs.declared.scenarios.script.Op.TheVariants as op
@@ -11,15 +12,18 @@ use Rattle.busdma_machine.specs.declared.name.MapId.{MapId}
 use Rattle.busdma_machine.specs.declared.report.Judged.TheVariants.{Fine}
 use Rattle.busdma_machine.specs.declared.bounce.hold.HubReply.{HubReply}
 use Rattle.busdma_machine.specs.Runs.{run_of}
-use Rattle.busdma_rules.specs.Lending.Access.{cpu_read_answer, dev_read_answer, dev_write_answer}
+use Rattle.busdma_rules.specs.Lending.Access.{cpu_read_answer, cpu_write_answer, dev_read_answer, dev_write_answer}
 use Rattle.busdma_rules.specs.Lending.Loans.{loan_of}
-use Rattle.ideal_lane.specs.Accesses.{cpu_read}
+use Rattle.busdma_rules.specs.Lending.SyncEffects.{sync_answer}
+use Rattle.busdma_rules.specs.Tags.SyncOps.{is_mixed}
+use Rattle.ideal_lane.specs.Accesses.{cpu_read, cpu_write, dev_write}
 use Rattle.ideal_lane.specs.Asking.{Asking, Gives, Asks, by_reply}
 use Rattle.ideal_lane.specs.IdealMemory.{is_known}
 use Rattle.ideal_lane.specs.Loads.{asked, load, load_judged}
-use Rattle.ideal_lane.specs.Outcomes.{Outcome, is_idle}
+use Rattle.ideal_lane.specs.Outcomes.{Outcome, is_idle, load_length}
 use Rattle.ideal_lane.specs.Places.{bytes_at, first_unreached, virtual_at}
 use Rattle.ideal_lane.specs.State.{LaneState, LaneMap}
+use Rattle.ideal_lane.specs.Syncs.{sync, sync_part, sync_range}
 use Rattle.ideal_lane.specs.Turns.{bio_at, load_buffer, never_waits}
 use Rattle.ideal_lane.proofs.Effects.{Begins, Operation}
 use Rattle.ideal_lane.proofs.Refusing.{absent, busy, either, judged, past, unloaded}
@@ -27,7 +31,7 @@ use Rattle.ideal_lane.proofs.Stepping.{Answers-by, begun-answers}
 use Rattle.busdma_machine.specs.Bounce.Door.{Seen}
 use Rattle.lane_core.specs.Calls.{lane_dev_read, lane_dev_write}
 use Rattle.lane_state.specs.Served.{IsServed}
-use Rattle.bus_dma.specs.Answers.{IsLoadAnswer, IsReadAnswer}
+use Rattle.bus_dma.specs.Answers.{IsLoadAnswer, IsReadAnswer, refused_with}
 
 module _ (l : LaneState) where
   abbrev Reads : Asking Outcome → Type 0
@@ -76,6 +80,55 @@ module _ (l : LaneState) where
           busy l LoadsBy (λ r. tt) m _ (λ o there i.
           judged l LoadsBy (λ r. tt) (load_judged l m y) _ (λ fine.
           begun-answers l (begins y found o there i fine) IsLoadAnswer (λ ss. tt) (λ have need. tt) tt tt (λ long. tt)))
+
+-- ---- operations that are done, or reported
+
+abbrev pub IsDoneAnswer : Answer → Type 0
+IsDoneAnswer answer.Done = Unit {0}
+IsDoneAnswer (answer.Report report) = Unit {0}
+IsDoneAnswer _ = ⊥
+
+-- one that is not refused is done
+pub done-answer : (a : Answer) → IsDoneAnswer a → refused_with a ≡ None → a ≡ answer.Done
+done-answer answer.Done can good = refl
+done-answer (answer.Report report) can good = absurd (cc)
+done-answer (answer.Grown g) can good = absurd can
+done-answer (answer.Placed pa) can good = absurd can
+done-answer (answer.Segments segments) can good = absurd can
+done-answer (answer.InProgress have need) can good = absurd can
+done-answer (answer.Served n) can good = absurd can
+done-answer (answer.Bytes bytes) can good = absurd can
+done-answer answer.Idle can good = absurd can
+done-answer (answer.Refused errno) can good = absurd can
+
+module _ (l : LaneState) where
+  abbrev Does : Asking Outcome → Type 0
+  Does = Answers-by l IsDoneAnswer
+
+  pub write-answers : (place : Place) (vs : List ℕ) → Does (cpu_write place vs l)
+  write-answers place vs =
+      absent l Does (λ x. tt) (virtual_at l place) _ (λ va e.
+      judged l Does (λ x. tt) (first_unreached l va (length vs)) _ (λ reaches.
+      judged l Does (λ x. tt) (cpu_write_answer l.loans (bytes_at l (run_of va (length vs)))) _ (λ fine. tt)))
+
+  pub dev_write-answers : (m off : ℕ) (vs : List ℕ) → Does (dev_write m off vs l)
+  dev_write-answers m off vs =
+      unloaded l Does (λ x. tt) m _ (λ o there i.
+      past l Does (λ x. tt) m off (length vs) _
+      (judged l Does (λ x. tt) (dev_write_answer (loan_of l.loans m) off (length vs)) _ (λ fine. tt)))
+
+  part-answers : (m : ℕ) (o : LaneMap) (off len ops : ℕ) → Does (sync_part m o off len ops l)
+  part-answers m o off len ops =
+      either l Does (λ x. tt) (is_mixed ops) _ _ (λ mixed. tt) (λ one.
+      judged l Does (λ x. tt) (sync_answer l.loans m off len ops) _ (λ fine. tt))
+
+  pub sync-answers : (m ops : ℕ) → Does (sync m ops l)
+  sync-answers m ops = unloaded l Does (λ x. tt) m _ (λ o there i. part-answers m o 0 (load_length l m) ops)
+
+  pub range-answers : (m off len ops : ℕ) → Does (sync_range m off len ops l)
+  range-answers m off len ops =
+      unloaded l Does (λ x. tt) m _ (λ o there i.
+      past l Does (λ x. tt) m off len _ (part-answers m o off len ops))
 
 -- the answer by a reply
 pub answer-by : (l : LaneState) (Q : Answer → Type 0)

@@ -1,5 +1,5 @@
 -- How a call follows from its parts.
-use Rattle.std.proofs.Common.{◌≡◌, ◌⊎◌, Bool, true, false, Option, Some, None, Result, Ok, Err, IfOk, IfErr, OnErr}
+use Rattle.std.proofs.Common.{◌≡◌, ◌⊎◌, Bool, true, false, Option, Some, None, Result, Ok, Err, IfOk, IfErr, OnErr, OnOk}
 use Rattle.std.proofs.Common.{refl, sym, ap, ◌∙◌, subst, inl, inr, if◌then◌else◌}
 use Rattle.busdma_base.specs.declared.journals.answer.Answer.{Answer}
 use Rattle.busdma_base.specs.declared.scenarios.script.Op.{Op}
@@ -18,7 +18,8 @@ use Rattle.bus_dma.specs.Answers.{IsAnswer}
 use Rattle.bus_dma.specs.Calls.{IsCall, IsCallAndReturn, next_step, past}
 use Rattle.bus_dma.specs.declared.turns.Callback.{Callback}
 use Rattle.bus_dma.specs.Callbacks.{IsCallbackTaken, IsCallbackTurn}
-use Rattle.bus_dma.specs.Returns.{IsReturned}
+use Rattle.bus_dma.specs.Returns.{IsReturned, may_return}
+use Rattle.bus_dma.specs.Serving.{IsCallbackServed, IsHandedOn}
 use Rattle.bus_dma.specs.State.{hindrance, is_own_name}
 use Rattle.bus_dma.proofs.TurnLaws.{done-reply, reply-goes}
 
@@ -56,10 +57,12 @@ module _ {R : Type 0} (As : Result R DmaError → Answer → Type 0) (o : Op) (d
 pub call-performed : (o : Op) (d : Seen) (l n : LaneState) (e : Seen) (h : Option DmaError) → h ≡ None →
     (r : Result Answer DmaError) →
     IfOk r (λ a. IsDone d l.id (next_step o l) (record { lane = n; answer = a }) e) →
-    IfErr r (λ x. x ≡ OutOfMemory) → OnErr r ((n ≡ l) ⊎ (n ≡ with_next o l)) → IsCall h IsAnswer o d l r n e
-call-performed o d l n e (Some x) clear r done ran left = absurd (cc)
-call-performed o d l n e None clear (Ok a) done ran left = inl (record { answer = a; done = done; result = refl })
-call-performed o d l n e None clear (Err x) done ran left =
+    OnOk r (may_return o ≡ false → is_ready n ≡ true) → IfErr r (λ x. x ≡ OutOfMemory) →
+    OnErr r ((n ≡ l) ⊎ (n ≡ with_next o l)) → IsCall h IsAnswer o d l r n e
+call-performed o d l n e (Some x) clear r done next ran left = absurd (cc)
+call-performed o d l n e None clear (Ok a) done next ran left =
+    inl (record { answer = a; done = done; result = refl; ready = next })
+call-performed o d l n e None clear (Err x) done next ran left =
     inr (record { result = ap (λ (z : DmaError). Err z) ran; lane = left })
 
 module _ {R : Type 0} (As : Result R DmaError → Answer → Type 0) (o : Op) (d : Seen) (l n : LaneState) (e : Seen) where
@@ -79,7 +82,12 @@ module _ {R : Type 0} (As : Result R DmaError → Answer → Type 0) (o : Op) (d
       (r : Result R DmaError) → As r a → IsCall h As o d l r n e
   call-answered (Some y) a k r is = let off : Ok a ≡ Err y = k.result in absurd (cc)
   call-answered None a (inl made) r is =
-      inl (record { answer = made.answer; done = made.done; result = subst (As r) made.result is })
+      inl (record {
+        answer = made.answer;
+        done = made.done;
+        result = subst (As r) made.result is;
+        ready = made.ready;
+      })
   call-answered None a (inr ran) r is = let off : Ok a ≡ Err OutOfMemory = ran.result in absurd (cc)
 
   -- a call that gives an error gives back no page
@@ -93,17 +101,23 @@ module _ {R : Type 0} (As : Result R DmaError → Answer → Type 0) (o : Op) (d
 
   -- a call that gives its answer, and then gives pages back
   pub return-answered : (h : Option DmaError) (a : Answer) → IsCall h IsAnswer o d l (Ok a) n e →
-      (m : LaneState) (f : Seen) → IsReturned n.returns e n m f → (r : Result R DmaError) → As r a →
-      IsCallAndReturn h As o d l r m f
-  return-answered (Some y) a k m f back r is = let off : Ok a ≡ Err y = k.result in absurd (cc)
-  return-answered None a (inl made) m f back r is =
+      (m : LaneState) (f : Seen) → IsReturned n.returns e n m f → is_ready m ≡ true → (r : Result R DmaError) →
+      As r a → IsCallAndReturn h As o d l r m f
+  return-answered (Some y) a k m f back ready r is = let off : Ok a ≡ Err y = k.result in absurd (cc)
+  return-answered None a (inl made) m f back ready r is =
       inl (record {
         between = n;
         seen = e;
-        made = record { answer = made.answer; done = made.done; result = subst (As r) made.result is };
+        made = record {
+          answer = made.answer;
+          done = made.done;
+          result = subst (As r) made.result is;
+          ready = made.ready;
+        };
         returned = back;
+        ready = ready;
       })
-  return-answered None a (inr ran) m f back r is = let off : Ok a ≡ Err OutOfMemory = ran.result in absurd (cc)
+  return-answered None a (inr ran) m f back ready r is = let off : Ok a ≡ Err OutOfMemory = ran.result in absurd (cc)
 
 -- the answer of a call is one that its operation has
 pub call-answer : (o : Op) (d : Seen) (l n : LaneState) (e : Seen) (Q : Answer → Type 0) →
@@ -128,3 +142,13 @@ call-renamed As d l n e r {h} {k} {o} {p} hk op call =
 pub callback-taken : (h : Option DmaError) (d : Seen) (l : LaneState) (r : Result (Option Callback) DmaError)
     (n : LaneState) (e : Seen) → h ≡ None → IsCallbackTurn d l r n e → IsCallbackTaken h d l r n e
 callback-taken h d l r n e clear t = subst (λ h. IsCallbackTaken h d l r n e) (sym clear) t
+
+-- a callback that was taken, and then handed on, was served
+pub callback-handed : {H : Type 0} (Handles : H → Callback → Seen → LaneState → LaneState → Seen → H → Type 0)
+    (x : Option DmaError) (h k : H) (d e f : Seen) (l m n : LaneState) (callback : Option Callback)
+    (r : Result Bool DmaError) → IsCallbackTaken x d l (Ok callback) m e →
+    IsHandedOn Handles callback h e m r n f k → IsCallbackServed Handles x h d l r n f k
+callback-handed Handles None h k d e f l m n callback r taken handed =
+    record { callback = callback; between = m; seen = e; taken = taken; handed = handed }
+callback-handed Handles (Some y) h k d e f l m n callback r taken handed =
+    let off : Ok callback ≡ Err y = taken.result in absurd (cc)

@@ -1,4 +1,6 @@
 mod AnswerLaws
 mod CallLaws
+mod CallerLaws
+mod NextLaws
 mod ReturnLaws
 mod TurnLaws

@@ -120,7 +120,7 @@ module _ (l : LaneState) (o : Op) (unsent : send_of o ≡ None) where
   abbrev n : LaneState
   n = with_next o l
 
-  went-is : (y : Outcome) → went_on o l.place y ≡ advanced l.place y
+  pub went-is : (y : Outcome) → went_on o l.place y ≡ advanced l.place y
   went-is y =
       subst (λ q. (if is_kept q y.answer then kept l.place y else advanced l.place y) ≡ advanced l.place y) (sym unsent)
       refl

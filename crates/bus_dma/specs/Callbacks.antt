@@ -1,8 +1,13 @@
 -- The callback of a load that waited. After bus_dma(9)'s callbacks, which run after the bounce lock is released.
-use Rattle.std.specs.Prelude.{◌≡◌, Bool, Option, Some, None, Result, Ok, MatchOption}
+use Rattle.std.specs.Prelude.{◌≡◌, true, Bool, List, Option, Some, None, Result, Ok, Err, MatchOption}
+use Rattle.std.specs.Option.{option_map}
 use Rattle.busdma_base.specs.declared.journals.answer.Answer.{Answer}
+use Rattle.busdma_base.specs.declared.journals.answer.Answer.TheVariants as answer
 use Rattle.busdma_base.specs.declared.journals.journal.Did.{Did}
 use Rattle.busdma_base.specs.declared.journals.journal.Did.TheVariants as did
+use Rattle.busdma_machine.specs.declared.machine.address.Segment.{Segment}
+use Rattle.busdma_machine.specs.declared.name.MapId.{MapId}
+use Rattle.busdma_machine.specs.declared.report.Errno.{Errno}
 use Rattle.busdma_machine.specs.Bounce.Door.{Seen}
 use Rattle.bus_dma.specs.declared.failure.DmaError.{DmaError}
 use Rattle.bus_dma.specs.declared.turns.Callback.{Callback}
@@ -11,11 +16,30 @@ use Rattle.bus_dma.specs.Returns.{IsReturned}
 use Rattle.ideal_lane.specs.State.{LaneState}
 use Rattle.ideal_lane.specs.Turns as turns
 use Rattle.ideal_lane.specs.Turns.{callback_turn}
+use Rattle.lane_core.specs.Appending.{is_ready}
 use Rattle.lane_turns.specs.TakenTurns.{IsTurned}
+
+-- what the load came to, by the answer of its callback: its segments, or the errno that refuses it. No callback has
+-- another answer
+abbrev pub load_by : Answer → Option (Result (List Segment) Errno)
+load_by (answer.Segments segments) = Some (Ok segments)
+load_by (answer.Refused errno) = Some (Err errno)
+load_by answer.Done = None
+load_by (answer.Grown grown) = None
+load_by (answer.Placed pa) = None
+load_by (answer.InProgress have need) = None
+load_by (answer.Served n) = None
+load_by (answer.Bytes bytes) = None
+load_by answer.Idle = None
+load_by (answer.Report report) = None
+
+-- the callback of a map, whose load came to this
+abbrev pub of_map : MapId → Result (List Segment) Errno → Callback
+of_map map load = record { map = map; load = load }
 
 -- the callback that was done with this answer, if one was
 abbrev pub callback_by : Did → Answer → Option Callback
-callback_by (did.Callback map) a = Some (record { map = map; answer = a })
+callback_by (did.Callback map) a = option_map (of_map map) (load_by a)
 callback_by (did.Op place) a = None
 callback_by (did.Again place) a = None
 callback_by (did.Release map page) a = None
@@ -27,7 +51,7 @@ callback_in (turns.Stepped entry) = callback_by entry.did entry.answer
 callback_in turns.Blocked = None
 callback_in turns.Ended = None
 
--- the turn of the callbacks was taken, and then the pages that the driver is done with went back
+-- the turn of the callbacks was taken, and then the pages that the driver is done with went back, so it is ready
 pub record IsCallbackTurn (d : Seen) (l : LaneState) (r : Result (Option Callback) DmaError) (n : LaneState) (e : Seen)
     : Type 0 where
   pub turn : turns.Turn
@@ -37,6 +61,7 @@ pub record IsCallbackTurn (d : Seen) (l : LaneState) (r : Result (Option Callbac
   pub taken : IsTurned d l.id (callback_turn l) (record { lane = between; turn = turn }) held seen
   pub returned : IsReturned between.returns seen between n e
   pub result : r ≡ Ok (callback_in turn)
+  pub ready : is_ready n ≡ true
 
 -- so it is, unless something keeps the driver from it
 abbrev pub IsCallbackTaken : Option DmaError → Seen → LaneState → Result (Option Callback) DmaError → LaneState → Seen →

@@ -1,5 +1,5 @@
 -- What a call of a driver is: the step of its operation in the ideal driver. After bus_dma(9).
-use Rattle.std.specs.Prelude.{◌≡◌, ◌⊎◌, ℕ, ◌+◌, ◌≤◌, false, Option, None, Result, Err, MatchOption, IfSome}
+use Rattle.std.specs.Prelude.{◌≡◌, ◌⊎◌, ℕ, ◌+◌, ◌≤◌, true, false, Option, None, Result, Err, MatchOption, IfSome}
 use Rattle.busdma_base.specs.declared.journals.answer.Answer.{Answer}
 use Rattle.busdma_base.specs.declared.scenarios.script.Op.{Op}
 use Rattle.busdma_base.specs.Scenarios.Buffers.{HasClusters}
@@ -9,13 +9,13 @@ use Rattle.busdma_base.specs.Scenarios.Valid.{LoadsFrom}
 use Rattle.busdma_machine.specs.Bounce.Door.{Seen}
 use Rattle.bus_dma.specs.declared.failure.DmaError.{DmaError}
 use Rattle.bus_dma.specs.declared.failure.DmaError.TheVariants as error
-use Rattle.bus_dma.specs.Returns.{IsReturned}
+use Rattle.bus_dma.specs.Returns.{IsReturned, may_return}
 use Rattle.ideal_lane.specs.Asking.{Asking, goes_on}
 use Rattle.ideal_lane.specs.Outcomes.{Outcome}
 use Rattle.ideal_lane.specs.Sends.{send_of}
 use Rattle.ideal_lane.specs.State.{LaneState}
 use Rattle.ideal_lane.specs.Turns.{at_next, operation, waits}
-use Rattle.lane_core.specs.Appending.{with_next}
+use Rattle.lane_core.specs.Appending.{is_ready, with_next}
 use Rattle.lane_state.specs.Doing.{IsDone}
 use Rattle.lane_state.specs.SmallLoads.{loaded_once}
 
@@ -49,20 +49,23 @@ pub record RunsOut {R : Type 0} (o : Op) (l : LaneState) (r : Result R DmaError)
   pub result : r ≡ Err error.OutOfMemory
   pub lane : (n ≡ l) ⊎ (n ≡ with_next o l)
 
--- a call was made: the driver did its operation, and the result is what the answer is to the caller
+-- a call was made: the driver did its operation, and the result is what the answer is to the caller; the driver is ready
+-- for the next call, unless pages may have to go back first
 pub record IsPerformed {R : Type 0} (As : Result R DmaError → Answer → Type 0) (o : Op) (d : Seen) (l : LaneState)
     (r : Result R DmaError) (n : LaneState) (e : Seen) : Type 0 where
   pub answer : Answer
   pub done : IsDone d l.id (next_step o l) (record { lane = n; answer = answer }) e
   pub result : As r answer
+  pub ready : may_return o ≡ false → is_ready n ≡ true
 
--- a call was made, and then the pages that the driver is done with went back to their zones
+-- a call was made, and then the pages that the driver is done with went back to their zones, so it is ready
 pub record IsPerformedAndReturned {R : Type 0} (As : Result R DmaError → Answer → Type 0) (o : Op) (d : Seen)
     (l : LaneState) (r : Result R DmaError) (n : LaneState) (e : Seen) : Type 0 where
   pub between : LaneState
   pub seen : Seen
   pub made : IsPerformed As o d l r between seen
   pub returned : IsReturned between.returns seen between n e
+  pub ready : is_ready n ≡ true
 
 module _ {R : Type 0} where
   -- what a call is, of an operation between two times at a door: unless something keeps it from being made, it is made,

@@ -4,4 +4,5 @@ pub mod Callbacks
 pub mod Calls
 pub mod Names
 pub mod Returns
+pub mod Serving
 pub mod State

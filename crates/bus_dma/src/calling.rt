@@ -1,10 +1,10 @@
 //! How a call does its operation.
 
-ghost use Rattle.std.specs.Prelude.{◌≡◌, ◌⊎◌, true, Some, IfErr, IfOk, IsSome, OnErr, OnOk};
+ghost use Rattle.std.specs.Prelude.{◌≡◌, ◌⊎◌, true, false, Some, IfErr, IfOk, IsSome, OnErr, OnOk};
 ghost use Rattle.bus_dma.specs.declared.failure.DmaError.TheVariants.{OutOfMemory};
 ghost use Rattle.bus_dma.specs.Answers.{IsResult, IsAnswer, answer_in, refused_with, unless};
 ghost use Rattle.bus_dma.specs.Calls.{IsCall, MayPerform, next_step};
-ghost use Rattle.bus_dma.specs.Returns.{is_at_end};
+ghost use Rattle.bus_dma.specs.Returns.{is_at_end, may_return};
 ghost use Rattle.bus_dma.specs.State.{error_of, hindrance, pages_promised, state};
 ghost use Rattle.lane_core.specs.Appending.{is_ready, with_next};
 ghost use Rattle.lane_state.specs.Doing.{IsDone};
@@ -86,6 +86,7 @@ impl DmaDriver<'_> {
         ensures done { IfOk result (λ answer. IsDone (D.seen door.old) (state self.old).id
             (next_step op (state self.old)) (record { lane = state self.new; answer = answer }) (D.seen door.new)) }
         ensures ended { OnOk result (is_at_end (state self.new) ≡ true) }
+        ensures next { OnOk result (may_return op ≡ false → is_ready (state self.new) ≡ true) }
         ensures memory { IfErr result (λ error. error ≡ OutOfMemory) }
         ensures left { OnErr result
             ((state self.new ≡ state self.old) ⊎ (state self.new ≡ with_next op (state self.old))) }

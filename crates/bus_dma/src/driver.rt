@@ -2,7 +2,13 @@
 
 ghost use Rattle.std.specs.Prelude.{◌≡◌};
 ghost use Rattle.bus_dma.specs.State.{is_own_name, state};
+ghost use Rattle.ideal_lane.specs.Standing.{Stands};
 ghost use Rattle.ideal_lane.specs.State.{named};
+ghost use Rattle.ideal_wire.specs.Apart.{IsApart};
+ghost use Rattle.ideal_wire.specs.Laid.{AreLaid};
+ghost use Rattle.ideal_wire.specs.Machine.{IsInMachine};
+ghost use Rattle.ideal_wire.specs.Mapped.{AreMapped};
+ghost use Rattle.ideal_wire.specs.Spaced.{AreSpaced};
 ghost use Rattle.lane_core.specs.Appending.{is_ready};
 ghost use Rattle.lane_core.specs.LaneIdeal.{ideal};
 
@@ -48,6 +54,20 @@ impl<'s> DmaDriver<'s> {
         ensures { result ≡ named (state self.now) (state self.now).place }
     {
         self.lane.next_id()
+    }
+
+    /// States that the driver is in its machine, its loads are laid in its memory and in their bounce pages, what it
+    /// holds is apart, and the address spaces of its IOMMU tags are in order and have their loads. These are the premises
+    /// of the laws of `driver_laws` and `ideal_wire`.
+    pub fn is_in_order(&self)
+        ensures stands { ∥ Stands (state self.now) ∥₁ }
+        ensures machine { IsInMachine (state self.now) }
+        ensures laid { AreLaid (state self.now) }
+        ensures apart { IsApart (state self.now) }
+        ensures spaced { AreSpaced (state self.now) }
+        ensures mapped { ∥ AreMapped (state self.now) ∥₁ }
+    {
+        self.lane.is_faithful();
     }
 
     /// Returns whether a name is of this driver. `None` is no name of another driver.

@@ -3,7 +3,7 @@
 
 ghost use Rattle.std.specs.Prelude.{◌≡◌, true, None, IfErr, IfOk, OnErr};
 ghost use Rattle.bus_dma.specs.declared.failure.DmaError.TheVariants.{OutOfMemory};
-ghost use Rattle.bus_dma.specs.Callbacks.{IsCallbackTaken, callback_in};
+ghost use Rattle.bus_dma.specs.Callbacks.{IsCallbackTaken, callback_in, load_by};
 ghost use Rattle.bus_dma.specs.Returns.{is_at_end};
 ghost use Rattle.bus_dma.specs.State.{hindrance, state};
 ghost use Rattle.ideal_lane.specs.Turns.{callback_turn, lane_step};
@@ -14,7 +14,7 @@ ghost use Rattle.lane_turns.specs.TakenTurns.{IsTurned, answered, is_held};
 use crate::driver::DmaDriver;
 use crate::failure::DmaError;
 use crate::handles::Map;
-use busdma_base::{Answer, Did, HubDoor, JournalEntry, Side};
+use busdma_base::{Answer, Did, Errno, HubDoor, JournalEntry, SegmentList, Side};
 use lane_turns::Turn;
 
 /// The callback of a load that waited.
@@ -22,8 +22,27 @@ use lane_turns::Turn;
 pub struct Callback {
     /// The map whose load has its pages now.
     pub map: Map,
-    /// What the load came to: its segments, or `EFBIG` if they are too many.
-    pub answer: Answer,
+    /// What the load came to: its segments, bus addresses and lengths in the order of the buffer's bytes, or `EFBIG` if
+    /// they are too many. bus_dma(9) gives its callback both.
+    pub load: Result<SegmentList, Errno>,
+}
+
+/// What a load came to, by the answer of its callback. No callback has another answer.
+fn load_of(answer: Answer) -> Option<Result<SegmentList, Errno>>
+    ensures { load_by answer ≡ result }
+{
+    match answer {
+        Answer::Segments(segments) => Some(Ok(segments)),
+        Answer::Refused(errno) => Some(Err(errno)),
+        Answer::Done
+        | Answer::Grown(_)
+        | Answer::Placed(_)
+        | Answer::InProgress { .. }
+        | Answer::Served(_)
+        | Answer::Bytes(_)
+        | Answer::Idle
+        | Answer::Report(_) => None,
+    }
 }
 
 /// The callback that a turn took, if it took one.
@@ -38,10 +57,13 @@ fn callback_of(turn: Turn) -> Option<Callback>
                 answer,
             } = entry;
             match did {
-                Did::Callback { map } => Some(Callback {
-                    map: Map::named(map),
-                    answer,
-                }),
+                Did::Callback { map } => match load_of(answer) {
+                    Some(load) => Some(Callback {
+                        map: Map::named(map),
+                        load,
+                    }),
+                    None => None,
+                },
                 Did::Op(_) | Did::Again(_) | Did::Release { .. } | Did::Item { .. } => None,
             }
         }

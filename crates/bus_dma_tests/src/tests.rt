@@ -1,6 +1,8 @@
 //! Drivers in code, over machines that are read from a text without a script. The answers were worked out by hand.
 
 mod calls;
+mod callbacks;
 mod opened;
+mod other_loads;
 mod refusals;
 mod wanted;

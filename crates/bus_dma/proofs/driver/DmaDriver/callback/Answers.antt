@@ -16,5 +16,6 @@ returns-clause-taken g c =
       seen = g.D.HubDoor.seen c.take_callback-turn.new.door;
       taken = c.take_callback-turn.ensures.taken;
       returned = c.give_back.ensures.returned;
+      ready = c.give_back.ensures.ready;
       result = ap (λ x. Ok x) (sym c.callback_of.ensures);
     })

@@ -45,4 +45,4 @@ returns-clause-call g c =
     subst (λ h. IsCallAndReturn h IsLoadResult (Load map.made_at x c.args.flags.0 []) d l c.loaded.result m f)
     (sym free)
     (return-answered IsLoadResult (Load map.made_at x c.args.flags.0 []) d l n e (hindrance (Some map) l)
-    c.in_ok-answer.answer call m f c.give_back.ensures.returned c.loaded.result c.loaded.ensures)
+    c.in_ok-answer.answer call m f c.give_back.ensures.returned c.give_back.ensures.ready c.loaded.result c.loaded.ensures)

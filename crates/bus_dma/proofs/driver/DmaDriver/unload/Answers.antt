@@ -15,4 +15,4 @@ returns-clause-call g c =
     (ap (λ q. Unload q.made_at) c.id.ensures) c.in_ok-answer.ensures.call in
     return-answered (IsResult tt) (Unload c.args.map.made_at) d l n e (hindrance (Some c.args.map) l)
     c.in_ok-answer.answer call (state c.give_back.new.self) (g.D.HubDoor.seen c.give_back.new.door)
-    c.give_back.ensures.returned c.unless_refused.result c.unless_refused.ensures
+    c.give_back.ensures.returned c.give_back.ensures.ready c.unless_refused.result c.unless_refused.ensures
