@@ -21,17 +21,17 @@ use Rattle.lane_turns.specs.TakenTurns.{IsTurned}
 
 -- what the load came to, by the answer of its callback: its segments, or the errno that refuses it. No callback has
 -- another answer
-abbrev pub load_by : Answer → Option (Result (List Segment) Errno)
-load_by (answer.Segments segments) = Some (Ok segments)
-load_by (answer.Refused errno) = Some (Err errno)
-load_by answer.Done = None
-load_by (answer.Grown grown) = None
-load_by (answer.Placed pa) = None
-load_by (answer.InProgress have need) = None
-load_by (answer.Served n) = None
-load_by (answer.Bytes bytes) = None
-load_by answer.Idle = None
-load_by (answer.Report report) = None
+abbrev pub load_called : Answer → Option (Result (List Segment) Errno)
+load_called (answer.Segments segments) = Some (Ok segments)
+load_called (answer.Refused errno) = Some (Err errno)
+load_called answer.Done = None
+load_called (answer.Grown grown) = None
+load_called (answer.Placed pa) = None
+load_called (answer.InProgress have need) = None
+load_called (answer.Served n) = None
+load_called (answer.Bytes bytes) = None
+load_called answer.Idle = None
+load_called (answer.Report report) = None
 
 -- the callback of a map, whose load came to this
 abbrev pub of_map : MapId → Result (List Segment) Errno → Callback
@@ -39,7 +39,7 @@ of_map map load = record { map = map; load = load }
 
 -- the callback that was done with this answer, if one was
 abbrev pub callback_by : Did → Answer → Option Callback
-callback_by (did.Callback map) a = option_map (of_map map) (load_by a)
+callback_by (did.Callback map) a = option_map (of_map map) (load_called a)
 callback_by (did.Op place) a = None
 callback_by (did.Again place) a = None
 callback_by (did.Release map page) a = None

@@ -3,7 +3,7 @@
 
 ghost use Rattle.std.specs.Prelude.{◌≡◌, true, None, IfErr, IfOk, OnErr};
 ghost use Rattle.bus_dma.specs.declared.failure.DmaError.TheVariants.{OutOfMemory};
-ghost use Rattle.bus_dma.specs.Callbacks.{IsCallbackTaken, callback_in, load_by};
+ghost use Rattle.bus_dma.specs.Callbacks.{IsCallbackTaken, callback_in, load_called};
 ghost use Rattle.bus_dma.specs.Returns.{is_at_end};
 ghost use Rattle.bus_dma.specs.State.{hindrance, state};
 ghost use Rattle.ideal_lane.specs.Turns.{callback_turn, lane_step};
@@ -29,7 +29,7 @@ pub struct Callback {
 
 /// What a load came to, by the answer of its callback. No callback has another answer.
 fn load_of(answer: Answer) -> Option<Result<SegmentList, Errno>>
-    ensures { load_by answer ≡ result }
+    ensures { load_called answer ≡ result }
 {
     match answer {
         Answer::Segments(segments) => Some(Ok(segments)),

@@ -72,7 +72,14 @@ fn transfer(alloc: Global) -> Result<Option<ByteList>, DmaError> {
     };
     let tag = driver.tag_create(&mut hub, None, LIMITS)?;
     let map = driver.map_create(&mut hub, tag)?;
-    let read = send(&mut driver, &mut hub, alloc, map, Place::At(Va(0x1000)), b"hello")?;
+    let read = send(
+        &mut driver,
+        &mut hub,
+        alloc,
+        map,
+        Place::At(Va(0x1000)),
+        b"hello",
+    )?;
     Ok(Some(read))
 }
 

@@ -54,7 +54,10 @@ fn wait(
     let short = driver.load(hub, second, PAGE, 4, LoadFlags::NOWAIT);
     assert!(rt; short.err() == Some(DmaError::Errno(Errno::ENOMEM)));
     let load = driver.load(hub, second, PAGE, 4, LoadFlags(0))?;
-    assert!(rt; matches!(load, Load::InProgress { have: 0, need: 1 }), "{load:?}");
+    assert!(rt;
+        matches!(load, Load::InProgress { have: 0, need: 1 }),
+        "{load:?}"
+    );
     Ok(())
 }
 
@@ -81,6 +84,7 @@ fn a_load_waits(rt: HostRuntime) -> Result<(), Fail> {
 }
 
 /// Counts callbacks.
+#[derive(Drop)]
 struct Count {
     callbacks: u64,
 }
