@@ -62,6 +62,15 @@ fn open<'s>(
 }
 
 /// Makes a tag and a map, and sends five bytes. Returns what the device read.
+fn work(alloc: Global, driver: &mut DmaDriver<'_>, hub: &mut Hub) -> Result<ByteList, DmaError>
+    requires { IsServed (state driver.old) (door hub.old) }
+{
+    let tag = driver.tag_create(hub, None, LIMITS)?;
+    let map = driver.map_create(hub, tag)?;
+    send(driver, hub, alloc, map, Place::At(Va(0x1000)), b"hello")
+}
+
+/// Opens the machine, and has its driver work. Returns what the device read, or `None` if there is no driver.
 fn transfer(alloc: Global) -> Result<Option<ByteList>, DmaError> {
     let Some(machine) = machine(alloc)? else {
         return Ok(None);
@@ -70,17 +79,7 @@ fn transfer(alloc: Global) -> Result<Option<ByteList>, DmaError> {
     let Some((mut driver, mut hub)) = open(alloc, &arena, &machine)? else {
         return Ok(None);
     };
-    let tag = driver.tag_create(&mut hub, None, LIMITS)?;
-    let map = driver.map_create(&mut hub, tag)?;
-    let read = send(
-        &mut driver,
-        &mut hub,
-        alloc,
-        map,
-        Place::At(Va(0x1000)),
-        b"hello",
-    )?;
-    Ok(Some(read))
+    Ok(Some(work(alloc, &mut driver, &mut hub)?))
 }
 
 fn main(rt: HostRuntime) -> io::Result<()> {
