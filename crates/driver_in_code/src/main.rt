@@ -55,10 +55,10 @@ fn open<'s>(
     ensures { IfOk result (λ parts. IfSome parts (λ parts. IsServed (state parts.0) (door parts.1))) }
 {
     let (mut lanes, hub) = World::new(alloc, machine)?.into_parts();
-    match lanes.pop() {
-        Some(lane) => Ok(Some((DmaDriver::new(alloc, arena, lane), hub))),
-        None => Ok(None),
-    }
+    let Some(lane) = lanes.pop() else {
+        return Ok(None);
+    };
+    Ok(Some((DmaDriver::new(alloc, arena, lane), hub)))
 }
 
 /// Makes a tag and a map, and sends five bytes. Returns what the device read.

@@ -1,5 +1,5 @@
 use Rattle.std.proofs.Common.{◌≡◌, ◌∙◌, None, Some, [], length, refl, subst, true}
-use Rattle.busdma_base.specs.declared.journals.answer.Answer.TheVariants.{Bytes, Done, Segments}
+use Rattle.busdma_base.specs.declared.journals.answer.Answer.TheVariants.{Done}
 use Rattle.busdma_base.specs.declared.scenarios.buffer.Buffer.TheVariants.{Flat}
 use Rattle.busdma_base.specs.declared.scenarios.script.Bytes.TheVariants.{Listed}
 use Rattle.busdma_base.specs.declared.scenarios.script.Op.TheVariants.{CpuWrite}
