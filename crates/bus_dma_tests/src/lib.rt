@@ -1,5 +1,0 @@
-//! Tests of the calls of a driver in code.
-#![tactic(auto)]
-
-#[cfg(test)]
-mod tests;
