@@ -1,0 +1,5 @@
+//! Tests of the calls of a driver in code.
+#![tactic(auto)]
+
+#[cfg(test)]
+mod tests;
