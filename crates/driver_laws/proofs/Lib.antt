@@ -9,4 +9,5 @@ pub mod Stepping
 pub mod Syncing
 pub mod Transfers
 pub mod Unlent
+pub mod Unloaded
 pub mod Unloading

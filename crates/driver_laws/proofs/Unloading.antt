@@ -56,14 +56,14 @@ unload-contents l n m s none =
     }) (same-contents x n s.left))
 
 -- positions of which none is lent to write
-filter-out : (ps : List Position) → ((i : ℕ) (p : Position) → slice_get ps i ≡ Some p → p.to_write ≡ false) →
+pub filter-out : (ps : List Position) → ((i : ℕ) (p : Position) → slice_get ps i ≡ Some p → p.to_write ≡ false) →
     filter to_write ps ≡ []
 filter-out [] h = refl
 filter-out (p ∷ ps) h =
     ap (λ b. cond b (p ∷ filter to_write ps) (filter to_write ps)) (h 0 p refl)
     ∙ filter-out ps (λ i q at. h (suc i) q at)
 
-not-true : (b : Bool) → not b ≡ true → b ≡ false
+pub not-true : (b : Bool) → not b ≡ true → b ≡ false
 not-true true e = absurd (false≢true e)
 not-true false e = refl
 

@@ -15,11 +15,12 @@ ghost use Rattle.ideal_lane.specs.Outcomes.{gives};
 ghost use Rattle.ideal_lane.specs.State.{LaneState};
 ghost use Rattle.ideal_lane.specs.Syncs.{sync};
 ghost use Rattle.ideal_lane.specs.Turns.{load_buffer};
+ghost use Rattle.ideal_lane.specs.Unloads.{unload};
 ghost use Rattle.ideal_wire.specs.Apart.{IsApart};
 ghost use Rattle.ideal_wire.specs.Laid.{AreLaid};
 ghost use Rattle.ideal_wire.specs.Machine.{IsInMachine};
 ghost use Rattle.ideal_wire.specs.WireStep.{place_bytes};
-ghost use Rattle.driver_laws.specs.Steps.{DiffersInWork, IsStep};
+ghost use Rattle.driver_laws.specs.Steps.{DiffersInWork, IsStep, KeepsContents};
 
 /// What the device reads after PREWRITE is what the driver wrote. The driver writes bytes at a place, loads them and
 /// syncs the load with PREWRITE. Then a read of the complete load by its device is done, and answers these bytes.
@@ -49,7 +50,8 @@ pub fn devices_write_what_is_loaded()
 /// What the driver reads after POSTREAD is what its device wrote. The driver loads bytes at a place and syncs the load,
 /// with PREREAD if its map is not coherent. Its device writes the complete load, and the driver syncs the load with
 /// POSTREAD. If a read of the place is done then, it answers what the device wrote. The read is always done if the map
-/// is not that of a coherent memory.
+/// is not that of a coherent memory. A read after an unload of the map answers the same, also if pages went back after
+/// the unload.
 pub fn drivers_read_what_devices_wrote()
     ensures done { (a b c d e f : LaneState) (place : Place) (vs : List ℕ) (m flags before after : ℕ)
         (items : List Item) (segments : List Segment) → AreLaid a → IsInMachine a → IsApart a →
@@ -64,4 +66,10 @@ pub fn drivers_read_what_devices_wrote()
         IsStep (sync m before) b c Done → IsStep (dev_write m 0 vs) c d Done →
         IsStep (sync m after) d e Done → postread after ≡ true →
         IsStep (cpu_read place (length vs)) e f (Bytes bytes) → bytes ≡ vs }
+    ensures unloaded { (a b c d e f g k : LaneState) (place : Place) (vs bytes : List ℕ) (m flags before after : ℕ)
+        (items : List Item) (segments : List Segment) → AreLaid a → IsInMachine a → IsApart a →
+        IsStep (load_buffer m (Flat place (length vs)) flags items) a b (Segments segments) →
+        IsStep (sync m before) b c Done → IsStep (dev_write m 0 vs) c d Done →
+        IsStep (sync m after) d e Done → postread after ≡ true → IsStep (unload m) e f Done → KeepsContents f g →
+        IsStep (cpu_read place (length vs)) g k (Bytes bytes) → bytes ≡ vs }
 {}
