@@ -25,6 +25,7 @@ use Rattle.ideal_lane.specs.Places.{bytes_at, first_unreached, virtual_at}
 use Rattle.ideal_lane.specs.State.{LaneState, LaneMap}
 use Rattle.ideal_lane.specs.Syncs.{sync, sync_part, sync_range}
 use Rattle.ideal_lane.specs.Turns.{bio_at, load_buffer, never_waits}
+use Rattle.ideal_lane.specs.Unloads.{unload}
 use Rattle.ideal_lane.proofs.Effects.{Begins, Operation}
 use Rattle.ideal_lane.proofs.Refusing.{absent, busy, either, judged, past, unloaded}
 use Rattle.ideal_lane.proofs.Stepping.{Answers-by, begun-answers}
@@ -129,6 +130,9 @@ module _ (l : LaneState) where
   range-answers m off len ops =
       unloaded l Does (λ x. tt) m _ (λ o there i.
       past l Does (λ x. tt) m off len _ (part-answers m o off len ops))
+
+  pub unload-answers : (m : ℕ) → Does (unload m l)
+  unload-answers m = unloaded l Does (λ x. tt) m _ (λ o there i. tt)
 
 -- the answer by a reply
 pub answer-by : (l : LaneState) (Q : Answer → Type 0)

@@ -1,6 +1,7 @@
 -- Calls that returned are steps of their driver.
 use Rattle.std.proofs.Common.{◌≡◌, ℕ, ◌==◌, Bool, true, false, List, [], Option, Some, None, Result, Ok, Err}
 use Rattle.std.proofs.Common.{refl, sym, ap, ◌∙◌, subst, inl, inr, if◌then◌else◌}
+use Rattle.std.proofs.lemmas.Bool.{false≢true}
 use Rattle.busdma_base.specs.declared.journals.answer.Answer.{Answer}
 use Rattle.busdma_base.specs.declared.journals.answer.Answer.TheVariants as answer
 use Rattle.busdma_base.specs.declared.scenarios.buffer.Buffer.{Buffer}
@@ -13,16 +14,24 @@ use Rattle.busdma_machine.specs.Bounce.Door.{Seen}
 use Rattle.busdma_machine.specs.declared.bounce.hold.HubReply.{HubReply}
 use Rattle.busdma_machine.specs.declared.machine.address.Segment.{Segment}
 use Rattle.busdma_machine.specs.declared.name.MapId.{MapId}
+use Rattle.busdma_machine.specs.declared.report.Errno.{Errno}
+use Rattle.busdma_machine.specs.declared.report.ReportName.TheVariants.{Absent}
+use Rattle.bus_dma.specs.declared.driver.DmaDriver.{DmaDriver}
 use Rattle.bus_dma.specs.declared.failure.DmaError.{DmaError}
+use Rattle.bus_dma.specs.declared.failure.DmaError.TheVariants as error
 use Rattle.bus_dma.specs.declared.failure.DmaError.TheVariants.{OutOfMemory}
+use Rattle.bus_dma.specs.declared.loads.Load.{Load}
 use Rattle.bus_dma.specs.declared.loads.Load.TheVariants as load
 use Rattle.bus_dma.specs.Access.{IsAccess, IsAccessed}
 use Rattle.bus_dma.specs.Answers.{IsLoadResult, IsReadResult, IsResult, refused_with, unless}
 use Rattle.bus_dma.specs.Calls.{IsCall, IsCallAndReturn, IsPerformed, IsPerformedAndReturned, next_step, past}
 use Rattle.bus_dma.specs.Returns.{IsReturned, may_return}
+use Rattle.bus_dma.specs.State.{is_own_name, is_small, load_hindrance, state}
+use Rattle.bus_dma.specs.Unloaded.{IsUnloaded}
 use Rattle.bus_dma.proofs.AnswerLaws.{IsDoneAnswer, answer-by, done-answer, range-answers, sync-answers, write-answers}
-use Rattle.bus_dma.proofs.AnswerLaws.{dev_write-answers}
+use Rattle.bus_dma.proofs.AnswerLaws.{dev_write-answers, unload-answers}
 use Rattle.bus_dma.proofs.NextLaws.{segments-keep}
+use Rattle.bus_dma.proofs.ReturnLaws.{returned-keeps}
 use Rattle.bus_dma.proofs.TurnLaws.{done-reply, reply-goes}
 use Rattle.driver_laws.specs.Steps.{DiffersInWork, IsStep}
 use Rattle.driver_laws.proofs.Stepping.{call-steps}
@@ -150,6 +159,72 @@ load-step h m flags x d e l n segments ready call =
     subst (λ m. IsStep (operation o) l m (answer.Segments segments)) (sym back.0)
     (subst (IsStep (operation o) l all.between) made.result
     (performed-step o d l all.between all.seen made.answer made.done))
+
+-- ---- a load that was made, or for which memory ran out, was called on a ready driver
+
+-- errors that keep a load from being made
+abbrev keeps_load : DmaError → Bool
+keeps_load (error.Report report) = true
+keeps_load error.NotReady = true
+keeps_load error.TooLarge = true
+keeps_load _ = false
+
+module _ {R : Type 0} (As : Result R DmaError → Answer → Type 0) (o : Op) (m : MapId) (bytes : ℕ) (driver : DmaDriver)
+    (d e : Seen) (n : LaneState) where
+  begun-ready : (r : Result R DmaError) → ((x : DmaError) → keeps_load x ≡ true → r ≡ Err x → ⊥) →
+      IsCallAndReturn (load_hindrance (Some m) bytes driver) As o d (state driver) r n e →
+      is_ready (state driver) ≡ true
+  begun-ready r not-kept =
+      by (is_small bytes driver) (is_own_name (state driver) (Some m)) (is_ready (state driver))
+    where
+      by : (small own ready : Bool) → IsCallAndReturn
+          (if small then (if own then (if ready then None else Some error.NotReady)
+          else Some (error.Report (record { name = Absent; at = 0 }))) else Some error.TooLarge) As o d (state driver)
+          r n e → ready ≡ true
+      by small own true k = refl
+      by true true false k = absurd (not-kept error.NotReady refl k.result)
+      by true false false k = absurd (not-kept (error.Report (record { name = Absent; at = 0 })) refl k.result)
+      by false own false k = absurd (not-kept error.TooLarge refl k.result)
+
+  pub done-began : (x : R) → IsCallAndReturn (load_hindrance (Some m) bytes driver) As o d (state driver) (Ok x) n e →
+      is_ready (state driver) ≡ true
+  done-began x = begun-ready (Ok x) none
+    where
+      none : (y : DmaError) → keeps_load y ≡ true → Ok x ≡ Err y → ⊥
+      none y keeps is = absurd (cc)
+
+  pub failed-began : (x : DmaError) → keeps_load x ≡ false →
+      IsCallAndReturn (load_hindrance (Some m) bytes driver) As o d (state driver) (Err x) n e →
+      is_ready (state driver) ≡ true
+  failed-began x off = begun-ready (Err x) none
+    where
+      failed : DmaError → Result R DmaError
+      failed z = Err z
+
+      none : (y : DmaError) → keeps_load y ≡ true → failed x ≡ failed y → ⊥
+      none y keeps is =
+          let same : x ≡ y = cc in
+          false≢true (sym off ∙ ap keeps_load same ∙ keeps)
+
+-- ---- an unload that was done is a step, and then pages may go back
+
+pub unload-is : (h : Option DmaError) (m : ℕ) (d e : Seen) (l n : LaneState) →
+    IsCallAndReturn h (IsResult (tt {0})) (op.Unload m) d l (Ok (tt {0})) n e → IsUnloaded m l n
+unload-is h m d e l n call =
+    let o : Op = op.Unload m in
+    let all = return-made (IsResult (tt {0})) o d l (tt {0}) n e h call in
+    let made = all.made in
+    let by = done-by o d l all.between all.seen made.answer made.done in
+    let can : IsDoneAnswer made.answer =
+    subst IsDoneAnswer (sym by.answer)
+    (answer-by (with_next o l) IsDoneAnswer _ (unload-answers (with_next o l) m) by.reply) in
+    let is = done-answer made.answer can (unrefused (refused_with made.answer) made.result) in
+    record {
+      between = all.between;
+      step = subst (IsStep (operation o) l all.between) is
+          (performed-step o d l all.between all.seen made.answer made.done);
+      kept = returned-keeps all.between.returns all.seen all.between n e all.returned;
+    }
 
 -- ---- accesses of the device
 

@@ -9,6 +9,8 @@ use Rattle.busdma_machine.specs.Bounce.Door.{Seen}
 use Rattle.ideal_lane.specs.State.{LaneState, LaneMap, Stage, named}
 use Rattle.ideal_lane.specs.Turns.{Turned, lane_step, script_turn}
 use Rattle.ideal_lane.specs.Unloads.{given_back, restaged}
+use Rattle.driver_laws.specs.Steps.{KeepsContents}
+use Rattle.driver_laws.proofs.Differing.{then-keeps}
 use Rattle.lane_agreement.specs.View.{Return}
 use Rattle.lane_core.specs.Appending.{is_ready}
 use Rattle.lane_turns.specs.TakenTurns.{IsTurned}
@@ -92,3 +94,23 @@ returned-next (r ∷ rs) d e f l m n one rest =
 pub returned-none : (rs : List Return) (d : Seen) (l : LaneState) → rs ≡ [] → IsReturned rs d l l d
 returned-none [] d l e = (refl, refl)
 returned-none (r ∷ rs) d l e = absurd (cc)
+
+-- ---- pages that go back change no byte
+
+restaged-keeps : (m : ℕ) (o : Option LaneMap) (s : Stage) (l : LaneState) (rest : List Return) →
+    KeepsContents l (record (restaged m o s l) { returns = rest })
+restaged-keeps m None s l rest = record { pages = refl; mems = refl; memory = refl }
+restaged-keeps m (Some o) s l rest = record { pages = refl; mems = refl; memory = refl }
+
+pub returned-keeps : (rs : List Return) (d : Seen) (l n : LaneState) (e : Seen) → IsReturned rs d l n e →
+    KeepsContents l n
+returned-keeps [] d l n e back = record {
+  pages = ap (λ (x : LaneState). x.pages) back.0;
+  mems = ap (λ (x : LaneState). x.mems) back.0;
+  memory = ap (λ (x : LaneState). x.memory) back.0;
+}
+returned-keeps (r ∷ rest) d l n e back =
+    let m : LaneState = back.0 in
+    let released : m ≡ given_back r rest l = back.1.1.0.is in
+    then-keeps l m n (subst (KeepsContents l) (sym released) (restaged-keeps r.map (get l.maps r.map) _ l rest))
+    (returned-keeps rest back.1.0 m n e back.1.1.1)

@@ -6,3 +6,4 @@ pub mod Names
 pub mod Returns
 pub mod Serving
 pub mod State
+pub mod Unloaded

@@ -1,7 +1,7 @@
 //! Laws by which a caller goes from what a call returned to the laws of `driver_laws`. Each is the contract of a
 //! function that does nothing.
 
-ghost use Rattle.std.specs.Prelude.{◌≡◌, ℕ, [], false, true, List, None, Ok, Option, Result, Some};
+ghost use Rattle.std.specs.Prelude.{◌≡◌, ℕ, [], false, true, Err, List, None, Ok, Option, Result, Some};
 ghost use Rattle.busdma_base.specs.declared.journals.answer.Answer.{Answer};
 ghost use Rattle.busdma_base.specs.declared.journals.answer.Answer.TheVariants.{Bytes as BytesAnswer, Done};
 ghost use Rattle.busdma_base.specs.declared.journals.answer.Answer.TheVariants.{Segments};
@@ -14,13 +14,18 @@ ghost use Rattle.busdma_base.specs.Scenarios.Operations.{bytes_of};
 ghost use Rattle.busdma_machine.specs.Bounce.Door.{Seen};
 ghost use Rattle.busdma_machine.specs.declared.machine.address.Segment.{Segment};
 ghost use Rattle.busdma_machine.specs.declared.name.MapId.{MapId};
+ghost use Rattle.busdma_machine.specs.declared.report.Errno.{Errno};
+ghost use Rattle.bus_dma.specs.declared.driver.DmaDriver.{DmaDriver};
 ghost use Rattle.bus_dma.specs.declared.failure.DmaError.{DmaError};
+ghost use Rattle.bus_dma.specs.declared.failure.DmaError.TheVariants as error;
 ghost use Rattle.bus_dma.specs.declared.loads.Load.{Load};
 ghost use Rattle.bus_dma.specs.declared.loads.Load.TheVariants as load;
 ghost use Rattle.bus_dma.specs.Access.{IsAccess};
 ghost use Rattle.bus_dma.specs.Answers.{IsLoadResult, IsReadResult, IsResult};
 ghost use Rattle.bus_dma.specs.Calls.{IsCall, IsCallAndReturn};
 ghost use Rattle.bus_dma.specs.Returns.{may_return};
+ghost use Rattle.bus_dma.specs.State.{load_hindrance, state};
+ghost use Rattle.bus_dma.specs.Unloaded.{IsUnloaded};
 ghost use Rattle.driver_laws.specs.Steps.{IsStep};
 ghost use Rattle.ideal_lane.specs.Accesses.{cpu_read, cpu_write, dev_read, dev_write};
 ghost use Rattle.ideal_lane.specs.State.{LaneState};
@@ -62,6 +67,29 @@ pub fn loads_are_steps()
         (segments : List Segment) → is_ready l ≡ true →
         IsCallAndReturn h IsLoadResult (op.Load m x flags []) d l (Ok (load.Segments segments)) n e →
         IsStep (load_buffer m x flags []) l n (Segments segments) }
+{}
+
+/// A load that returned segments, or that waits, was called on a ready driver, and so was a load that was refused with
+/// an errno or that ran out of memory. After another error the driver need not have been ready: it is `NotReady` then,
+/// or the call looked first at the size of the load (`TooLarge`) and at whose the map is (`Absent`).
+pub fn loads_begin_ready()
+    ensures done { (o : Op) (m : MapId) (bytes : ℕ) (driver : DmaDriver) (d e : Seen) (n : LaneState) (x : Load) →
+        IsCallAndReturn (load_hindrance (Some m) bytes driver) IsLoadResult o d (state driver) (Ok x) n e →
+        is_ready (state driver) ≡ true }
+    ensures refused { (o : Op) (m : MapId) (bytes : ℕ) (driver : DmaDriver) (d e : Seen) (n : LaneState)
+        (errno : Errno) →
+        IsCallAndReturn (load_hindrance (Some m) bytes driver) IsLoadResult o d (state driver)
+        (Err (error.Errno errno)) n e → is_ready (state driver) ≡ true }
+    ensures memory { (o : Op) (m : MapId) (bytes : ℕ) (driver : DmaDriver) (d e : Seen) (n : LaneState) →
+        IsCallAndReturn (load_hindrance (Some m) bytes driver) IsLoadResult o d (state driver)
+        (Err error.OutOfMemory) n e → is_ready (state driver) ≡ true }
+{}
+
+/// An `unload` that returned `Ok` is a step of the ideal driver that is done. The pages that went back after it changed
+/// no byte of the driver.
+pub fn unloads_are_steps()
+    ensures { (h : Option DmaError) (m : ℕ) (d e : Seen) (l n : LaneState) →
+        IsCallAndReturn h (IsResult (tt {0})) (op.Unload m) d l (Ok (tt {0})) n e → IsUnloaded m l n }
 {}
 
 /// A call that was made leaves the driver ready for the next one: a call that returned `Ok`, and one that was refused.

@@ -21,7 +21,10 @@ mod turns;
 pub use driver::DmaDriver;
 pub use failure::DmaError;
 pub use handles::{Map, Memory, Tag};
-pub use laws::{accesses_are_steps, calls_leave_ready, loads_are_steps, syncs_are_steps};
+pub use laws::{
+    accesses_are_steps, calls_leave_ready, loads_are_steps, loads_begin_ready, syncs_are_steps,
+    unloads_are_steps,
+};
 pub use loads::Load;
 pub use serving::CallbackHandler;
 pub use turns::Callback;
